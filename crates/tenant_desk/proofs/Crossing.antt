@@ -9,9 +9,7 @@ use Rattle.logbook.proofs.word.Word.TheSendSync as word
 use Rattle.tenant_ledger.proofs.book.Book.TheSendSync as book
 use Rattle.tenant_ledger.proofs.book.draft.Draft.TheSendSync as draft
 use Rattle.trace_types.proofs.limits.Limits.TheSendSync as limits
-use Rattle.trace_types.proofs.row.Row.TheSendSync as row
 use Rattle.tree_forest.proofs.tree.Tree.TheSendSync as kept
-use Rattle.tree_forest.proofs.home.Home.TheSendSync as home
 use Rattle.tenant_ledger.proofs.Crossing.{id_tree_send, id_tree_sync, ev_tree_send, ev_tree_sync, shared_send, shared_sync}
 use Rattle.event_tree.specs.contracts.ev_tree.EvTree as EvTree
 use Rattle.id_tree.specs.contracts.IdTree as IdTree

@@ -25,7 +25,7 @@ is_for_next published event operation sound next is_event is_front =
         seeded = omega (arith, sound.seeded);
         rows = ap (λ rows. rows ++ event.row ∷ []) sound.rows;
       });
-      continues = rw is (record { of = (refl, refl, refl); begins = (event.row ∷ [], refl) });
+      continues = rw is (record { of = (refl, refl); begins = (event.row ∷ [], refl) });
     }
 
 -- and so is one without an event

@@ -11,17 +11,17 @@ use Rattle.tenant_desk.specs.declared.publishing_rule.Sight.{Sight}
 use Rattle.tenant_desk.proofs.Beginnings.{begins_with_itself, begins_through}
 
 pub continues_itself : (published : Published) → Continues published published
-continues_itself published = record { of = (refl, refl, refl); begins = begins_with_itself published.front.rows }
+continues_itself published = record { of = (refl, refl); begins = begins_with_itself published.front.rows }
 
 fits_next : (before after : Published) (known : Option Sight) → Continues before after → Fits before known → Fits after known
 fits_next before after None continues fits = tt
 fits_next before after (Some sight) continues fits = (
-  (fits.0.0 ∙ sym continues.of.0, fits.0.1 ∙ sym continues.of.1, fits.0.2 ∙ sym continues.of.2),
+  (fits.0.0 ∙ sym continues.of.0, fits.0.1 ∙ sym continues.of.1),
   begins_through sight.front.rows before.front.rows after.front.rows fits.1 continues.begins,
 )
 
 pub fits_seen : (published : Published) → Fits published (Some (sight_of published))
-fits_seen published = ((refl, refl, refl), begins_with_itself published.front.rows)
+fits_seen published = ((refl, refl), begins_with_itself published.front.rows)
 
 -- a place that knows nothing may come
 pub admits : Admits Holds None

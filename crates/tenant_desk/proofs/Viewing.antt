@@ -34,39 +34,39 @@ pub put_shorter : (seen told : List Row) (lists : List (List Row)) → IsPrefix 
 put_shorter seen told lists shorter begin = (shorter, (begins_with_itself seen, begin))
 
 -- what is known of a desk is known of its log
-pub of_log : (book : Log) (limits : Limits) (home : List ℕ) (known : Option Sight) → IsOfDesk book limits home known → IsOfLog book known
-of_log book limits home None of = absurd of
-of_log book limits home (Some sight) of = of.0
+pub of_log : (book : Log) (limits : Limits) (known : Option Sight) → IsOfDesk book limits known → IsOfLog book known
+of_log book limits None of = absurd of
+of_log book limits (Some sight) of = of.0
 
 -- what was entered is of the log of which something was known
 pub entered_log : (book : Log) (known now : Option Sight) (published : Published) → IsOfLog book known → Sees known published published now → published.front.book ≡ book
 entered_log book None now published of sees = absurd of
 entered_log book (Some sight) now published of sees = sym sees.2.0.0 ∙ of
 
--- and of the desk: the same limits, and trees that lie there
-pub entered_desk : (book : Log) (limits : Limits) (home : List ℕ) (known now : Option Sight) (published : Published) → IsOfDesk book limits home known
-    → Sees known published published now → (published.front.book ≡ book) × (published.events.limits ≡ limits) × (published.events.home ≡ home)
-entered_desk book limits home None now published of sees = absurd of
-entered_desk book limits home (Some sight) now published of sees = (sym sees.2.0.0 ∙ of.0, sym sees.2.0.1 ∙ of.1, sym sees.2.0.2 ∙ of.2)
+-- and of the desk, with the same limits
+pub entered_desk : (book : Log) (limits : Limits) (known now : Option Sight) (published : Published) → IsOfDesk book limits known
+    → Sees known published published now → (published.front.book ≡ book) × (published.events.limits ≡ limits)
+entered_desk book limits None now published of sees = absurd of
+entered_desk book limits (Some sight) now published of sees = (sym sees.2.0.0 ∙ of.0, sym sees.2.0.1 ∙ of.1)
 
 -- which is then known
 pub stays_of : (known now : Option Sight) (published : Published) → Sees known published published now → StaysOf known now
-stays_of known now published sees book limits home of =
-    subst (IsOfDesk book limits home) (sym sees.1) (entered_desk book limits home known now published of sees)
+stays_of known now published sees book limits of =
+    subst (IsOfDesk book limits) (sym sees.1) (entered_desk book limits known now published of sees)
 
-pub known_of_entered : (book : Log) (limits : Limits) (home : List ℕ) (known now : Option Sight) (published : Published) → IsOfDesk book limits home known
-    → Sees known published published now → IsOfDesk published.front.book limits home now
-known_of_entered book limits home known now published of sees =
-    let is = entered_desk book limits home known now published of sees in
-    subst (IsOfDesk published.front.book limits home) (sym sees.1) (refl, is.1, is.2)
+pub known_of_entered : (book : Log) (limits : Limits) (known now : Option Sight) (published : Published) → IsOfDesk book limits known
+    → Sees known published published now → IsOfDesk published.front.book limits now
+known_of_entered book limits known now published of sees =
+    let is = entered_desk book limits known now published of sees in
+    subst (IsOfDesk published.front.book limits) (sym sees.1) (refl, is.1)
 
 -- the answer at what was entered is one at the rows that are then seen
-pub looks_up : (old : Known) (home : List ℕ) (known now : Option Sight) (published : Published) (request : Request) (reply : Reply)
-    → IsOfDesk old.book old.limits home known → BeginWithEach old.seen old.met → HasEntered known old.seen published now
+pub looks_up : (old : Known) (known now : Option Sight) (published : Published) (request : Request) (reply : Reply)
+    → IsOfDesk old.book old.limits known → BeginWithEach old.seen old.met → HasEntered known old.seen published now
     → Answers (tenant_of published.events) request reply
     → LooksUp old request reply (record { seen = published.front.rows; met = []; limits = old.limits; book = published.front.book })
-looks_up old home known now published request reply of begin entered answered =
-    let is = entered_desk old.book old.limits home known now published of entered.sees in
+looks_up old known now published request reply of begin entered answered =
+    let is = entered_desk old.book old.limits known now published of entered.sees in
     let same : tenant_of published.events ≡ record { limits = old.limits; rows = published.front.rows } =
     λ i. record { limits = is.1 i; rows = (sym entered.sees.0.rows) i } in
     inl (
@@ -82,26 +82,26 @@ looks_up old home known now published request reply of begin entered answered =
     )
 
 -- so a view that is asked answers as it is due, where that is what it has seen afterwards
-pub responds : (old new : Known) (home : List ℕ) (known now : Option Sight) (published : Published) (request : Request) (reply : Reply)
-    → is_report request ≡ false → IsOfDesk old.book old.limits home known → BeginWithEach old.seen old.met → HasEntered known old.seen published now
+pub responds : (old new : Known) (known now : Option Sight) (published : Published) (request : Request) (reply : Reply)
+    → is_report request ≡ false → IsOfDesk old.book old.limits known → BeginWithEach old.seen old.met → HasEntered known old.seen published now
     → Answers (tenant_of published.events) request reply
     → new ≡ record { seen = published.front.rows; met = []; limits = old.limits; book = published.front.book }
     → Responds old request reply new
-responds old new home known now published request reply query of begin entered answered is =
+responds old new known now published request reply query of begin entered answered is =
     subst (λ (report : Bool). MatchBool report ((reply ≡ Refused ViewOnly) × (new ≡ old)) (LooksUp old request reply new)) (sym query)
-    (subst (λ (known : Known). LooksUp old request reply known) (sym is) (looks_up old home known now published request reply of begin entered answered))
+    (subst (λ (known : Known). LooksUp old request reply known) (sym is) (looks_up old known now published request reply of begin entered answered))
 
 -- and so does one that gives the parts of a stamp, or says why not
-pub parts_respond : (old new : Known) (home : List ℕ) (known now : Option Sight) (published : Published) (event : ℕ) (found : Result (Id × EventTree) Code)
-    → IsOfDesk old.book old.limits home known → BeginWithEach old.seen old.met → HasEntered known old.seen published now
+pub parts_respond : (old new : Known) (known now : Option Sight) (published : Published) (event : ℕ) (found : Result (Id × EventTree) Code)
+    → IsOfDesk old.book old.limits known → BeginWithEach old.seen old.met → HasEntered known old.seen published now
     → MatchResult found (λ parts. Answers (tenant_of published.events) (Stamp event) (variants.Stamp (stamp_text parts.0 parts.1)))
     (λ code. Answers (tenant_of published.events) (Stamp event) (Refused code))
     → new ≡ record { seen = published.front.rows; met = []; limits = old.limits; book = published.front.book }
     → MatchResult found (λ parts. Responds old (Stamp event) (variants.Stamp (stamp_text parts.0 parts.1)) new) (λ code. Responds old (Stamp event) (Refused code) new)
-parts_respond old new home known now published event (Ok parts) of begin entered answered is =
-    responds old new home known now published (Stamp event) (variants.Stamp (stamp_text parts.0 parts.1)) refl of begin entered answered is
-parts_respond old new home known now published event (Err code) of begin entered answered is =
-    responds old new home known now published (Stamp event) (Refused code) refl of begin entered answered is
+parts_respond old new known now published event (Ok parts) of begin entered answered is =
+    responds old new known now published (Stamp event) (variants.Stamp (stamp_text parts.0 parts.1)) refl of begin entered answered is
+parts_respond old new known now published event (Err code) of begin entered answered is =
+    responds old new known now published (Stamp event) (Refused code) refl of begin entered answered is
 
 module _ (old : Known) (reply : Reply) (new : Known) (event : ℕ)
     (are : IsTrue (are_limits old.limits.events old.limits.tasks old.limits.messages)) where

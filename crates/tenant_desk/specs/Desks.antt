@@ -1,5 +1,5 @@
 -- What a tenant's desk is.
-use Rattle.std.specs.Prelude.{List}
+use Rattle.std.specs.Prelude.{ℕ, List}
 use Rattle.trace_types.specs.tenant.Tenant.{Tenant}
 use Rattle.trace_types.specs.declared.row.Row.{Row}
 use Rattle.tenant_desk.specs.Histories.{Log}
@@ -9,3 +9,5 @@ pub record Desk : Type 0 where
   pub tenant : Tenant
   pub published : List Row
   pub book : Log
+  -- where its share keeps trees
+  pub home : List ℕ

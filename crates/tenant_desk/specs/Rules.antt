@@ -12,18 +12,18 @@ use Rattle.tenant_desk.specs.declared.publishing_rule.Sight.{Sight}
 
 -- what is known once all that is published is seen
 abbrev pub sight_of : Published → Sight
-sight_of published = record { front = published.front; limits = published.events.limits; home = published.events.home }
+sight_of published = record { front = published.front; limits = published.events.limits }
 
 -- what is known is of this desk
-abbrev pub IsOfDesk : Log → Limits → List ℕ → Option Sight → Type 0
-IsOfDesk book limits home None = ⊥
-IsOfDesk book limits home (Some sight) = (sight.front.book ≡ book) × (sight.limits ≡ limits) × (sight.home ≡ home)
+abbrev pub IsOfDesk : Log → Limits → Option Sight → Type 0
+IsOfDesk book limits None = ⊥
+IsOfDesk book limits (Some sight) = (sight.front.book ≡ book) × (sight.limits ≡ limits)
 
 -- what is published is of the desk that is known, and begins with the rows that were seen
 abbrev pub Fits : Published → Option Sight → Type 0
 Fits published None = Unit {0}
 Fits published (Some sight) =
-    IsOfDesk published.front.book published.events.limits published.events.home (Some sight) × IsPrefix sight.front.rows published.front.rows
+    IsOfDesk published.front.book published.events.limits (Some sight) × IsPrefix sight.front.rows published.front.rows
 
 -- what is kept is right, the id of `root` among it, and its rows are those of the log
 pub record IsPublished (published : Published) : Type 0 where
@@ -42,7 +42,7 @@ Sees known before after now = IsPublished after × (now ≡ Some (sight_of after
 
 -- What is published next is of the same desk, and begins with what was.
 pub record Continues (before after : Published) : Type 0 where
-  pub of : IsOfDesk before.front.book before.events.limits before.events.home (Some (sight_of after))
+  pub of : IsOfDesk before.front.book before.events.limits (Some (sight_of after))
   pub begins : IsPrefix before.front.rows after.front.rows
 
 -- what is known is of this log
@@ -52,7 +52,7 @@ IsOfLog book (Some sight) = sight.front.book ≡ book
 
 -- what is known is still of the desk of which it was
 abbrev pub StaysOf : Option Sight → Option Sight → Type 0
-StaysOf before now = (book : Log) (limits : Limits) (home : List ℕ) → IsOfDesk book limits home before → IsOfDesk book limits home now
+StaysOf before now = (book : Log) (limits : Limits) → IsOfDesk book limits before → IsOfDesk book limits now
 
 -- All that is published was entered and is seen, and it begins with these rows.
 pub record HasEntered (before : Option Sight) (rows : List Row) (published : Published) (now : Option Sight) : Type 0 where

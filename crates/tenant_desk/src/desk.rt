@@ -1,5 +1,6 @@
 //! Desks, which alone take the reports of their tenants.
 ghost use Rattle.std.specs.Prelude.{◌≡◌, [], true, false, IfOk, MatchOption};
+ghost use Rattle.std.specs.Arc.{arc_value};
 ghost use Rattle.trace_types.specs.tenant.Tenant.{AreLegal, Steps, fresh, is_report};
 ghost use Rattle.trace_types.specs.text.StampText.{stamp_text};
 
@@ -19,27 +20,21 @@ use trace_types::{Code, Limits, Memory, Name, Reply, Request};
 
 /// The desk of a tenant. It alone takes the tenant's reports, and shows the accepted ones to its [`Views`].
 ///
-/// Contracts see the tenant, the rows that are shown, and the log that has them. A desk cannot be dropped: end it by
+/// Contracts see the tenant, the rows that are shown, the log that has them, and where its trees are kept. A desk cannot be dropped: end it by
 /// [`Desk::close`].
 pub struct Desk {
-    /// What keeps the ids and the trees.
-    shared: Arc<Shared>,
     publisher: Publisher,
     /// The stack, on which the trees are walked over.
     stack: Stack,
 }
 
 impl Model for Desk {
-    ghost use Rattle.std.specs.Prelude.{◌≡◌};
-    ghost use Rattle.std.specs.Arc.{arc_value};
     ghost use Rattle.tenant_ledger.specs.Ledger.{tenant_of};
     ghost use Rattle.tenant_desk.specs.Desks.{Desk as Seen};
 
     ghost Value = { Seen };
 
-    ghost view = { λ d. record { tenant = tenant_of d.publisher.events; published = d.publisher.events.rows; book = d.publisher.front.book } };
-
-    ghost invariant = { λ d. d.publisher.events.home ≡ ⟦<Shared as Keep>⟧.home (arc_value d.shared) };
+    ghost view = { λ d. record { tenant = tenant_of d.publisher.events; published = d.publisher.events.rows; book = d.publisher.front.book; home = d.publisher.events.home } };
 }
 
 impl Desk {
@@ -54,6 +49,7 @@ impl Desk {
         ensures legal { AreLegal self.new.tenant.limits self.new.tenant.rows }
         ensures published { self.new.published ≡ self.new.tenant.rows }
         ensures book { self.new.book ≡ self.old.book }
+        ensures home { self.new.home ≡ self.old.home }
     {
         let mut reply = Reply::Refused(Code::NoMemory);
         self.call_into(rt, request, &mut reply);
@@ -67,6 +63,7 @@ impl Desk {
         ensures legal { AreLegal self.new.tenant.limits self.new.tenant.rows }
         ensures published { self.new.published ≡ self.new.tenant.rows }
         ensures book { self.new.book ≡ self.old.book }
+        ensures home { self.new.home ≡ self.old.home }
     {
         if request.reported().is_some() {
             self.report(rt, request, reply);
@@ -93,7 +90,7 @@ impl Desk {
         ensures legal { AreLegal self.now.tenant.limits self.now.tenant.rows }
         ensures published { self.now.published ≡ self.now.tenant.rows }
     {
-        answer_published(self.publisher.events(), &self.shared, true, request, reply);
+        answer_published(self.publisher.events(), true, request, reply);
     }
 
     /// Takes a report. An accepted one is published.
@@ -103,6 +100,7 @@ impl Desk {
         ensures legal { AreLegal self.new.tenant.limits self.new.tenant.rows }
         ensures published { self.new.published ≡ self.new.tenant.rows }
         ensures book { self.new.book ≡ self.old.book }
+        ensures home { self.new.home ≡ self.old.home }
     {
         self.publisher.report(rt, &mut self.stack, request, reply);
         // For the proof: it says that the rows are legal.
@@ -121,7 +119,6 @@ impl Desk {
     /// Ends the desk. It waits for views that still read. From then on its views answer every query with `NoPlace` (422).
     pub fn close<R: Wait>(self, rt: &R) {
         let Desk {
-            shared: _,
             publisher,
             stack: _,
         } = self;
@@ -132,7 +129,6 @@ impl Desk {
     /// next: to give the trees back one by one would only take time.
     pub fn close_at_exit<R: Wait>(self, rt: &R) {
         let Desk {
-            shared: _,
             publisher,
             stack: _,
         } = self;
@@ -153,6 +149,7 @@ pub fn desk_and_views<R: Wait>(
 ) -> Result<(Desk, Views), Memory>
     ensures tenant { IfOk result (λ made. made.0.tenant ≡ fresh limits) }
     ensures published { IfOk result (λ made. made.0.published ≡ []) }
+    ensures home { IfOk result (λ made. made.0.home ≡ ⟦<Shared as Keep>⟧.home (arc_value shared)) }
     ensures views { IfOk result (λ made. made.1 ≡ record { left = 8; limits = limits; book = made.0.book }) }
 {
     named_desk_and_views(rt, alloc, &Name::root(), limits, shared)
@@ -169,14 +166,14 @@ pub fn named_desk_and_views<R: Wait>(
 ) -> Result<(Desk, Views), Memory>
     ensures tenant { IfOk result (λ made. made.0.tenant ≡ fresh limits) }
     ensures published { IfOk result (λ made. made.0.published ≡ []) }
+    ensures home { IfOk result (λ made. made.0.home ≡ ⟦<Shared as Keep>⟧.home (arc_value shared)) }
     ensures views { IfOk result (λ made. made.1 ≡ record { left = 8; limits = limits; book = made.0.book }) }
     ensures log { IfOk result (λ made. made.0.book.tenant ≡ name.now) }
 {
     let mut publisher = Publisher::new(rt, alloc, name, limits, &shared)?;
-    match Views::new(alloc, limits, &shared, &mut publisher) {
+    match Views::new(alloc, limits, &mut publisher) {
         Ok(views) => {
             let desk = Desk {
-                shared,
                 publisher,
                 stack: Stack::new(),
             };

@@ -4,7 +4,7 @@ ghost use Rattle.trace_types.specs.tenant.Tenant.{Answers};
 ghost use Rattle.tenant_ledger.specs.Ledger.{IsKept, tenant_of};
 
 use crate::published::SharedBook;
-use tenant_ledger::{Keep, Own, Shared, answer};
+use tenant_ledger::answer;
 use trace_query::Plain;
 use trace_types::{Reply, Request};
 
@@ -12,17 +12,15 @@ use trace_types::{Reply, Request};
 #[inline(always)]
 pub(crate) fn answer_published(
     events: &SharedBook,
-    shared: &Shared,
     by_cache: bool,
     request: &Request,
     reply: &mut Reply,
 )
-    requires sound { IsKept events.now }
-    requires home { ⟦<Shared as Keep>⟧.home shared.now ≡ events.now.home }
+    requires { IsKept events.now }
     ensures { Answers (tenant_of events.now) request.now reply.new }
 {
     if by_cache {
-        *reply = answer(events, &Own(shared), request);
+        *reply = answer(events, events.share(), request);
     } else {
         *reply = answer(events, &Plain, request);
     }

@@ -18,7 +18,7 @@ use left_right::writer::Writer;
 use std::alloc::Global;
 use std::marker::Model;
 use std::sync::{Arc, Wait};
-use tenant_ledger::{Book, Keep, Records, Shared, Stack};
+use tenant_ledger::{Book, Keep, Shared, Stack};
 use trace_types::{Code, Limits, Memory, Name, Reply, Request};
 
 type DeskWriter = Writer<Published, Operation, Knows, Publishing>;

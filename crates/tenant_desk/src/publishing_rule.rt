@@ -5,14 +5,12 @@ use crate::row_log::Front;
 use atomic_table::{Join, Split};
 use crossbeam_utils::rule::{Outcome, Protocol};
 use trace_types::Limits;
-use tree_forest::Home;
 
 /// What a desk or a view saw of what is published: how far the rows went, and of which desk. It exists in proofs alone.
 #[derive(Drop)]
 pub(crate) struct Sight {
     pub(crate) front: Front,
     pub(crate) limits: Limits,
-    pub(crate) home: Home,
 }
 
 /// What a desk or a view knows.

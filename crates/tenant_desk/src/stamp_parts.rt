@@ -8,7 +8,6 @@ ghost use Rattle.tenant_ledger.specs.Ledger.{IsKept, tenant_of};
 use crate::published::SharedBook;
 use event_tree::EvTree;
 use id_tree::IdTree;
-use tenant_ledger::Records;
 use trace_types::{Code, Reply, Request};
 
 /// The id and the tree of the event's stamp, or `None` if there is no such event.
@@ -23,7 +22,7 @@ pub(crate) fn parts_in(events: &SharedBook, event: u64) -> Option<(&IdTree, &EvT
         return None;
     }
     let tree = events.trees()[place as usize].value();
-    Some((events.id_after(event), tree))
+    Some((events.stamp_id(event), tree))
 }
 
 /// Equal parts, which outlive the events. Returns the code with which the request for the stamp is refused: `NoEvent`, or

@@ -1,6 +1,5 @@
 //! Views, which answer beside a desk.
 ghost use Rattle.std.specs.Prelude.{◌≡◌, [], IfOk, MatchResult};
-ghost use Rattle.std.specs.Arc.{arc_value};
 ghost use Rattle.left_right.specs.Sides.{view as known_at};
 ghost use Rattle.trace_types.specs.text.StampText.{stamp_text};
 ghost use Rattle.tenant_ledger.specs.Size.{IsShort};
@@ -17,8 +16,7 @@ use crate::stamp_parts::shared_parts;
 use event_tree::EvTree;
 use id_tree::IdTree;
 use std::marker::Model;
-use std::sync::{Arc, Wait};
-use tenant_ledger::{Keep, Shared};
+use std::sync::Wait;
 use trace_types::{Code, Limits, Memory, Reply, Request};
 
 /// A view of a tenant. It answers at a list of rows that the desk published. It never goes back behind a list that it saw
@@ -33,12 +31,10 @@ pub struct View {
     seen: Front,
     met: Met,
     limits: Limits,
-    shared: Arc<Shared>,
 }
 
 impl Model for View {
     ghost use Rattle.std.specs.Prelude.{Some, None};
-    ghost use Rattle.std.specs.Arc.{arc_value};
     ghost use Rattle.left_right.specs.Sides.{view as known_at};
     ghost use Rattle.tenant_desk.specs.Rules.{IsOfDesk};
     ghost use Rattle.tenant_desk.specs.Views.{BeginWithEach, Known};
@@ -48,7 +44,7 @@ impl Model for View {
     ghost view = { λ v. record { seen = v.seen.rows; met = v.met; limits = v.limits; book = v.seen.book } };
 
     ghost invariant = { λ v. BeginWithEach v.seen.rows v.met
-        × elim v.reader [ None ↦ ⊥ | Some reader ↦ IsOfDesk v.seen.book v.limits (⟦<Shared as Keep>⟧.home (arc_value v.shared)) (known_at reader.place) ] };
+        × elim v.reader [ None ↦ ⊥ | Some reader ↦ IsOfDesk v.seen.book v.limits (known_at reader.place) ] };
 }
 
 /// Enters what is published. The reader comes back if the desk is gone, or if less is published than was seen.
@@ -78,24 +74,17 @@ fn give_back(reading: DeskReading) -> (DeskReader, Front)
 
 impl View {
     /// A view that has seen all that is shown. Returns `Memory` if no reader is left, or no memory for it.
-    pub(crate) fn new(
-        limits: Limits,
-        shared: &Arc<Shared>,
-        publisher: &mut Publisher,
-    ) -> Result<View, Memory>
+    pub(crate) fn new(limits: Limits, publisher: &mut Publisher) -> Result<View, Memory>
         requires limits { publisher.old.events.limits ≡ limits }
-        requires home { publisher.old.events.home ≡ ⟦<Shared as Keep>⟧.home (arc_value shared.now) }
         ensures same { publisher.new ≡ publisher.old }
         ensures view { IfOk result (λ view. view ≡ record { seen = publisher.old.front.rows; met = []; limits = limits; book = publisher.old.front.book }) }
     {
-        let shared = Arc::try_clone(shared)?;
         let reader = publisher.reader()?;
         Ok(View {
             reader: Some(reader),
             seen: publisher.front().again(),
             met: Met::new(),
             limits,
-            shared,
         })
     }
 
@@ -211,7 +200,7 @@ impl View {
         match enter(reader, &self.seen) {
             Ok(reading) => {
                 let events = reading.get().events();
-                answer_published(events, &*self.shared, by_cache, request, reply);
+                answer_published(events, by_cache, request, reply);
                 let (reader, seen) = give_back(reading);
                 self.reader = Some(reader);
                 self.seen = seen;

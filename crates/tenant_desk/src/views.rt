@@ -1,6 +1,5 @@
 //! The views that are still to be handed out.
 ghost use Rattle.std.specs.Prelude.{◌≡◌, ◌+◌, [], IfOk, MatchOption};
-ghost use Rattle.std.specs.Arc.{arc_value};
 ghost use Rattle.tenant_desk.specs.Views.{new_view};
 
 use crate::publisher::{Publisher, VIEWS};
@@ -8,8 +7,6 @@ use crate::row_log::Front;
 use crate::view::View;
 use std::alloc::Global;
 use std::marker::Model;
-use std::sync::Arc;
-use tenant_ledger::{Keep, Shared};
 use trace_types::{Limits, Memory};
 
 /// The views of a tenant that were not handed out yet.
@@ -38,18 +35,16 @@ impl Views {
     pub(crate) fn new(
         alloc: Global,
         limits: Limits,
-        shared: &Arc<Shared>,
         publisher: &mut Publisher,
     ) -> Result<Views, Memory>
         requires rows { publisher.old.front.rows ≡ [] }
         requires limits { publisher.old.events.limits ≡ limits }
-        requires home { publisher.old.events.home ≡ ⟦<Shared as Keep>⟧.home (arc_value shared.now) }
         ensures same { publisher.new ≡ publisher.old }
         ensures views { IfOk result (λ views. views ≡ record { left = 8; limits = limits; book = publisher.old.front.book }) }
     {
         let mut views = Vec::with_capacity(alloc, VIEWS)?;
         for _number in 0..VIEWS {
-            views.push(View::new(limits, shared, publisher)?)?;
+            views.push(View::new(limits, publisher)?)?;
         }
         Ok(Views {
             views,

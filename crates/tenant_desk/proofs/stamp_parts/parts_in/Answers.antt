@@ -19,4 +19,4 @@ returns-clause-answer c =
     let there : is_event (history_of c.args.events.now.rows) c.args.event ≡ true = grind (arith, nat_tests, length-reverse c.args.events.now.rows, is, within) in
     let tree = c.value-tree.ensures
     ∙ kept_in_place (λ tree. tree.value) tenant c.trees.result.now c.trees.ensures.trees c.args.event place c.index-trees-place.result is within c.index-trees-place.is in
-    stamp_answered tenant c.args.event there c.id_after.result.now c.value-tree.result.now c.id_after.ensures tree _ refl
+    stamp_answered tenant c.args.event there c.stamp_id.result.now c.value-tree.result.now c.stamp_id.ensures tree _ refl

@@ -1,11 +1,10 @@
 use Rattle.std.proofs.Common.{◌≡◌, [], sym, ap, ◌∙◌, subst}
-use Rattle.std.specs.Arc.{arc_value}
 use Rattle.std.specs.Prelude.{Some}
 use Rattle.left_right.specs.Sides.{view as known_at}
 use Rattle.trace_types.specs.tenant.Tenant.{Answers, Tenant}
 use Rattle.tenant_ledger.proofs.Words.{transport}
 use Rattle.tenant_ledger.proofs.keeping.Kept.{kept_roomless}
-use Rattle.tenant_ledger.specs.Ledger.{Contents, roomless, tenant_of}
+use Rattle.tenant_ledger.specs.Ledger.{roomless, tenant_of}
 use Rattle.tenant_desk.specs.Histories.{Line}
 use Rattle.tenant_desk.specs.Rules.{IsOfDesk}
 use Rattle.tenant_desk.specs.Views.{BeginWithEach, Known, Responds}
@@ -19,23 +18,13 @@ invariant_of-self-in-Err c =
     let inside = c.self.inside in
     let is : inside.reader ≡ Some c.in-Some.reader = sym c.take.ensures.value ∙ c.in-Some.is in
     let of = value_there inside.reader c.in-Some.reader is
-    (λ reader. IsOfDesk inside.seen.book inside.limits (arc_value inside.shared).trees (known_at reader.place)) c.self.invariant.1 in
-    (c.self.invariant.0, c.in-Err.ensures _ _ _ of)
+    (λ reader. IsOfDesk inside.seen.book inside.limits (known_at reader.place)) c.self.invariant.1 in
+    (c.self.invariant.0, c.in-Err.ensures _ _ of)
 
-pub answer_published-requires-clause-sound : goal.answer_published-requires-clause-sound
-answer_published-requires-clause-sound c =
+pub answer_published-requires : goal.answer_published-requires
+answer_published-requires c =
     let seen = c.events-events.ensures ∙ ap (λ (one : Published). one.events) c.get.ensures in
     kept_roomless c.events-events.result.now c.in-Ok.reading.part.value.events seen c.in-Ok.ensures.sees.0.events
-
-pub answer_published-requires-clause-home : goal.answer_published-requires-clause-home
-answer_published-requires-clause-home c =
-    let inside = c.self.inside in
-    let is : inside.reader ≡ Some c.in-Some.reader = sym c.take.ensures.value ∙ c.in-Some.is in
-    let of = value_there inside.reader c.in-Some.reader is
-    (λ reader. IsOfDesk inside.seen.book inside.limits (arc_value inside.shared).trees (known_at reader.place)) c.self.invariant.1 in
-    let same = entered_desk inside.seen.book inside.limits (arc_value inside.shared).trees _ _ c.in-Ok.reading.part.value of c.in-Ok.ensures.sees in
-    let seen = c.events-events.ensures ∙ ap (λ (one : Published). one.events) c.get.ensures in
-    (λ i. (c.deref.ensures i).trees) ∙ sym (ap (λ (book : Contents). book.home) seen ∙ same.2)
 
 pub returns-in-Ok-clause-answer : goal.returns-in-Ok-clause-answer
 returns-in-Ok-clause-answer c =
@@ -47,7 +36,7 @@ returns-in-Ok-clause-answer c =
     let new : Known = record { seen = c.give_back-reader.result.1.rows; met = c.clear.new.self; limits = inside.limits; book = c.give_back-reader.result.1.book } in
     let is : inside.reader ≡ Some c.in-Some.reader = sym c.take.ensures.value ∙ c.in-Some.is in
     let of = value_there inside.reader c.in-Some.reader is
-    (λ reader. IsOfDesk inside.seen.book inside.limits (arc_value inside.shared).trees (known_at reader.place)) c.self.invariant.1 in
+    (λ reader. IsOfDesk inside.seen.book inside.limits (known_at reader.place)) c.self.invariant.1 in
     let seen : roomless c.events-events.result.now ≡ published.events = c.events-events.ensures ∙ ap (λ (one : Published). one.events) c.get.ensures in
     let answered = subst (λ (tenant : Tenant). Answers tenant request reply) (ap tenant_of seen) c.answer_published.ensures in
     let front = c.give_back-reader.ensures.front in
@@ -55,17 +44,16 @@ returns-in-Ok-clause-answer c =
     let is_new : new ≡ record { seen = published.front.rows; met = []; limits = inside.limits; book = published.front.book } =
     λ i. record { seen = (front i).rows; met = met i; limits = inside.limits; book = (front i).book } in
     subst (λ (before : Known). Responds before request reply new) c.self.view_is
-    (responds old new (arc_value inside.shared).trees _ _ published request reply (sym c.is_report.ensures ∙ c.if-is_report.false) of c.self.invariant.0 c.in-Ok.ensures answered is_new)
+    (responds old new _ _ published request reply (sym c.is_report.ensures ∙ c.if-is_report.false) of c.self.invariant.0 c.in-Ok.ensures answered is_new)
 
 pub invariant_of-self : goal.invariant_of-self
 invariant_of-self c =
     let inside = c.self.inside in
-    let home = (arc_value inside.shared).trees in
     let is : inside.reader ≡ Some c.in-Some.reader = sym c.take.ensures.value ∙ c.in-Some.is in
-    let of = value_there inside.reader c.in-Some.reader is (λ reader. IsOfDesk inside.seen.book inside.limits home (known_at reader.place)) c.self.invariant.1 in
-    let known = known_of_entered inside.seen.book inside.limits home _ _ c.in-Ok.reading.part.value of c.in-Ok.ensures.sees in (
+    let of = value_there inside.reader c.in-Some.reader is (λ reader. IsOfDesk inside.seen.book inside.limits (known_at reader.place)) c.self.invariant.1 in
+    let known = known_of_entered inside.seen.book inside.limits _ _ c.in-Ok.reading.part.value of c.in-Ok.ensures.sees in (
       subst (BeginWithEach c.give_back-reader.result.1.rows) (sym c.clear.ensures) tt,
-      transport (λ i. IsOfDesk ((sym c.give_back-reader.ensures.front) i).book inside.limits home ((sym c.give_back-reader.ensures.known) i)) known,
+      transport (λ i. IsOfDesk ((sym c.give_back-reader.ensures.front) i).book inside.limits ((sym c.give_back-reader.ensures.known) i)) known,
     )
 
 pub returns-in-Ok-clause-book : goal.returns-in-Ok-clause-book
@@ -74,6 +62,6 @@ returns-in-Ok-clause-book c =
     let published = c.in-Ok.reading.part.value in
     let is : inside.reader ≡ Some c.in-Some.reader = sym c.take.ensures.value ∙ c.in-Some.is in
     let of = value_there inside.reader c.in-Some.reader is
-    (λ reader. IsOfDesk inside.seen.book inside.limits (arc_value inside.shared).trees (known_at reader.place)) c.self.invariant.1 in
-    let same = entered_desk inside.seen.book inside.limits (arc_value inside.shared).trees _ _ published of c.in-Ok.ensures.sees in
+    (λ reader. IsOfDesk inside.seen.book inside.limits (known_at reader.place)) c.self.invariant.1 in
+    let same = entered_desk inside.seen.book inside.limits _ _ published of c.in-Ok.ensures.sees in
     ap (λ (line : Line). line.book) c.give_back-reader.ensures.front ∙ same.0 ∙ ap (λ (before : Known). before.book) c.self.view_is

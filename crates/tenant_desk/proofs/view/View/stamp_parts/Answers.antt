@@ -1,5 +1,4 @@
 use Rattle.std.proofs.Common.{◌≡◌, [], sym, ap, ◌∙◌, subst}
-use Rattle.std.specs.Arc.{arc_value}
 use Rattle.std.specs.Prelude.{Some, MatchResult}
 use Rattle.left_right.specs.Sides.{view as known_at}
 use Rattle.trace_types.specs.tenant.Tenant.{Answers, Tenant}
@@ -22,8 +21,8 @@ invariant_of-self-in-Err c =
     let inside = c.self.inside in
     let is : inside.reader ≡ Some c.in-Some.reader = sym c.take.ensures.value ∙ c.in-Some.is in
     let of = value_there inside.reader c.in-Some.reader is
-    (λ reader. IsOfDesk inside.seen.book inside.limits (arc_value inside.shared).trees (known_at reader.place)) c.self.invariant.1 in
-    (c.self.invariant.0, c.in-Err.ensures _ _ _ of)
+    (λ reader. IsOfDesk inside.seen.book inside.limits (known_at reader.place)) c.self.invariant.1 in
+    (c.self.invariant.0, c.in-Err.ensures _ _ of)
 
 pub shared_parts-parts-requires : goal.shared_parts-parts-requires
 shared_parts-parts-requires c =
@@ -40,7 +39,7 @@ returns-in-Ok-clause-answer c =
     let new : Known = record { seen = c.give_back-reader.result.1.rows; met = c.clear.new.self; limits = inside.limits; book = c.give_back-reader.result.1.book } in
     let is : inside.reader ≡ Some c.in-Some.reader = sym c.take.ensures.value ∙ c.in-Some.is in
     let of = value_there inside.reader c.in-Some.reader is
-    (λ reader. IsOfDesk inside.seen.book inside.limits (arc_value inside.shared).trees (known_at reader.place)) c.self.invariant.1 in
+    (λ reader. IsOfDesk inside.seen.book inside.limits (known_at reader.place)) c.self.invariant.1 in
     let seen : roomless c.events.result.now ≡ published.events = c.events.ensures ∙ ap (λ (one : Published). one.events) c.get.ensures in
     let answered = subst (λ (tenant : Tenant). MatchResult found (λ parts. Answers tenant (Stamp event) (reply.Stamp (stamp_text parts.0 parts.1)))
     (λ code. Answers tenant (Stamp event) (reply.Refused code))) (ap tenant_of seen) c.shared_parts-parts.ensures in
@@ -50,17 +49,16 @@ returns-in-Ok-clause-answer c =
     λ i. record { seen = (front i).rows; met = met i; limits = inside.limits; book = (front i).book } in
     subst (λ (before : Known). MatchResult found (λ parts. Responds before (Stamp event) (reply.Stamp (stamp_text parts.0 parts.1)) new)
     (λ code. Responds before (Stamp event) (reply.Refused code) new)) c.self.view_is
-    (parts_respond old new (arc_value inside.shared).trees _ _ published event found of c.self.invariant.0 c.in-Ok.ensures answered is_new)
+    (parts_respond old new _ _ published event found of c.self.invariant.0 c.in-Ok.ensures answered is_new)
 
 pub invariant_of-self : goal.invariant_of-self
 invariant_of-self c =
     let inside = c.self.inside in
-    let home = (arc_value inside.shared).trees in
     let is : inside.reader ≡ Some c.in-Some.reader = sym c.take.ensures.value ∙ c.in-Some.is in
-    let of = value_there inside.reader c.in-Some.reader is (λ reader. IsOfDesk inside.seen.book inside.limits home (known_at reader.place)) c.self.invariant.1 in
-    let known = known_of_entered inside.seen.book inside.limits home _ _ c.in-Ok.reading.part.value of c.in-Ok.ensures.sees in (
+    let of = value_there inside.reader c.in-Some.reader is (λ reader. IsOfDesk inside.seen.book inside.limits (known_at reader.place)) c.self.invariant.1 in
+    let known = known_of_entered inside.seen.book inside.limits _ _ c.in-Ok.reading.part.value of c.in-Ok.ensures.sees in (
       subst (BeginWithEach c.give_back-reader.result.1.rows) (sym c.clear.ensures) tt,
-      transport (λ i. IsOfDesk ((sym c.give_back-reader.ensures.front) i).book inside.limits home ((sym c.give_back-reader.ensures.known) i)) known,
+      transport (λ i. IsOfDesk ((sym c.give_back-reader.ensures.front) i).book inside.limits ((sym c.give_back-reader.ensures.known) i)) known,
     )
 
 pub returns-in-Ok-clause-book : goal.returns-in-Ok-clause-book
@@ -69,6 +67,6 @@ returns-in-Ok-clause-book c =
     let published = c.in-Ok.reading.part.value in
     let is : inside.reader ≡ Some c.in-Some.reader = sym c.take.ensures.value ∙ c.in-Some.is in
     let of = value_there inside.reader c.in-Some.reader is
-    (λ reader. IsOfDesk inside.seen.book inside.limits (arc_value inside.shared).trees (known_at reader.place)) c.self.invariant.1 in
-    let same = entered_desk inside.seen.book inside.limits (arc_value inside.shared).trees _ _ published of c.in-Ok.ensures.sees in
+    (λ reader. IsOfDesk inside.seen.book inside.limits (known_at reader.place)) c.self.invariant.1 in
+    let same = entered_desk inside.seen.book inside.limits _ _ published of c.in-Ok.ensures.sees in
     ap (λ (line : Line). line.book) c.give_back-reader.ensures.front ∙ same.0 ∙ ap (λ (before : Known). before.book) c.self.view_is
