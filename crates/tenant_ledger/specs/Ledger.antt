@@ -30,17 +30,9 @@ use Rattle.tenant_ledger.specs.Laws.{IsRaisedBy}
 use Rattle.tenant_ledger.specs.declared.book.message.Message.{Message}
 use Rattle.tenant_ledger.specs.declared.book.task.Task.{Task}
 use Rattle.tenant_ledger.specs.declared.book.report.Report.{Report}
+use Rattle.tenant_ledger.specs.declared.book.room.Room.{Room}
 use Rattle.tenant_ledger.specs.declared.book.ids.Ids.{Ids}
 use Rattle.tenant_ledger.specs.declared.book.ids.Ids.TheVariants as ids
-
--- for how many more of each there is room
-pub record Room : Type 0 where
-  -- at least so many rows, and all else that is kept of each event
-  pub events : ℕ
-  pub receipts : ℕ
-  pub ids : ℕ
-  pub tasks : ℕ
-  pub messages : ℕ
 
 -- A receipt, by the event that started the task, or 0, and the event that sent the message.
 abbrev pub ReceiptKey : Type 0
@@ -200,6 +192,14 @@ pub record HasRoom (book : Contents) : Type 0 where
   pub messages : 0 < book.room.messages
   pub seeded : 0 < book.kept_ids
 
+-- there is room for so many more of each
+pub record HasRoomFor (more : Room) (room : Room) : Type 0 where
+  pub events : more.events ≤ room.events
+  pub receipts : more.receipts ≤ room.receipts
+  pub ids : more.ids ≤ room.ids
+  pub tasks : more.tasks ≤ room.tasks
+  pub messages : more.messages ≤ room.messages
+
 -- There is room for as many events, receipts, ids, tasks and messages as a tenant with these limits makes. There is also room for
 -- what is asked before its last event.
 pub record HasAllRoom (limits : Limits) (room : Room) : Type 0 where
@@ -276,9 +276,9 @@ pub record IsReport (book : Contents) (report : Report) : Type 0 where
   pub legal : AreLegal book.limits (book.rows ++ row_of_report book report ∷ [])
   pub few : length book.rows < 16384
   pub acting : task_in book report.task ≡ Some report.acting
-  pub second : report.second ≡ second_event (history_in book) report.kind report.name
-  pub joined : report.joined ≡ joined_by (task_in book) report.kind report.name
-  pub received : report.received ≡ received_by (message_in book) report.kind report.name
+  pub second : report.named.second ≡ second_event (history_in book) report.kind report.name
+  pub joined : report.named.joined ≡ joined_by (task_in book) report.kind report.name
+  pub received : report.named.received ≡ received_by (message_in book) report.kind report.name
 
 -- the ids that a report of this kind makes, of its task's id and of that of the task that it names
 abbrev pub ids_made : Kind → Id → Id → Ids
@@ -377,8 +377,8 @@ event_of book report point = record {
   point = point;
   ids = ids_of_report book report;
   acting = acting_after report.kind (suc (length (history_in book))) (length book.ids) report.acting;
-  named = named_after report.kind (suc (length (history_in book))) (length book.ids) report.joined;
-  received = report.received;
+  named = named_after report.kind (suc (length (history_in book))) (length book.ids) report.named.joined;
+  received = report.named.received;
 }
 
 -- what is to be kept of the event's message, if the event is the next one

@@ -2,7 +2,7 @@
 ghost use Rattle.std.specs.Prelude.{◌≡◌, ◌-◌, ◌<◌, ◌≤◌, ◌==◌, if◌then◌else◌, true, IsTrue, IfOk, IfErr, OnOk, MatchBool, Some, None, length, slice_get};
 ghost use Rattle.trace_types.specs.tenant.Limits.{are_limits};
 ghost use Rattle.trace_types.specs.tenant.Rows.{is_event};
-ghost use Rattle.tenant_ledger.specs.Ledger.{HasAllRoom, HasRoom, IsKept, history_in, id_after, message_in, new_book, roomless, task_in};
+ghost use Rattle.tenant_ledger.specs.Ledger.{HasAllRoom, HasRoom, HasRoomFor, IsKept, history_in, id_after, message_in, new_book, roomless, task_in};
 
 mod commit;
 mod draft;
@@ -11,6 +11,7 @@ mod kept;
 mod message;
 mod receipts;
 mod report;
+mod room;
 mod task;
 
 use crate::share::{Keep, MeantId, Share};
@@ -21,6 +22,7 @@ use ids::Ids;
 use indexmap::{IndexMap, IndexSet};
 pub(crate) use message::Message;
 use report::Report;
+use room::Room;
 use std::alloc::Global;
 use std::marker::Model;
 pub(crate) use task::Task;
@@ -52,8 +54,8 @@ pub struct Book<S: Keep> {
     earlier: Vec<u64>,
     /// Each receipt, by the event that started its task, or 0, and the event that sent its message.
     received: IndexSet<(u64, u64)>,
-    /// All lists of events have room for at least so many more events.
-    free: usize,
+    /// For how many more events, receipts, ids, tasks and messages there is room.
+    room: Room,
     /// Each id that some task has or had, that of `root` first.
     ids: Vec<S::Id>,
     tasks: IndexMap<Name, Task>,
@@ -88,18 +90,14 @@ impl<S: Keep> Model for Book<S> {
       kept_ids = length b.ids.items;
       tasks = b.tasks.entries;
       messages = b.messages.entries;
-      room = record {
-        events = b.free;
-        receipts = set_spare b.received;
-        ids = vec_capacity b.ids - vec_len b.ids;
-        tasks = spare b.tasks;
-        messages = spare b.messages;
-      };
+      room = b.room;
     } };
 
-    ghost invariant = { λ b. (vec_len b.rows + b.free ≤ vec_capacity b.rows) × (vec_len b.trees + b.free ≤ vec_capacity b.trees)
-        × (vec_len b.points + b.free ≤ vec_capacity b.points) × (vec_len b.starts + b.free ≤ vec_capacity b.starts)
-        × (vec_len b.places + b.free ≤ vec_capacity b.places) × (vec_len b.earlier + b.free ≤ vec_capacity b.earlier) };
+    ghost invariant = { λ b. (vec_len b.rows + b.room.events ≤ vec_capacity b.rows) × (vec_len b.trees + b.room.events ≤ vec_capacity b.trees)
+        × (vec_len b.points + b.room.events ≤ vec_capacity b.points) × (vec_len b.starts + b.room.events ≤ vec_capacity b.starts)
+        × (vec_len b.places + b.room.events ≤ vec_capacity b.places) × (vec_len b.earlier + b.room.events ≤ vec_capacity b.earlier)
+        × (b.room.receipts ≡ set_spare b.received) × (vec_len b.ids + b.room.ids ≡ vec_capacity b.ids)
+        × (b.room.tasks ≡ spare b.tasks) × (b.room.messages ≡ spare b.messages) };
 }
 
 impl<S: Keep> Book<S> {
@@ -116,6 +114,12 @@ impl<S: Keep> Book<S> {
             id: 0,
         };
         tasks.insert(Name::root(), root)?;
+        let (received, ids, messages) = (
+            IndexSet::new(alloc),
+            Vec::new(alloc),
+            IndexMap::new(alloc),
+        );
+        let room = Room::of(0, &received, &ids, &tasks, &messages);
         Ok(Book {
             share,
             limits,
@@ -126,11 +130,11 @@ impl<S: Keep> Book<S> {
             starts: Vec::new(alloc),
             places: Vec::new(alloc),
             earlier: Vec::new(alloc),
-            received: IndexSet::new(alloc),
-            free: 0,
-            ids: Vec::new(alloc),
+            received,
+            room,
+            ids,
             tasks,
-            messages: IndexMap::new(alloc),
+            messages,
         })
     }
 
@@ -144,47 +148,49 @@ impl<S: Keep> Book<S> {
     {
         let mut book = Book::new(alloc, limits, share)?;
         book.seed(rt)?;
-        book.make_all_room()?;
+        let (events, tasks) = (limits.events() as usize, limits.tasks() as usize);
+        book.make_room_for(Room {
+            events,
+            receipts: events,
+            // Each task is split from another and joined at most once.
+            ids: 3 * tasks,
+            // Room for two tasks and for a message is asked for before each event, also where all are there.
+            tasks: tasks + 1,
+            messages: limits.messages() as usize + 1,
+        })?;
         Ok(book)
     }
 
-    /// Makes room for all that the limits allow.
-    fn make_all_room(&mut self) -> Result<(), Memory>
+    /// Makes room for so many more, and counts for how many there is room. Returns `Memory` if it runs out of memory.
+    fn make_room_for(&mut self, more: Room) -> Result<(), Memory>
         ensures same { self.new ≡ record self.old { room = self.new.room } }
-        ensures room { OnOk result (HasAllRoom self.new.limits self.new.room) }
+        ensures room { OnOk result (HasRoomFor more self.new.room) }
+        ensures more { HasRoomFor self.old.room self.new.room }
     {
-        let events = self.limits.events() as usize;
-        let tasks = self.limits.tasks() as usize;
-        self.make_room_for_events(events)?;
-        // Each task is split from another and joined at most once.
-        self.ids.reserve_exact(3 * tasks)?;
-        // Room for two tasks and for a message is asked for before each event, also where all are there.
-        self.tasks.reserve_exact(tasks + 1)?;
-        self.messages
-            .reserve_exact(self.limits.messages() as usize + 1)?;
-        Ok(())
-    }
-
-    /// Makes room for so many more events, each of which may be a receipt.
-    fn make_room_for_events(&mut self, events: usize) -> Result<(), Memory>
-        ensures same { self.new ≡ record self.old { room = self.new.room } }
-        ensures room { OnOk result ((events ≤ self.new.room.events) × (events ≤ self.new.room.receipts)) }
-        ensures more { self.old.room.events ≤ self.new.room.events }
-    {
-        self.rows.reserve(events)?;
-        self.trees.reserve(events)?;
-        self.points.reserve(events)?;
-        self.starts.reserve(events)?;
-        self.places.reserve(events)?;
-        self.earlier.reserve(events)?;
-        self.received.reserve(events)?;
-        self.free = (self.rows.capacity() - self.rows.len())
+        self.rows.reserve(more.events)?;
+        self.trees.reserve(more.events)?;
+        self.points.reserve(more.events)?;
+        self.starts.reserve(more.events)?;
+        self.places.reserve(more.events)?;
+        self.earlier.reserve(more.events)?;
+        let receipts = self.received.reserve(more.receipts);
+        let ids = self.ids.reserve(more.ids);
+        let tasks = self.tasks.reserve(more.tasks);
+        let messages = self.messages.reserve(more.messages);
+        let events = (self.rows.capacity() - self.rows.len())
             .min(self.trees.capacity() - self.trees.len())
             .min(self.points.capacity() - self.points.len())
             .min(self.starts.capacity() - self.starts.len())
             .min(self.places.capacity() - self.places.len())
             .min(self.earlier.capacity() - self.earlier.len());
-        Ok(())
+        self.room = Room::of(
+            events,
+            &self.received,
+            &self.ids,
+            &self.tasks,
+            &self.messages,
+        );
+        Ok(receipts.and(ids).and(tasks).and(messages)?)
     }
 
     /// Keeps the id of `root`, unless that was done.
@@ -197,7 +203,9 @@ impl<S: Keep> Book<S> {
     {
         if self.ids.is_empty() {
             let id = self.share.keep_id(rt, IdTree::one())?;
-            self.ids.push(id)?;
+            let kept = self.ids.push(id);
+            self.room.ids = self.ids.capacity() - self.ids.len();
+            kept?;
         }
         Ok(())
     }
@@ -208,12 +216,12 @@ impl<S: Keep> Book<S> {
     pub fn has_room(&self) -> bool
         ensures { MatchBool result (HasRoom self.now) (HasRoom self.now → ⊥) }
     {
-        self.free > 0
+        self.room.events > 0
+            && self.room.receipts > 0
+            && self.room.ids >= 2
+            && self.room.tasks >= 2
+            && self.room.messages > 0
             && !self.ids.is_empty()
-            && self.ids.capacity() - self.ids.len() >= 2
-            && self.tasks.capacity() - self.tasks.len() >= 2
-            && self.messages.len() < self.messages.capacity()
-            && self.received.len() < self.received.capacity()
     }
 
     /// The limits of the tenant.

@@ -88,10 +88,12 @@ impl<S: Keep> Keep for Arc<S> {
 }
 
 impl<R, S: Share<R>> Share<R> for Arc<S> {
+    #[inline(always)]
     fn keep_id(&self, rt: &R, id: IdTree) -> Result<S::Id, Memory> {
         S::keep_id(self, rt, id)
     }
 
+    #[inline(always)]
     fn keep_tree(&self, rt: &R, tree: EvTree) -> Result<S::Kept, Memory> {
         S::keep_tree(self, rt, tree)
     }

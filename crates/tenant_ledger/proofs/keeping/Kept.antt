@@ -100,9 +100,9 @@ module _ (book : Contents) (kept : IsKept book) (report : Report) (is : IsReport
             ∙ ap (λ h. map Some (of_each id_after h)) to_longer;
         tasks_are = λ name. subst (IsTask (book.ids ++ event.ids) (history_of (book.rows ++ row ∷ [])) name) (sym (tasks_found event book name))
             (subst (λ h. IsTask (book.ids ++ event.ids) h name (tasks_with event book name)) to_longer
-            (subst (λ had. IsTask (book.ids ++ event.ids) (row ∷ history) name (tasks_with (event_of book (record report { joined = had }) point) book name)) (sym is.joined)
+            (subst (λ had. IsTask (book.ids ++ event.ids) (row ∷ history) name (tasks_with (event_of book (record report { named = record report.named { joined = had } }) point) book name)) (sym is.joined)
             (tasks_are_kept book kept report.task report.acting is.acting live report.kind report.name allowed name)));
-        counted = tasks_counted event book ∙ ap (λ had. task_count_with (event_of book (record report { joined = had }) point) book) is.joined
+        counted = tasks_counted event book ∙ ap (λ had. task_count_with (event_of book (record report { named = record report.named { joined = had } }) point) book) is.joined
             ∙ tasks_are_counted book kept report.task report.acting is.acting live report.kind report.name allowed ∙ ap task_count to_longer;
         earlier = ap (λ list. list ++ last_in event.received ∷ []) kept.earlier
             ∙ ap (λ last. of_each earlier_of history ++ last ∷ []) (ap last_in is.received ∙ earlier_is_kept book kept report.task report.kind report.name allowed)
@@ -110,9 +110,9 @@ module _ (book : Contents) (kept : IsKept book) (report : Report) (is : IsReport
         received = (λ i. with_key (receipt_is i) (kept.received i)) ∙ ap keys_in to_longer;
         messages_are = λ name. subst (IsMessage (history_of (book.rows ++ row ∷ [])) name) (sym (messages_found event book name))
             (subst (λ h. IsMessage h name (messages_with event book name)) to_longer
-            (subst (λ had. IsMessage (row ∷ history) name (messages_with (event_of book (record report { received = had }) point) book name)) (sym is.received)
+            (subst (λ had. IsMessage (row ∷ history) name (messages_with (event_of book (record report { named = record report.named { received = had } }) point) book name)) (sym is.received)
             (messages_are_kept book kept report.task report.kind report.name allowed name)));
-        messages_counted = messages_counted event book ∙ ap (λ had. message_count_with (event_of book (record report { received = had }) point) book) is.received
+        messages_counted = messages_counted event book ∙ ap (λ had. message_count_with (event_of book (record report { named = record report.named { received = had } }) point) book) is.received
             ∙ messages_are_counted book kept report.task report.kind report.name allowed ∙ ap message_count to_longer;
         seeded = λ _. omega (arith, seeded);
       }

@@ -51,7 +51,7 @@ module _ {book : Contents} {report : Report} (kept : IsKept book) (is : IsReport
   pub last-le : report.acting.last ≤ length book.rows
   last-le = omega (arith, acting_last, followed-le row history (last_event history report.task) (inl refl), length-reverse book.rows)
 
-  pub second-le : report.second ≤ length book.rows
+  pub second-le : report.named.second ≤ length book.rows
   second-le = omega (arith, is.second, followed-le row history (second_event history report.kind report.name) (inr refl), length-reverse book.rows)
 
   -- an event may be made of what is known before it
@@ -65,19 +65,19 @@ module _ {book : Contents} {report : Report} (kept : IsKept book) (is : IsReport
 
   -- that is what its task knew, joined with what the second event knew where it takes that in
   pub knows_both : takes_in report.kind ≡ true → {own second : EventTree} → own ≡ tree_of tree_clock history report.acting.last
-      → second ≡ tree_of tree_clock history report.second → tree_clock.join own second ≡ known_before_new tree_clock row history
+      → second ≡ tree_of tree_clock history report.named.second → tree_clock.join own second ≡ known_before_new tree_clock row history
   knows_both takes own_is second_is = grind (arith, nat_tests)
 
   pub knows_own : takes_in report.kind ≡ false → {own : EventTree} → own ≡ tree_of tree_clock history report.acting.last → own ≡ known_before_new tree_clock row history
   knows_own takes own_is = own_is ∙ ap (tree_of tree_clock history) acting_last ∙ sym (cond-false (takes_in report.kind) _ _ takes)
 
   module _ (kind_is : report.kind ≡ Join) where
-    pub joins : IsJoined book report.task report.name report.joined
-    joins = joined_is_there book kept report.task report.name report.joined
+    pub joins : IsJoined book report.task report.name report.named.joined
+    joins = joined_is_there book kept report.task report.name report.named.joined
         (subst (λ kind. AllowsNamed history kind report.name) kind_is (legal_with_row book kept report is).0.1)
-        (subst (λ kind. report.joined ≡ joined_by (task_in book) kind report.name) kind_is is.joined)
+        (subst (λ kind. report.named.joined ≡ joined_by (task_in book) kind report.name) kind_is is.joined)
 
-    module _ {had : Task} (had_is : report.joined ≡ Some had) where
+    module _ {had : Task} (had_is : report.named.joined ≡ Some had) where
       joined_id_kept : slice_get book.ids had.id ≡ Some (id_of tree_clock history joins.0)
       joined_id_kept =
           let same : joins.1 ≡ had = same_Some joins.1 had (sym joins.3 ∙ had_is) in

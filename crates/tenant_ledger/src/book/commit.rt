@@ -7,6 +7,7 @@ ghost use Rattle.trace_types.specs.clock.Clock.{tree_clock};
 ghost use Rattle.trace_types.specs.clock.Stamps.{id_of};
 ghost use Rattle.tenant_ledger.specs.Ledger.{HasRoom, IsReady, UsesRoomOfOne, entries_with, history_in, with_event, with_key};
 
+use super::draft::Made;
 use super::message::{key_by, last_in, noted_after};
 use super::{Book, Draft};
 use crate::share::Keep;
@@ -28,6 +29,7 @@ impl<S: Keep> Book<S> {
     /// Adds the event of the draft, and gives its number. It takes no memory.
     ///
     /// The tables of names are looked at where the draft found its names, and searched where these do not stand there.
+    #[inline(always)]
     pub fn commit(&mut self, draft: Draft<S>) -> u64
         requires { HasRoom self.old }
         ensures book { self.new ≡ record (with_event draft self.old) { room = self.new.room } }
@@ -36,86 +38,105 @@ impl<S: Keep> Book<S> {
     {
         let Draft {
             row,
-            tree,
-            point,
-            first,
-            second,
+            made,
             acting,
             index,
             named,
             place,
             received,
         } = draft;
+        let Made {
+            tree,
+            point,
+            first,
+            second,
+        } = made;
+        let (room, name) = (&mut self.room, &row.name);
         let event = self.rows.len() as u64 + 1;
-        add_some(&mut self.ids, first);
-        add_some(&mut self.ids, second);
-        put_some(&mut self.tasks, place, &row.name, named);
-        put(&mut self.tasks, index, row.task, acting);
+        add_some(&mut self.ids, &mut room.ids, first);
+        add_some(&mut self.ids, &mut room.ids, second);
+        put_some(&mut self.tasks, &mut room.tasks, place, name, named);
+        put(&mut self.tasks, &mut room.tasks, index, &row.task, acting);
         let noted = noted_after(row.kind, event, received);
-        put_some(&mut self.messages, place, &row.name, noted);
-        add_receipt(&mut self.received, key_by(acting.start, received));
+        put_some(&mut self.messages, &mut room.messages, place, name, noted);
+        let receipt = key_by(acting.start, received);
+        add_receipt(&mut self.received, &mut room.receipts, receipt);
+        room.events -= 1;
         self.rows.push_reserved(row);
         self.trees.push_reserved(tree);
         self.points.push_reserved(point);
         self.starts.push_reserved(acting.start);
         self.places.push_reserved(acting.id);
         self.earlier.push_reserved(last_in(received));
-        self.free -= 1;
         event
     }
 }
 
-/// Adds an item for which there is room, if one is given.
+/// Adds an item for which there is room, if one is given. What room is left is counted.
 #[inline(always)]
-fn add_some<T>(items: &mut Vec<T>, item: Option<T>)
-    requires { vec_len items.old < vec_capacity items.old }
+fn add_some<T>(items: &mut Vec<T>, room: &mut usize, item: Option<T>)
+    requires some { 0 < room.old }
+    requires room { vec_len items.old + room.old ≡ vec_capacity items.old }
     ensures items { items.new.items ≡ items.old.items ++ option_to_list item }
-    ensures room { vec_len items.new + vec_capacity items.old ≤ vec_len items.old + 1 + vec_capacity items.new }
+    ensures room { vec_len items.new + room.new ≡ vec_capacity items.new }
+    ensures used { room.old ≤ room.new + 1 }
 {
     if let Some(item) = item {
         items.push_reserved(item);
+        *room = items.capacity() - items.len();
     }
 }
 
-/// Adds a receipt for which there is room, if one is given.
+/// Adds a receipt for which there is room, if one is given. What room is left is counted.
 #[inline(always)]
-fn add_receipt(received: &mut IndexSet<(u64, u64)>, receipt: Option<(u64, u64)>)
-    requires { 0 < set_spare received.old }
+fn add_receipt(received: &mut IndexSet<(u64, u64)>, room: &mut usize, receipt: Option<(u64, u64)>)
+    requires some { 0 < room.old }
+    requires room { room.old ≡ set_spare received.old }
     ensures keys { received.new.keys ≡ with_key receipt received.old.keys }
-    ensures room { set_spare received.old ≤ set_spare received.new + 1 }
+    ensures room { room.new ≡ set_spare received.new }
+    ensures used { room.old ≤ room.new + 1 }
 {
     if let Some(receipt) = receipt {
         received.insert(receipt).unwrap();
+        *room = received.capacity() - received.len();
     }
 }
 
-/// Keeps a value under the name that a report has, if there is one. There is room for it.
+/// Keeps a value under the name that a report has, if there is one. There is room for it, and what is left is counted.
 #[inline(always)]
 fn put_some<V: Copy>(
     map: &mut IndexMap<Name, V>,
+    room: &mut usize,
     place: usize,
     name: &Option<Name>,
     value: Option<V>,
 )
-    requires { 0 < spare map.old }
+    requires some { 0 < room.old }
+    requires room { room.old ≡ spare map.old }
     ensures entries { map.new.entries ≡ entries_with value name.now map.old.entries }
-    ensures room { spare map.old ≤ spare map.new + 1 }
+    ensures room { room.new ≡ spare map.new }
+    ensures used { room.old ≤ room.new + 1 }
 {
-    if let (Some(value), Some(name)) = (value, *name) {
-        put(map, place, name, value);
+    if let (Some(value), Some(name)) = (value, name) {
+        put(map, room, place, name, value);
     }
 }
 
-/// Keeps the value under the name, which is looked for at this place first. There is room for it.
-fn put<V: Copy>(map: &mut IndexMap<Name, V>, place: usize, name: Name, value: V)
-    requires { 0 < spare map.old }
-    ensures entries { map.new.entries ≡ insert_entry is_same map.old.entries name value }
-    ensures room { spare map.old ≤ spare map.new + 1 }
+/// Keeps the value under the name, which is looked for at this place first. There is room for it, and what is left is
+/// counted.
+#[inline(always)]
+fn put<V: Copy>(map: &mut IndexMap<Name, V>, room: &mut usize, place: usize, name: &Name, value: V)
+    requires some { 0 < room.old }
+    requires room { room.old ≡ spare map.old }
+    ensures entries { map.new.entries ≡ insert_entry is_same map.old.entries name.now value }
+    ensures room { room.new ≡ spare map.new }
+    ensures used { room.old ≤ room.new + 1 }
 {
-    if stands_at(map, place, &name) {
+    if stands_at(map, place, name) {
         set(map, place, value);
     } else {
-        map.insert(name, value).unwrap();
+        map.insert(*name, value).unwrap();
+        *room = map.capacity() - map.len();
     }
 }
 
@@ -135,7 +156,7 @@ fn stands_at<V: Copy>(map: &IndexMap<Name, V>, place: usize, name: &Name) -> boo
 fn set<V: Copy>(map: &mut IndexMap<Name, V>, place: usize, value: V)
     ensures entries { (name : Characters) (before : V) → slice_get map.old.entries place ≡ Some (name, before)
         → map.new.entries ≡ insert_entry is_same map.old.entries name value }
-    ensures room { spare map.old ≤ spare map.new }
+    ensures room { spare map.new ≡ spare map.old }
 {
     if let Some(kept) = map.get_index_mut(place) {
         *kept = value;

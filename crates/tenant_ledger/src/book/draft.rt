@@ -7,7 +7,7 @@ ghost use Rattle.trace_types.specs.tenant.Tenant.{is_report, row_after};
 ghost use Rattle.trace_types.specs.clock.EventTree.{Leaf};
 ghost use Rattle.tenant_ledger.specs.Ledger.{IsKept, HasRoom, history_in, IsReport, row_of_report, tree_of_report, MayRaise, event_of, Drafts, IsMadeOf, Prepares, Takes};
 
-use super::{Book, Message, Report, Task};
+use super::{Book, Message, Report, Room, Task};
 use crate::share::{Keep, Share};
 use crate::{MeantId, Shared, Stack};
 use event_tree::{EvTree, RaisedPoint};
@@ -23,12 +23,7 @@ use tree_forest::Tree;
 #[derive(Drop)]
 pub struct Draft<S: Keep> {
     pub(super) row: Row,
-    pub(super) tree: S::Kept,
-    /// A point that the event raised, if one was found.
-    pub(super) point: Option<RaisedPoint>,
-    /// The ids that the event makes, which come behind those that the book has.
-    pub(super) first: Option<S::Id>,
-    pub(super) second: Option<S::Id>,
+    pub(super) made: Made<S>,
     /// What is to be kept of the acting task, and where the table of tasks has it.
     pub(super) acting: Task,
     pub(super) index: usize,
@@ -41,7 +36,6 @@ pub struct Draft<S: Keep> {
 }
 
 impl<S: Keep> Model for Draft<S> {
-    ghost use Rattle.std.specs.Prelude.{◌++◌, map, option_to_list};
     ghost use Rattle.std.specs.Coded.{codes};
     ghost use Rattle.event_tree.specs.EventTreeCode.{event_tree_code};
     ghost use Rattle.id_tree.specs.IdCode.{id_code};
@@ -52,11 +46,11 @@ impl<S: Keep> Model for Draft<S> {
     ghost coded = { Prim.hlevel (codes, event_tree_code, id_code) };
 
     ghost view = { λ d. record {
-      home = S.home_of d.tree;
+      home = d.made.home;
       row = d.row;
-      tree = S.Kept.tree d.tree;
-      point = d.point;
-      ids = map S.Id.id (option_to_list d.first ++ option_to_list d.second);
+      tree = d.made.tree;
+      point = d.made.point;
+      ids = d.made.ids;
       acting = d.acting;
       named = d.named;
       received = d.received;
@@ -65,11 +59,13 @@ impl<S: Keep> Model for Draft<S> {
 
 /// What is made of an event. The share keeps its tree and its ids.
 #[derive(Drop)]
-struct Made<S: Keep> {
-    tree: S::Kept,
-    point: Option<RaisedPoint>,
-    first: Option<S::Id>,
-    second: Option<S::Id>,
+pub(super) struct Made<S: Keep> {
+    pub(super) tree: S::Kept,
+    /// A point that the event raised, if one was found.
+    pub(super) point: Option<RaisedPoint>,
+    /// The ids that the event makes, which come behind those that the book has.
+    pub(super) first: Option<S::Id>,
+    pub(super) second: Option<S::Id>,
 }
 
 impl<S: Keep> Model for Made<S> {
@@ -102,14 +98,14 @@ impl<S: Keep> Draft<S> {
     pub(crate) fn tree(&self) -> &S::Kept
         ensures { S.Kept.tree result.now ≡ self.now.tree }
     {
-        &self.tree
+        &self.made.tree
     }
 
     /// A point that the event raised, if one was found.
     pub(crate) fn point(&self) -> Option<RaisedPoint>
         ensures { result ≡ self.now.point }
     {
-        self.point.as_ref().map(|point| point.share())
+        self.made.point.as_ref().map(|point| point.share())
     }
 
     /// The event that started the acting task, or 0.
@@ -124,7 +120,7 @@ impl<S: Keep> Draft<S> {
         ensures some { IfSome result (λ id. slice_get self.now.ids 0 ≡ Some (S.Id.id id.now)) }
         ensures none { IfNone result (self.now.ids ≡ []) }
     {
-        self.first.as_ref().or(self.second.as_ref())
+        self.made.first.as_ref().or(self.made.second.as_ref())
     }
 }
 
@@ -136,10 +132,12 @@ impl Draft<Arc<Shared>> {
     {
         Ok(Draft {
             row: self.row.share(),
-            tree: self.tree.share()?,
-            point: self.point(),
-            first: shared_id(&self.first)?,
-            second: shared_id(&self.second)?,
+            made: Made {
+                tree: self.made.tree.share()?,
+                point: self.point(),
+                first: shared_id(&self.made.first)?,
+                second: shared_id(&self.made.second)?,
+            },
             acting: self.acting,
             index: self.index,
             named: self.named,
@@ -283,15 +281,12 @@ impl<S: Keep> Book<S> {
         let place = self.id_count();
         Draft {
             row,
-            tree: made.tree,
-            point: made.point,
-            first: made.first,
-            second: made.second,
+            made,
             acting: report.acting_after(event, place),
             index: report.index,
             named: report.named_after(event, place),
-            place: report.place,
-            received: report.received,
+            place: report.named.place,
+            received: report.named.received,
         }
     }
 
@@ -306,11 +301,12 @@ impl<S: Keep> Book<S> {
             task: report.task,
             kind: report.kind,
             name: report.name,
-            preds: increasing(self.alloc, report.acting.last, report.second),
+            preds: increasing(self.alloc, report.acting.last, report.named.second),
         }
     }
 
     /// What the report's event knows, which is made with this id, and a point that the event raised.
+    #[inline(always)]
     fn tree_after(
         &self,
         report: &Report,
@@ -325,7 +321,7 @@ impl<S: Keep> Book<S> {
         let start = EvTree::leaf(0);
         let own = self.known(report.acting.last, &start);
         if takes_in(report.kind) {
-            let known = own.join(self.alloc, self.known(report.second, &start))?;
+            let known = own.join(self.alloc, self.known(report.named.second, &start))?;
             EvTree::event_with_point(self.alloc, id, &known)
         } else {
             EvTree::event_with_point(self.alloc, id, own)
@@ -372,30 +368,25 @@ impl<S: Keep> Book<S> {
         ensures room { OnOk result (HasRoom self.new) }
     {
         self.seed(rt)?;
-        self.make_room_for_events(1)?;
-        self.ids.reserve(2)?;
-        self.tasks.reserve(2)?;
-        self.messages.reserve(1)?;
-        Ok(())
+        self.make_room_for(Room {
+            events: 1,
+            receipts: 1,
+            ids: 2,
+            tasks: 2,
+            messages: 1,
+        })
     }
 
     /// Makes room on the stack for walks over the trees, if the report divides a deep id. No tree has more levels than some
     /// id.
     #[inline(always)]
     fn make_stack_room(&self, stack: &mut Stack, report: &Report) -> Result<(), Memory> {
-        if matches!(report.kind, Kind::Spawn) && self.tasks.len() >= Stack::LEVELS {
-            return self.make_room_below(stack, report.acting.id);
-        }
-        Ok(())
-    }
-
-    /// Makes room on the stack for walks over trees as deep as the id at this place.
-    #[inline(never)]
-    fn make_room_below(&self, stack: &mut Stack, place: usize) -> Result<(), Memory> {
-        if let Some(id) = self.ids.get(place) {
+        if matches!(report.kind, Kind::Spawn)
+            && self.tasks.len() >= Stack::LEVELS
+            && let Some(id) = self.ids.get(report.acting.id)
+        {
             // There are as many inner nodes as levels at least.
-            let levels = id.id_value().inner();
-            stack.make_room(self.alloc, levels as usize)?;
+            stack.make_room(self.alloc, id.id_value().inner() as usize)?;
         }
         Ok(())
     }

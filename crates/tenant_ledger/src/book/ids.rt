@@ -31,6 +31,7 @@ impl Ids {
     }
 
     /// Keeps the ids by the share.
+    #[inline(always)]
     pub(super) fn keep<R, S: Share<R>>(
         self,
         rt: &R,
@@ -65,7 +66,7 @@ impl<S: Keep> Book<S> {
                 let (kept, given) = self.id(report.acting.id).split(self.alloc)?;
                 Ok(Ids::Split(kept, given))
             }
-            Kind::Join => match report.joined {
+            Kind::Join => match report.named.joined {
                 Some(joined) => {
                     let own = self.id(report.acting.id);
                     Ok(Ids::Sum(own.sum(self.alloc, self.id(joined.id))?))

@@ -19,27 +19,20 @@ pub(super) struct Report {
     /// The acting task, and its place in the table of tasks.
     pub(super) acting: Task,
     pub(super) index: usize,
-    /// The event that it follows beside the acting task's last one, or 0.
-    pub(super) second: u64,
-    /// The task that it joins.
-    pub(super) joined: Option<Task>,
-    /// The message that it receives.
-    pub(super) received: Option<Message>,
-    /// The place of what it joins or receives in the table of tasks or of messages, or 0.
-    pub(super) place: usize,
+    pub(super) named: Named,
 }
 
 /// What the book has of the task or the message that a report names.
 #[derive(Clone, Copy)]
-struct Named {
+pub(super) struct Named {
     /// The event that the report follows for it, or 0.
-    second: u64,
+    pub(super) second: u64,
     /// The task that the report joins.
-    joined: Option<Task>,
+    pub(super) joined: Option<Task>,
     /// The message that it receives.
-    received: Option<Message>,
+    pub(super) received: Option<Message>,
     /// The place of what is joined or received in the table of tasks or of messages, or 0.
-    place: usize,
+    pub(super) place: usize,
 }
 
 impl Named {
@@ -77,7 +70,7 @@ impl Report {
     #[inline(always)]
     pub(super) fn named_after(&self, event: u64, place: usize) -> Option<Task>
         requires { place < 18446744073709551615 }
-        ensures { result ≡ named_after self.now.kind event place self.now.joined }
+        ensures { result ≡ named_after self.now.kind event place self.now.named.joined }
     {
         match self.kind {
             Kind::Local | Kind::Send | Kind::Recv | Kind::End => None,
@@ -87,7 +80,7 @@ impl Report {
                 start: event,
                 id: place + 1,
             }),
-            Kind::Join => match self.joined {
+            Kind::Join => match self.named.joined {
                 Some(task) => Some(Task {
                     state: TaskState::Joined,
                     ..task
@@ -253,10 +246,7 @@ impl<S: Keep> Book<S> {
             name: reported.name,
             acting: *acting,
             index,
-            second: named.second,
-            joined: named.joined,
-            received: named.received,
-            place: named.place,
+            named,
         })
     }
 }

@@ -1,6 +1,6 @@
 use Rattle.std.proofs.Common.{◌≡◌, suc, ◌+◌, ◌<◌, ◌∷◌, [], ◌++◌, length, map, option_to_list, refl, ap, ◌∙◌, arith}
 use Rattle.indexmap.specs.IndexMap.{insert_entry}
-use Rattle.tenant_ledger.specs.Ledger.{entries_with, noted_after, with_key}
+use Rattle.tenant_ledger.specs.Ledger.{Event, Made, entries_with, noted_after, with_key}
 use Rattle.tenant_ledger.proofs.Words.{map-append, append_assoc, length-append, length-map, length-reverse, history_of, is_same, Contents, with_seed}
 use Rattle.tenant_ledger.proofs.keeping.Lists.{seeded-append}
 use Rattle.tenant_ledger.proofs.keeping.Tables.{committed}
@@ -13,23 +13,26 @@ returns-clause-book g c =
     let id = g.S.Id.MeantId.id in
     let book = c.self.inside in
     let draft = c.draft.inside in
-    let made = option_to_list draft.first ++ option_to_list draft.second in
+    let of_made : Made → Event =
+    λ made. record { home = made.home; row = draft.row; tree = made.tree; point = made.point; ids = made.ids; acting = draft.acting; named = draft.named; received = draft.received } in
+    let kept = c.made.inside in
+    let made = option_to_list kept.first ++ option_to_list kept.second in
     let seeded = ap (λ (one : Contents). one.kept_ids) c.self.view_is in
     let ids : c.add_some-2.new.items.items ≡ book.ids.items ++ made =
-    c.add_some-2.ensures.items ∙ ap (λ ids. ids ++ option_to_list draft.second) c.add_some.ensures.items ∙ append_assoc book.ids.items _ _ in
+    c.add_some-2.ensures.items ∙ ap (λ ids. ids ++ option_to_list kept.second) c.add_some.ensures.items ∙ append_assoc book.ids.items _ _ in
     let count : length c.add_some-2.new.items.items ≡ length book.ids.items + length (map id made) =
     omega (arith, ap length ids, length-append book.ids.items made, length-map made id) in
     let some : 0 < length book.ids.items = omega (arith, c.requires.seeded, seeded) in
     let noted : c.noted_after-noted.result ≡ noted_after draft.row.kind (suc (length (history_of book.rows.items))) draft.received =
     c.noted_after-noted.ensures ∙ ap (λ event. noted_after draft.row.kind event draft.received) (omega (arith, length-reverse book.rows.items)) in
-    committed _ c.draft.view_is c.self.view_is refl refl c.push_reserved.ensures.items
-    (ap (map tree) c.push_reserved-2.ensures.items ∙ map-append tree book.trees.items (draft.tree ∷ []))
-    (ap (map home) c.push_reserved-2.ensures.items ∙ map-append home book.trees.items (draft.tree ∷ []))
+    committed _ (ap of_made c.made.view_is ∙ c.draft.view_is) c.self.view_is refl refl c.push_reserved.ensures.items
+    (ap (map tree) c.push_reserved-2.ensures.items ∙ map-append tree book.trees.items (kept.tree ∷ []))
+    (ap (map home) c.push_reserved-2.ensures.items ∙ map-append home book.trees.items (kept.tree ∷ []))
     c.push_reserved-3.ensures.items
     c.push_reserved-4.ensures.items
     c.push_reserved-5.ensures.items
     (c.push_reserved-6.ensures.items ∙ ap (λ last. book.earlier.items ++ last ∷ []) c.last_in.ensures)
-    (c.add_receipt.ensures.keys ∙ ap (λ key. with_key key book.received.keys) c.key_by.ensures)
+    (c.add_receipt.ensures.keys ∙ ap (λ key. with_key key book.received.keys) c.key_by-receipt.ensures)
     (ap (λ ids. with_seed (map id ids)) ids ∙ seeded-append id book.ids.items made some)
     count
     (c.put.ensures.entries ∙ ap (λ entries. insert_entry is_same entries draft.row.task draft.acting) c.put_some.ensures.entries)
