@@ -30,8 +30,14 @@ pub fn answer<S: Keep, C: Compare<S::Kept>>(book: &Book<S>, compare: &C, request
 {
     // The compiler zeroes all locals of a function on entry. The two short answers do without those of the others.
     match *request {
-        Request::Order(first, second) => order(book, compare, first, second),
-        Request::Count => count(book),
+        Request::Order(first, second) => match order_of(book, compare, first, second) {
+            Ok(order) => Reply::Ordering(order),
+            Err(code) => Reply::Refused(code),
+        },
+        Request::Count => {
+            let (events, tasks, messages) = counts_of(book);
+            Reply::Count(events, tasks, messages)
+        }
         _ => answer_at_length(book, request),
     }
 }
@@ -76,24 +82,6 @@ pub fn order_of<S: Keep, C: Compare<S::Kept>>(
     match trace_query::order(compare, book.trees(), first, second) {
         Ok(order) => Ok(order),
         Err(fault) => Err(code_of(fault)),
-    }
-}
-
-/// How the first event stands to the second.
-#[inline(always)]
-fn order<S: Keep, C: Compare<S::Kept>>(
-    book: &Book<S>,
-    compare: &C,
-    first: u64,
-    second: u64,
-) -> Reply
-    requires sound { IsKept book.now }
-    requires admitted { (kept : S.Kept) → S.home_of kept ≡ book.now.home → C.admits compare.now kept }
-    ensures { result ≡ reply_to_view (tenant_of book.now) (Request.Order first second) }
-{
-    match order_of(book, compare, first, second) {
-        Ok(order) => Reply::Ordering(order),
-        Err(code) => Reply::Refused(code),
     }
 }
 
@@ -196,16 +184,6 @@ fn message<S: Keep>(book: &Book<S>, name: &Name) -> Reply
         Ok(None) => Reply::Refused(Code::NoMessage),
         Err(Memory) => Reply::Refused(Code::NoMemory),
     }
-}
-
-/// How many events, tasks ever and messages there are.
-#[inline(always)]
-fn count<S: Keep>(book: &Book<S>) -> Reply
-    requires { IsKept book.now }
-    ensures { result ≡ reply_to_view (tenant_of book.now) Request.Count }
-{
-    let (events, tasks, messages) = counts_of(book);
-    Reply::Count(events, tasks, messages)
 }
 
 /// How many events, tasks ever and messages there are.
