@@ -20,8 +20,8 @@ use trace_types::{Code, Limits, Memory, Name, Reply, Request};
 
 /// The desk of a tenant. It alone takes the tenant's reports, and shows the accepted ones to its [`Views`].
 ///
-/// Contracts see the tenant, the rows that are shown, the log that has them, and where its trees are kept. A desk cannot be dropped: end it by
-/// [`Desk::close`].
+/// Contracts see the tenant, the rows that are shown, the log that has them, and where its trees are kept. A desk cannot be
+/// dropped: end it by [`Desk::close`].
 pub struct Desk {
     publisher: Publisher,
     /// The stack, on which the trees are walked over.
@@ -65,7 +65,7 @@ impl Desk {
         ensures book { self.new.book ≡ self.old.book }
         ensures home { self.new.home ≡ self.old.home }
     {
-        if request.reported().is_some() {
+        if request.is_report() {
             self.report(rt, request, reply);
         } else {
             self.ask(request, reply);

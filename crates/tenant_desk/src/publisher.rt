@@ -60,6 +60,7 @@ impl Model for Publisher {
 pub(crate) const VIEWS: usize = 8;
 
 /// Shows what the operation makes, and says whether it did. It does not if it runs out of memory.
+#[inline(always)]
 fn show<R: Wait>(rt: &R, writer: &mut DeskWriter, operation: Operation) -> bool
     requires waiting { drop writer.old.behind writer.old.log.items ≡ [] }
     requires operation { IsFor writer.old.desk.shown.value operation }
@@ -74,6 +75,7 @@ fn show<R: Wait>(rt: &R, writer: &mut DeskWriter, operation: Operation) -> bool
 }
 
 /// Shows again what is shown, and says whether it did. It does not if it runs out of memory.
+#[inline(never)]
 #[tactic(auto, using(crate::proofs::Publishing::is_for_none))]
 fn show_again<R: Wait>(rt: &R, writer: &mut DeskWriter) -> bool
     requires sound { IsPublished writer.old.desk.shown.value }
