@@ -31,6 +31,11 @@ abbrev pub order_answer : Result Order Code → Reply
 order_answer (Ok order) = reply.Ordering order
 order_answer (Err code) = reply.Refused code
 
+-- the reply that tells the number of a report's event, or why the report is refused
+abbrev pub taken_answer : Result ℕ Code → Reply
+taken_answer (Ok event) = reply.Accepted event
+taken_answer (Err code) = reply.Refused code
+
 -- the request is one whose answer is short
 abbrev pub is_brief : Request → Bool
 is_brief (request.Order first second) = true

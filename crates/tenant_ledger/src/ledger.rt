@@ -7,7 +7,7 @@ ghost use Rattle.trace_types.specs.clock.Size.{inner_of_id, inner_of_tree};
 ghost use Rattle.trace_types.specs.clock.Stamps.{stamp_of, tree_of};
 ghost use Rattle.trace_types.specs.tenant.Tenant.{fresh, step, Steps, Answers, AreLegal, is_report, with_row};
 ghost use Rattle.event_tree.specs.Comparison.{StandsAs};
-ghost use Rattle.tenant_ledger.specs.Answers.{order_answer};
+ghost use Rattle.tenant_ledger.specs.Answers.{order_answer, taken_answer};
 ghost use Rattle.tenant_ledger.specs.Size.{AreShort, AreSized, HaveShortParts, IsShort, NestBySpawns, spawns_up_to};
 
 use crate::book::Book;
@@ -137,15 +137,29 @@ impl<S: Keep> Ledger<S> {
         ensures sizes { AreSized self.new.rows }
         ensures short { IsShort self.old.rows request.now result }
     {
+        // For the proof: it says that the rows are legal.
+        let _ = &self.book;
         self.size();
         laws::size();
         if !request.is_report() {
             return self.answer(request);
         }
-        match self.book.take(rt, &mut self.stack, request) {
+        match self.take(rt, request) {
             Ok(event) => Reply::Accepted(event),
             Err(code) => Reply::Refused(code),
         }
+    }
+
+    /// Takes one report as [`Ledger::report`] does. It gives the number of the event, or the code of the refusal.
+    #[inline(always)]
+    pub fn take<R>(&mut self, rt: &R, request: &Request) -> Result<u64, Code>
+    where
+        S: Share<R>,
+        requires { is_report request.now ≡ true }
+        ensures steps { Steps self.old request.now (taken_answer result) self.new }
+        ensures legal { AreLegal self.new.limits self.new.rows }
+    {
+        self.book.take(rt, &mut self.stack, request)
     }
 
     /// How the first event stands to the second, as [`Ledger::report`] answers. It takes no memory.

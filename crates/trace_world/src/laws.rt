@@ -8,7 +8,7 @@ ghost use Rattle.trace_world.specs.Isolation.{due_replies, replies_to_tenant, li
 
 use crate::World;
 
-/// Isolation of the calls that [`World::step`] does.
+/// Isolation of the calls that [`World::step`] and [`World::take`] do.
 ///
 /// However the calls of all tenants are mixed, the replies that are due to one tenant are those that its own requests
 /// alone give. Calls that ran out of memory are left out: they changed nothing, and nothing is said of when memory lacks.

@@ -3,10 +3,10 @@
 //! Use it to answer a stream of lines of many tenants, or to write the export of one of them.
 //!
 //! The law that carries it is tenant isolation. A tenant gets the replies that its own requests alone give, whatever the
-//! other tenants ask and however all are mixed. It holds of steps ([`World::step`]) and of bytes ([`replay`]).
-//! [`laws::isolation`] and [`laws::isolation_in_bytes`] say what it comes to. [`replay_export`] writes the export of what
-//! one tenant's own requests leave, in place of replies. The words are defined in `Interleaving`, `Replay` and `World` of
-//! `trace_types`, and in `Replayed` and `Exported` of this crate's `specs/`.
+//! other tenants ask and however all are mixed. It holds of steps ([`World::step`], [`World::take`]) and of bytes
+//! ([`replay`]). [`laws::isolation`] and [`laws::isolation_in_bytes`] say what it comes to. [`replay_export`] writes the
+//! export of what one tenant's own requests leave, in place of replies. The words are defined in `Interleaving`, `Replay`
+//! and `World` of `trace_types`, and in `Replayed` and `Exported` of this crate's `specs/`.
 //!
 //! ```
 //! use trace_types::{Limits, Name};

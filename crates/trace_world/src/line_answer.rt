@@ -3,6 +3,7 @@ ghost use Rattle.std.specs.Prelude.{◌≡◌, ◌<◌, Some, false, length};
 ghost use Rattle.std.specs.Option.{option_copied};
 ghost use Rattle.trace_types.specs.text.Lines.{is_too_long};
 ghost use Rattle.trace_types.specs.text.Reading.{request_of};
+ghost use Rattle.tenant_ledger.specs.Answers.{taken_answer};
 ghost use Rattle.trace_world.specs.Answered.{AnswersFound, AnswersRequest, CarriesOut, TellsReply, code_to_nobody};
 ghost use Rattle.trace_world.specs.Counted.{CanCount};
 
@@ -69,8 +70,29 @@ fn answer_at_length<R: Wait, W: Sink>(
     if let Request::Stamp(event) = request {
         return tell_stamp(writer, counts, world, tenant, event);
     }
+    if request.is_report() {
+        let taken = world.take(rt, tenant, &request);
+        return tell_taken(writer, counts, world.name(tenant).as_bytes(), taken);
+    }
     let reply = world.step(rt, tenant, &request);
     tell(writer, counts, world.name(tenant).as_bytes(), &reply)
+}
+
+/// Tells the number of a report's event, or why the report is refused.
+#[inline(always)]
+fn tell_taken<W: Sink>(
+    writer: &mut W,
+    counts: &mut Counts,
+    to: &[u8],
+    taken: Result<u64, Code>,
+) -> Result<(), WriteFault>
+    requires { CanCount counts.old }
+    ensures { TellsReply (W.seen writer.old) (W.seen writer.new) to.now (taken_answer taken) counts.old counts.new result }
+{
+    match taken {
+        Ok(event) => tell(writer, counts, to, &Reply::Accepted(event)),
+        Err(code) => refuse(writer, counts, to, code),
+    }
 }
 
 /// Tells the tenant how many events, tasks and messages it has.

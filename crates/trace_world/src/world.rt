@@ -2,9 +2,10 @@
 ghost use Rattle.std.specs.Prelude.{◌≡◌, ◌↔◌, ◌<◌, ℕ, true, false, [], length, map, Some, slice_get, IfOk, IfSome, IsErrOf, IsTrue};
 ghost use Rattle.trace_types.specs.text.Name.{is_name};
 ghost use Rattle.order_cache.specs.Capacity.{IsCapacity};
-ghost use Rattle.trace_types.specs.tenant.Tenant.{fresh};
+ghost use Rattle.trace_types.specs.tenant.Tenant.{fresh, is_report};
 ghost use Rattle.trace_types.specs.world.Replay.{place_of};
 ghost use Rattle.trace_types.specs.world.World.{StepsOne, IsAfter, IsDue};
+ghost use Rattle.tenant_ledger.specs.Answers.{taken_answer};
 ghost use Rattle.trace_world.specs.Exported.{IsHeaderOf};
 ghost use Rattle.trace_world.specs.Tenants.{IsLedTo, IsShortAt, IsWorld, StepsAt, can_be_tenants};
 
@@ -13,7 +14,7 @@ use std::marker::Model;
 use std::sync::{Arc, Wait};
 use tenant_ledger::{Ledger, Shared};
 use trace_export::Header;
-use trace_types::{Limits, Memory, Name, Reply, Request, TenantNames, WorldFault};
+use trace_types::{Code, Limits, Memory, Name, Reply, Request, TenantNames, WorldFault};
 
 /// The ledger of a tenant that keeps its ids and trees together with all others.
 pub(crate) type SharedLedger = Ledger<Arc<Shared>>;
@@ -158,6 +159,19 @@ impl World {
     {
         report(rt, &mut self.ledgers, tenant, request)
     }
+
+    /// Takes one report of the tenant at this place as [`World::step`] does. It gives the number of the event, or the code of
+    /// the refusal.
+    pub fn take<R: Wait>(&mut self, rt: &R, tenant: usize, request: &Request) -> Result<u64, Code>
+        requires tenant { tenant < length self.old.tenants }
+        requires report { is_report request.now ≡ true }
+        ensures step { StepsOne self.old tenant request.now (taken_answer result) self.new }
+        ensures due { IsDue self.old tenant request.now (taken_answer result) self.new }
+        // There are such calls as `due` speaks of, whatever the world.
+        ensures led { IsLedTo self.old }
+    {
+        take(rt, &mut self.ledgers, tenant, request)
+    }
 }
 
 /// The ledgers of tenants of these names that have reported nothing.
@@ -185,4 +199,19 @@ fn report<R: Wait>(rt: &R, ledgers: &mut [SharedLedger], tenant: usize, request:
 {
     let ledger = &mut ledgers[tenant];
     ledger.report(rt, request)
+}
+
+/// Takes one report of the tenant whose ledger stands at this place.
+#[inline(always)]
+fn take<R: Wait>(
+    rt: &R,
+    ledgers: &mut [SharedLedger],
+    tenant: usize,
+    request: &Request,
+) -> Result<u64, Code>
+    requires tenant { tenant < length ledgers.old }
+    requires report { is_report request.now ≡ true }
+    ensures step { StepsAt ledgers.old tenant request.now (taken_answer result) ledgers.new }
+{
+    ledgers[tenant].take(rt, request)
 }
