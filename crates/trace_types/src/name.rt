@@ -19,7 +19,7 @@ use std::marker::Model;
 pub struct Name {
     /// The text, and then zeros.
     bytes: [u8; Name::MOST],
-    pub(crate) len: usize,
+    pub(crate) len: u8,
 }
 
 impl Model for Name {
@@ -51,7 +51,7 @@ impl Name {
         if is_name(text) {
             Some(Name {
                 bytes: padded(text),
-                len: text.len(),
+                len: text.len() as u8,
             })
         } else {
             None
@@ -73,7 +73,7 @@ impl Name {
         ensures text { result.now ≡ self.now }
         ensures name { IsTrue (is_name self.now) }
     {
-        &self.bytes[..self.len]
+        &self.bytes[..self.len as usize]
     }
 }
 
