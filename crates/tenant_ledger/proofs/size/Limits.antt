@@ -16,13 +16,13 @@ use Rattle.tenant_ledger.specs.Size.{IsWithinLimits, spawns_up_to}
 use Rattle.tenant_ledger.proofs.size.Stamps.{spawn_count-cons}
 
 -- there is room for the row, if there is one
-abbrev HasRoomFor : Limits → History → Option Row → Type 0
-HasRoomFor limits history None = Unit {0}
-HasRoomFor limits history (Some row) = (length history < limits.events) × (spawn_count history + cond (starts_task row.kind) 1 0 < limits.tasks)
+abbrev MayAdd : Limits → History → Option Row → Type 0
+MayAdd limits history None = Unit {0}
+MayAdd limits history (Some row) = (length history < limits.events) × (spawn_count history + cond (starts_task row.kind) 1 0 < limits.tasks)
 
 -- so there is for the row of a request that is not refused
 has_room : (limits : Limits) (history : History) (request : Request) → spawn_count history < limits.tasks → refusal_of limits history request ≡ None
-    → HasRoomFor limits history (answer_to history request).1
+    → MayAdd limits history (answer_to history request).1
 has_room limits history Count few none = tt
 has_room limits history request few none = grind (arith, nat_tests)
 
@@ -30,7 +30,7 @@ within_after_step : (tenant : Tenant) (request : Request) → IsWithinLimits ten
     → IsWithinLimits tenant.limits (history_of (step tenant request).1.rows)
 within_after_step tenant request within = by (refusal_of tenant.limits (history_of tenant.rows) request) refl
   where
-    with : (row : Option Row) → HasRoomFor tenant.limits (history_of tenant.rows) row → IsWithinLimits tenant.limits (history_of (with_row tenant row).rows)
+    with : (row : Option Row) → MayAdd tenant.limits (history_of tenant.rows) row → IsWithinLimits tenant.limits (history_of (with_row tenant row).rows)
     with None room = within
     with (Some row) room =
         let one_more = spawn_count-cons row (history_of tenant.rows) in
