@@ -25,8 +25,8 @@ from .rewrite import PREFIX
 PICKLERS = frozenset(("cloudpickle", "cloudpickle_fast", "_dill"))
 """The last names of modules that pickle code by value. Other packages carry copies of them."""
 TABLES = ("_dispatch_table", "dispatch_table", "dispatch")
-FINDERS_OF_NAMES = {"dill.detect": "globalvars"}
-"""Functions that give what the names in a function's code stand for, by the modules that have them."""
+FINDERS_OF_NAMES = {"dill.detect": "nestedglobals"}
+"""Functions that give the names in a function's code, by the modules that have them."""
 _MOST_WITHIN = 4
 
 _plain: dict[str, dict[Any, CodeType]] = {}
@@ -112,7 +112,7 @@ def _have_plain_sent(module: ModuleType) -> None:
 
 def _without_hooks(find: Callable[..., Any]) -> Callable[..., Any]:
     def found(*words: Any, **named: Any) -> Any:
-        return {name: value for name, value in find(*words, **named).items() if not name.startswith(PREFIX)}
+        return {name for name in find(*words, **named) if not name.startswith(PREFIX)}
 
     return found
 
@@ -120,7 +120,7 @@ def _without_hooks(find: Callable[..., Any]) -> Callable[..., Any]:
 def _tables_of(module: ModuleType) -> Iterator[dict[Any, Any]]:
     for kind in list(vars(module).values()):
         if isinstance(kind, type):
-            yield from (vars(kind)[name] for name in TABLES if type(vars(kind).get(name)) is dict)
+            yield from (vars(kind)[name] for name in TABLES if isinstance(vars(kind).get(name), dict))
 
 
 def _of_plain(reduce: Callable[..., Any]) -> Callable[..., Any]:
