@@ -1278,13 +1278,20 @@ def _touch_method_inside(one: Any, site: int) -> None:
         _touch_method(one, site, ANYBODY)
 
 
+FOLLOWED: tuple[type, ...] = (
+    object, list, dict, bytearray, defaultdict, types.CellType, enumerate, filter, map, reversed, zip, type({}.keys()), type({}.values()),
+    type({}.items()), type(iter([])), type(reversed([])), type(iter({})), type(iter({}.values())), type(iter({}.items())), type(iter(bytearray())),
+)
+"""Types of which the helper sees that an object is gone. It need not hold one that cannot be referred to weakly."""
+
+
 def _set_up() -> None:
     quick.setup(
         stretches=STRETCHES, state=state, made=MADE, begun=BEGUN, begun_more=OF_VARIABLE - 1 - OF_VARIABLE_IN_C, never=NEVER,
         owner_type=Owner, made_type=Made, maker=maker_now, begin_stretch=begin_stretch, share=share, shorten=shorten, saw=saw,
         note_shared=note_shared, what_of=lambda hook, kind, site: _what_of(hook, kind, site), failed=failed,
         field=lambda one, site: _touch_field(one, site), whole=lambda one, site, is_own: _touch_whole(one, site, NOBODY if is_own else ANYBODY),
-        nested=lambda one, site: _touch_nested(one, site), fields_of=FIELDS_OF, method=_touch_method_inside,
+        nested=lambda one, site: _touch_nested(one, site), fields_of=FIELDS_OF, followed=FOLLOWED, method=_touch_method_inside,
         steps=lambda one, site, is_own: _stepping(one, site, NOBODY if is_own else ANYBODY),
         keyed=lambda one, key, site: _touch_keyed(one, key, site, ANYBODY), variable=lambda site: _touch_variable(site),
         cell=lambda one, site: _touch_cell(one, site), went_on=lambda owner, site: _went_on(owner, site),

@@ -32,6 +32,7 @@ static struct {
     PyObject *what_of;        /* What a place is to a type. */
     PyObject *failed;
     PyObject *fields_of;      /* Whose fields some dictionaries have. */
+    PyObject *followed;       /* Types whose objects need not be held: they may be seen to go. */
     PyObject *field, *whole, *nested, *method, *steps, *keyed, *variable, *cell, *went_on, *second;  /* What is done for the rest. */
     long long begun_more;     /* How many references more the beginning of a constructor counts. */
 } given;
@@ -375,6 +376,104 @@ static int hold(PyObject *one)
     return 0;
 }
 
+/* What tells by how its type frees it that it is gone, and so is not held. The types are those that the Python part has named. A list and
+   a dict go one after another where they are nested deeply, as they do without this: what they are freed by looks for its own name in
+   the type, and finds the one of here. */
+
+#define MOST_FOLLOWED 64
+
+static struct {
+    PyTypeObject *type;
+    destructor plain;
+} followed[MOST_FOLLOWED];
+
+static size_t followed_types;
+static PyInterpreterState *home;
+
+static destructor plain_of(PyTypeObject *type)
+{
+    for (; type != NULL; type = type->tp_base)
+        for (size_t place = 0; place < followed_types; place++)
+            if (followed[place].type == type)
+                return followed[place].plain;
+    return NULL;
+}
+
+static void leave_freed(Owner *owner)
+{
+    PyObject *type, *fault, *trace;
+    PyErr_Fetch(&type, &fault, &trace);
+    if (leave_owner(owner) < 0)
+        PyErr_Clear();
+    Py_DECREF((PyObject *)owner);
+    PyErr_Restore(type, fault, trace);
+}
+
+/* No code runs before the object is freed, but what frees it. */
+static void freed_by(PyObject *one, destructor plain)
+{
+    Owner *owner = table.used == 0 || PyThreadState_Get()->interp != home ? NULL : take_owner(one);
+    plain(one);
+    if (owner != NULL)
+        leave_freed(owner);
+}
+
+static void freed(PyObject *one)
+{
+    freed_by(one, plain_of(Py_TYPE(one)));
+}
+
+static destructor plain_of_object;
+
+static void freed_object(PyObject *one)
+{
+    freed_by(one, plain_of_object);
+}
+
+#define FREED_IN_TURN(kind)                         \
+    static destructor plain_of_##kind;             \
+                                                    \
+    static void freed_##kind(PyObject *one)        \
+    {                                               \
+        PyObject_GC_UnTrack(one);                   \
+        Py_TRASHCAN_BEGIN(one, freed_##kind)        \
+        freed_by(one, plain_of_##kind);             \
+        Py_TRASHCAN_END                             \
+    }
+
+FREED_IN_TURN(list)
+FREED_IN_TURN(dict)
+
+static destructor freed_as(PyTypeObject *type)
+{
+    destructor *plain = type == &PyList_Type ? &plain_of_list : type == &PyDict_Type ? &plain_of_dict
+        : type == &PyBaseObject_Type ? &plain_of_object : NULL;
+    if (plain == NULL)
+        return freed;
+    *plain = type->tp_dealloc;
+    return type == &PyList_Type ? freed_list : type == &PyDict_Type ? freed_dict : freed_object;
+}
+
+/* Whether objects of a type tell that they are gone. A class of the program is freed by the first of its bases that is none. */
+static int is_followed(PyTypeObject *type)
+{
+    destructor of_classes = ((PyTypeObject *)given.owner_type)->tp_dealloc;
+    while (type != NULL && type->tp_dealloc == of_classes)
+        type = type->tp_base;
+    if (type == NULL)
+        return 0;
+    for (size_t place = 0; place < followed_types; place++)
+        if (followed[place].type == type)
+            return 1;
+    if (followed_types == MOST_FOLLOWED || PySequence_Contains(given.followed, (PyObject *)type) <= 0)
+        return 0;
+    followed[followed_types].type = type;
+    followed[followed_types].plain = type->tp_dealloc;
+    followed_types++;
+    type->tp_dealloc = freed_as(type);
+    return 1;
+}
+
 static void let_go_of_all(void)
 {
     while (held.count > 0)
@@ -479,7 +578,7 @@ static Owner *new_owner(PyObject *one, PyObject *name)
             owner->maker = Py_NewRef(PyTuple_GET_ITEM(made, 3));
         }
     }
-    int is_weak = PyType_SUPPORTS_WEAKREFS(type);
+    int is_weak = PyType_SUPPORTS_WEAKREFS(type), is_held = !is_weak && !is_followed(type);
     if (is_weak ? (owner->reference = PyWeakref_NewRef(one, (PyObject *)owner)) == NULL : let_go_of_some(LOOKED_THROUGH) < 0)
         goto fail;
     Owner *first = find_owner(one);  /* Another task may have come meanwhile. */
@@ -487,7 +586,7 @@ static Owner *new_owner(PyObject *one, PyObject *name)
         Py_INCREF((PyObject *)first);
         Py_CLEAR(owner->reference);
         Py_SETREF(owner, first);
-    } else if ((!is_weak && hold(one) < 0) || add_owner(one, owner) < 0)
+    } else if ((is_held && hold(one) < 0) || add_owner(one, owner) < 0)
         goto fail;
     Py_DECREF(key);
     return owner;
@@ -1225,13 +1324,13 @@ static PyObject *setup(PyObject *self, PyObject *words, PyObject *named)
 {
     static char *names[] = {
         "stretches", "state", "made", "begun", "begun_more", "never", "owner_type", "made_type", "maker", "begin_stretch", "share",
-        "shorten", "saw", "note_shared", "what_of", "failed", "fields_of", "field", "whole", "nested", "method", "steps", "keyed", "variable", "cell",
+        "shorten", "saw", "note_shared", "what_of", "failed", "fields_of", "followed", "field", "whole", "nested", "method", "steps", "keyed", "variable", "cell",
         "went_on", "second", NULL,
     };
     PyObject **objects[] = {
         &given.stretches, &given.state, &given.made, &given.begun, NULL, &given.never, &given.owner_type, &given.made_type,
         &given.maker, &given.begin_stretch, &given.share, &given.shorten, &given.saw, &given.note_shared, &given.what_of, &given.failed,
-        &given.fields_of, &given.field, &given.whole, &given.nested, &given.method, &given.steps, &given.keyed, &given.variable, &given.cell,
+        &given.fields_of, &given.followed, &given.field, &given.whole, &given.nested, &given.method, &given.steps, &given.keyed, &given.variable, &given.cell,
         &given.went_on, &given.second,
     };
     for (size_t place = 0; names[place] != NULL; place++) {
@@ -1245,6 +1344,7 @@ static PyObject *setup(PyObject *self, PyObject *words, PyObject *named)
     }
     if (PyErr_Occurred())
         return NULL;
+    home = PyInterpreterState_Get();
     Py_RETURN_NONE;
 }
 
