@@ -19,7 +19,7 @@ from . import handed, hooks, leaving, passed_over, things
 from .commands import own_program
 from .finder import UNWATCHED, Finder, Selection, with_hooks
 from .loaded import Prepare, folder_of_main, rewrite_loaded
-from .unwatched import files_without_hooks
+from .unwatched import files_without_hooks, touches_lost
 
 __all__ = ["Prepare", "begin", "code_of", "end", "program_of", "unwatched", "watch", "watch_loaded", "watch_main", "watch_path_runs"]
 
@@ -130,7 +130,7 @@ def is_on() -> bool:
 
 def unwatched() -> list[Unseen]:
     """What of the program was to be watched, and was not."""
-    return [] if _finder is None else [*UNWATCHED, *files_without_hooks(_finder.selection)]
+    return [] if _finder is None else [*UNWATCHED, *files_without_hooks(_finder.selection), *touches_lost()]
 
 
 def not_looked_into() -> list[PassedOver]:
