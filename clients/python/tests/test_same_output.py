@@ -6,6 +6,8 @@ import re
 import unittest
 from pathlib import Path
 
+from itc_trace.watch.helper import quick
+
 from .same import FORMS, outcome
 from .support import PACKAGE
 
@@ -146,6 +148,21 @@ def of_file() -> dict[str, str]:
     return dict(zip(parts[1::2], parts[2::2]))
 
 
+COLLECTED = """
+import gc, threading
+class R:
+    def __del__(self): print("gone")
+def work():
+    items, lock = [R()], threading.Lock()
+    def add():
+        with lock: items.append(1)
+    threads = [threading.Thread(target=add) for _ in range(2)]
+    for one in threads: one.start()
+    for one in threads: one.join()
+work()
+gc.collect()
+print("collected")
+"""
 IN_C = " in C"
 PROGRAMS = {**{f"expression{number}": of_expression(line) for number, line in enumerate(EXPRESSIONS.strip().splitlines())}, **of_file()}
 
@@ -157,7 +174,7 @@ class SameOutput(unittest.TestCase):
         programs = {name.removesuffix(IN_C): text for name, text in PROGRAMS.items()}
         plain = outcome(programs, None)
         self.assertEqual((list(plain.written), plain.status), (list(programs), 0), plain.said)
-        for form in FORMS:
+        for form in FORMS if quick is not None else ["in Python"]:
             chosen = {name.removesuffix(IN_C): text for name, text in PROGRAMS.items() if not name.endswith(IN_C) or form == "in C"}
             traced = outcome(chosen, form)
             self.assertRegex(traced.said, r"itc_trace: no race in this run.*: [1-9]\d* places of [1-9]\d* things?")
@@ -165,6 +182,10 @@ class SameOutput(unittest.TestCase):
                 with self.subTest(hooks=form, program=name):
                     self.assertEqual(traced.written.get(name), plain.written[name], text)
             self.assertNotIn(str(PACKAGE), "".join(traced.written.values()), "a frame of the package")
+
+    def test_with_hooks_in_python_the_next_collection_lets_go_of_a_shared_list(self) -> None:
+        traced = outcome({"program": COLLECTED}, "in Python")
+        self.assertEqual(traced.written["program"], "gone\ncollected\n", traced.said)
 
 
 if __name__ == "__main__":

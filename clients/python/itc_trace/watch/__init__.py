@@ -2,6 +2,7 @@
 
 from __future__ import annotations
 
+import gc
 import importlib.machinery
 import importlib.util
 import os
@@ -37,6 +38,7 @@ def watch(folders: Sequence[str], packages: Sequence[str] = ()) -> None:
     if _finder is None:
         hooks.put_for_the_end()
         leaving.begin()
+        gc.callbacks.append(things.collecting)
     else:
         sys.meta_path.remove(_finder)  # type: ignore[arg-type]
     _finder = Finder(Selection(folders, [name for name in packages if not _is_traced_as_a_whole(name)]))

@@ -1282,9 +1282,12 @@ def _touch_method_inside(one: Any, site: int) -> None:
         _touch_method(one, site, ANYBODY)
 
 
+_EMPTY: tuple[Any, ...] = ([], {}, set(), deque(), bytearray(), (), array("b"), {}.keys(), {}.values(), {}.items())
 FOLLOWED: tuple[type, ...] = (
-    object, list, dict, bytearray, defaultdict, types.CellType, enumerate, filter, map, reversed, zip, type({}.keys()), type({}.values()),
-    type({}.items()), type(iter([])), type(reversed([])), type(iter({})), type(iter({}.values())), type(iter({}.items())), type(iter(bytearray())),
+    object, bytearray, defaultdict, types.CellType, types.SimpleNamespace, enumerate, filter, map, reversed, zip, *map(type, _EMPTY[:2]), *map(type, _EMPTY[7:]),
+    *(type(iter(one)) for one in _EMPTY), *(type(reversed(one)) for one in ([], {}, deque(), {}.keys(), {}.values(), {}.items())),
+    *(one for one in vars(itertools).values() if type(one) is type and one is not itertools.tee),
+    *(one for one in vars(builtins).values() if type(one) is type and issubclass(one, BaseException)),
 )
 """Types of which the helper sees that an object is gone. It need not hold one that cannot be referred to weakly."""
 

@@ -377,11 +377,10 @@ static int hold(PyObject *one)
     return 0;
 }
 
-/* What tells by how its type frees it that it is gone, and so is not held. The types are those that the Python part has named. A list and
-   a dict go one after another where they are nested deeply, as they do without this: what they are freed by looks for its own name in
-   the type, and finds the one of here. */
+/* What tells by how its type frees it that it is gone, and so is not held. The types are those that the Python part has named. Lists, dicts
+   and faults that are nested deeply go one after another. The interpreter does so too, but only where the type has not been changed. */
 
-#define MOST_FOLLOWED 64
+#define MOST_FOLLOWED 256
 
 static struct {
     PyTypeObject *type;
@@ -445,8 +444,20 @@ static void freed_object(PyObject *one)
 FREED_IN_TURN(list)
 FREED_IN_TURN(dict)
 
+static destructor plain_of_faults;
+
+static void freed_fault(PyObject *one)
+{
+    PyObject_GC_UnTrack(one);
+    Py_TRASHCAN_BEGIN(one, freed_fault)
+    freed_by(one, plain_of(Py_TYPE(one)));
+    Py_TRASHCAN_END
+}
+
 static destructor freed_as(PyTypeObject *type)
 {
+    if (type->tp_dealloc == plain_of_faults)
+        return freed_fault;
     destructor *plain = type == &PyList_Type ? &plain_of_list : type == &PyDict_Type ? &plain_of_dict
         : type == &PyBaseObject_Type ? &plain_of_object : NULL;
     if (plain == NULL)
@@ -1350,14 +1361,20 @@ typedef struct {
 
 #define ROOM 200
 
+#if PY_VERSION_HEX >= 0x030C0000
+#define GIVE_ROOM(thread, more) ((thread)->py_recursion_remaining += (more), (thread)->c_recursion_remaining += (more))
+#else
+#define GIVE_ROOM(thread, more) ((thread)->recursion_remaining += (more))
+#endif
+
 static PyObject *hook_called(PyObject *self, PyObject *const *words, size_t count, PyObject *named)
 {
     Hook *hook = (Hook *)self;
     PyThreadState *thread = PyThreadState_Get();
-    thread->recursion_remaining += ROOM;
+    GIVE_ROOM(thread, ROOM);
     PyObject *result = hook->quick != NULL && named == NULL ? hook->quick(NULL, words, PyVectorcall_NARGS(count))
         : PyObject_Vectorcall(hook->function, words, count, named);
-    thread->recursion_remaining -= ROOM;
+    GIVE_ROOM(thread, -ROOM);
     return result;
 }
 
@@ -1420,6 +1437,8 @@ static PyObject *setup(PyObject *self, PyObject *words, PyObject *named)
     if (PyErr_Occurred())
         return NULL;
     home = PyInterpreterState_Get();
+    if (plain_of_faults == NULL)
+        plain_of_faults = ((PyTypeObject *)PyExc_BaseException)->tp_dealloc;
     Py_RETURN_NONE;
 }
 
