@@ -563,7 +563,7 @@ static PyTypeObject OwnersType = {
 
 static long long next_base = 1LL << 32;
 
-/* Fills an owner in. A new one of an object that may be referred to weakly is told when the object is gone. */
+/* Fills an owner in. It is told when its object is gone: by the type, if that is followed, or by a weak reference. Else it holds it. */
 static Owner *new_owner(PyObject *one, PyObject *name)
 {
     PyTypeObject *type = Py_TYPE(one);
@@ -590,8 +590,10 @@ static Owner *new_owner(PyObject *one, PyObject *name)
             owner->maker = Py_NewRef(PyTuple_GET_ITEM(made, 3));
         }
     }
-    int is_weak = PyType_SUPPORTS_WEAKREFS(type), is_held = !is_weak && !is_followed(type);
-    if (is_weak ? (owner->reference = PyWeakref_NewRef(one, (PyObject *)owner)) == NULL : let_go_of_some(LOOKED_THROUGH) < 0)
+    int is_weak = !is_followed(type) && PyType_SUPPORTS_WEAKREFS(type), is_held = !is_weak && !is_followed(type);
+    if (is_weak && (owner->reference = PyWeakref_NewRef(one, (PyObject *)owner)) == NULL)
+        goto fail;
+    if (is_held && let_go_of_some(LOOKED_THROUGH) < 0)
         goto fail;
     Owner *first = find_owner(one);  /* Another task may have come meanwhile. */
     if (first != NULL) {
