@@ -9,9 +9,9 @@ import sys
 import tempfile
 import unittest
 from pathlib import Path
-from typing import Any, NamedTuple
+from typing import NamedTuple
 
-from .support import PACKAGE
+from .support import PACKAGE, needs, python_with
 
 TESTS = '''
 import os, threading
@@ -241,24 +241,10 @@ def pytest_runtest_protocol(item, nextitem):
 '''
 
 
-def python_with_pytest() -> str | None:
-    for python in (sys.executable, "/usr/bin/python3"):
-        asked = "import sys, pytest; sys.exit(sys.version_info < (3, 11))"
-        if os.path.exists(python) and subprocess.run([python, "-c", asked], capture_output=True, check=False).returncode == 0:
-            return python
-    return None
-
-
-PYTHON = python_with_pytest()
-NEEDS_PYTEST = unittest.skipIf(PYTHON is None, "there is no pytest here: apt-get install -y python3-pytest")
+PYTHON = python_with("pytest")
+NEEDS_PYTEST = needs("python3-pytest", "pytest")
 WITHOUT_CACHE = "-p", "no:cacheprovider"
 VERDICT = re.compile(r"^(?:\[gw\d+\] \[ *\d+%\] (?P<before>[A-Z]+) )?\S*::(?P<name>[\w.\[\]]+)(?: (?P<behind>[A-Z]+))?", re.MULTILINE)
-
-
-def lacks(module: str, package: str) -> Any:
-    """Skips a test that wants another plugin of pytest, if it is not there."""
-    is_there = PYTHON is not None and subprocess.run([PYTHON, "-c", f"import {module}"], capture_output=True, check=False).returncode == 0
-    return unittest.skipUnless(is_there, f"there is no {module} here: apt-get install -y {package}")
 
 
 class Suite(NamedTuple):
@@ -335,15 +321,15 @@ class Kinds(unittest.TestCase):
     def test_a_mark_of_the_module_counts_for_each_kind(self) -> None:
         self.assert_all_told(18, KINDS + MARKED, *WITHOUT_CACHE)
 
-    @lacks("xdist", "python3-pytest-xdist")
+    @needs("python3-pytest-xdist", "pytest", "xdist")
     def test_each_kind_is_traced_in_the_processes_of_xdist(self) -> None:
         self.assert_all_told(18, KINDS, "--races", "-n", "4")
 
-    @lacks("pytest_asyncio", "python3-pytest-asyncio")
+    @needs("python3-pytest-asyncio", "pytest", "pytest_asyncio")
     def test_coroutines_are_traced_with_the_plugin_of_asyncio(self) -> None:
         self.assert_all_told(20, KINDS + ASYNCIO, "--races", *WITHOUT_CACHE)
 
-    @lacks("pytest_cov", "python3-pytest-cov")
+    @needs("python3-pytest-cov", "pytest", "pytest_cov")
     def test_all_is_traced_and_covered_as_ever_beside_the_plugin_that_measures_coverage(self) -> None:
         measured = *WITHOUT_CACHE, "--cov=.", "--cov-report=term-missing"
         traced = self.assert_all_told(18, KINDS, "--races", *measured)
