@@ -18,7 +18,7 @@ import _thread, asyncio, atexit, concurrent.futures, copy, heapq, inspect, os, p
 lock, rlock = threading.Lock(), threading.RLock()
 
 class Holder:
-    make, remake, close, leave, call = threading.Lock, threading.RLock, os.close, os._exit, heapq.heappush
+    make, close, leave = threading.Lock, os.close, os._exit
 
 for text in open(sys.argv[1]).read().splitlines():
     try:
@@ -57,7 +57,7 @@ copy.copy(lock)
 copy.deepcopy(rlock)
 pickle.loads(pickle.dumps(threading.Lock)) is threading.Lock
 pickle.loads(pickle.dumps(os.close)) is os.close, pickle.loads(pickle.dumps(os.fork)) is os.fork
-Holder().make(), type(Holder().make()), Holder().call([], 1)
+Holder().make(), type(Holder().make())
 Holder().close(-1)
 Holder().leave("no status")
 type(lock)()
@@ -67,7 +67,7 @@ inspect.getsource(threading.Thread.start)[:20], inspect.getmodule(threading.Thre
 threading.Thread.start.__code__.co_filename, threading.Thread.start.__code__.co_name, threading.Thread.start.__code__.co_firstlineno
 inspect.signature(threading.Thread), inspect.signature(queue.Queue.put), inspect.signature(asyncio.create_task), inspect.signature(os.close)
 inspect.isbuiltin(threading.Lock), inspect.isbuiltin(os.close), inspect.isfunction(threading.RLock), inspect.isclass(threading.Lock)
-threading.Lock, os.close, os.execv, os.fork, os._exit, heapq.heappush, atexit.register, _thread.start_new_thread, __import__
+threading.Lock, os.close, os.execv, os.fork, os._exit, atexit.register, _thread.start_new_thread, __import__
 threading.Thread.join()
 threading.Thread(target=print).start(3)
 threading.Event().set(3)
