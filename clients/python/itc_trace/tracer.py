@@ -4,6 +4,7 @@ from __future__ import annotations
 
 import _thread
 import contextlib
+import errno
 import functools
 import itertools
 import re
@@ -16,6 +17,7 @@ from collections.abc import Callable, Hashable
 from sys import getrefcount
 from types import CodeType
 
+from . import own_files, plain
 from .collector import HOST, MOST_TASKS
 from .dividing import Report, request
 from .faults import FULL, Fault, nobody_listens, refusal
@@ -49,6 +51,7 @@ MOST_HINTS = 256
 """So many hints are kept, each with the name that is made of it."""
 ANY_PROCESS = "p"
 GONE_COLLECTOR = "the collector is gone"
+CLOSED_CONNECTION = "the program has closed the connection to the collector"
 MANY_JOBS = Unseen(
     Cause.FULL, f"more than {MOST_TASKS // 2} jobs were given to pools, and a race between two later ones is not seen if one thread ran both"
 )
@@ -146,7 +149,7 @@ class Waiter:
     """Lets threads wait until something is answered."""
 
     def __init__(self) -> None:
-        self._lock = _thread.allocate_lock()
+        self._lock = plain.allocate_lock()
         self._lock.acquire()
         self.is_answered = False
 
@@ -190,7 +193,7 @@ class Tracer:
         """Those of which not all is in the journal."""
         self._goes_on: list[Stretch] = []
         """Those in the middle of which their task had another event."""
-        self._writing = _thread.RLock()
+        self._writing = plain.RLock()
         self._is_over = False
         self._looked_at = 0
         """How many notes were looked at."""
@@ -200,8 +203,8 @@ class Tracer:
         self._missed: dict[str, object] = {}
         """What was not seen of the run, while tracing went on, and something of whoever told of it."""
         self._all_sent = False
-        self._switch = _thread.allocate_lock()
-        self._hurry = _thread.allocate_lock()
+        self._switch = plain.allocate_lock()
+        self._hurry = plain.allocate_lock()
         self._hurry.acquire()
         self._ended = Waiter()
         self._reader_ended = Waiter()
@@ -233,7 +236,7 @@ class Tracer:
             elif process is not None or self._events_before > 0:
                 self._begin_beside_others(process or ANY_PROCESS)
         except BaseException:
-            self._socket.close()
+            self._close_socket()
             raise
         if self._parts is not None:
             self._parts.add(self.main)
@@ -243,7 +246,7 @@ class Tracer:
     def _open(self, port: int) -> int:
         """Begins to report at this port. Gives how many events there are."""
         try:
-            self._socket = socket.create_connection((self._host, port))
+            self._keep_socket(plain.connect(self._host, port).detach())
         except ConnectionRefusedError as refused:
             raise Fault(nobody_listens(port)) from refused
         try:
@@ -253,9 +256,22 @@ class Tracer:
             if not count.startswith("200 "):
                 raise Fault(refusal(count, self._tenant, port))
         except BaseException:
-            self._socket.close()
+            self._close_socket()
             raise
         return int(count.split()[1])
+
+    def _keep_socket(self, file: int) -> None:
+        self._socket = plain.of_file(own_files.keep(file, self._move_socket))
+
+    def _move_socket(self, file: int) -> None:
+        """The program has put another file at the number of the socket. It is not to be closed there."""
+        self._socket.detach()
+        self._socket = plain.of_file(file)
+
+    def _close_socket(self) -> None:
+        own_files.let_go(self._socket.fileno())
+        with contextlib.suppress(OSError):  # The program has closed it.
+            self._socket.close()
 
     @property
     def part(self) -> int:
@@ -321,8 +337,7 @@ class Tracer:
             self._await(self._ended)
         self._end_session()
         self._reader_ended.wait(ANSWER_WAIT)
-        with contextlib.suppress(OSError):  # The program has closed it.
-            self._socket.close()
+        self._close_socket()
         self._write_touches(is_last=True)
         if not self._is_over:
             written = self._journal.lines
@@ -343,11 +358,19 @@ class Tracer:
         state.tracer = None
         STRETCHES.clear()
         self._is_over = True
-        self._socket.close()
+        self._close_socket()
 
     def fail(self, fault: Exception) -> None:
         """A hook in the program's own thread failed."""
         self._give_up(Cause.TRACER, f"{type(fault).__name__} in a hook: {fault}")
+
+    def lose_journal(self, fault: OSError) -> None:
+        """A line cannot be written."""
+        self._give_up(Cause.JOURNAL, f"the journal cannot be written: {fault.strerror}")
+
+    def _lose_collector(self, fault: OSError | ValueError) -> None:
+        is_closed_here = isinstance(fault, OSError) and fault.errno in (errno.EBADF, errno.ENOTSOCK)
+        self._give_up(Cause.COLLECTOR, CLOSED_CONNECTION if is_closed_here else GONE_COLLECTOR)
 
     def _give_up(self, cause: Cause, reason: str) -> None:
         """Stops tracing in the middle. The program goes on."""
@@ -358,7 +381,8 @@ class Tracer:
             if state.tracer is self:
                 state.note = None
         self._write_touches(is_last=True)
-        self._journal_row(Unseen(cause, reason).row())
+        with contextlib.suppress(OSError):  # A journal without its last line breaks off, and whoever reads it says so.
+            self._journal.write_last(Unseen(cause, reason).row())
         self._end_session()
         self._let_go()
         _say(f"tracing stops: {reason}")
@@ -424,8 +448,8 @@ class Tracer:
                     self._report_some()
         except Fault as fault:
             self._give_up(Cause.COLLECTOR, str(fault))
-        except OSError:
-            self._give_up(Cause.COLLECTOR, GONE_COLLECTOR)
+        except OSError as fault:
+            self._lose_collector(fault)
         except BaseException as fault:  # Nothing that happens here may reach the program.
             self._give_up(Cause.TRACER, f"{type(fault).__name__} in the tracer: {fault}")
 
@@ -502,7 +526,7 @@ class Tracer:
 
     def _note_slowly(self, note: Note) -> None:
         while len(self.notes) > FEW_WAITING and not self._is_over:
-            time.sleep(0.001)
+            plain.sleep(0.001)
         self._note_now(note)
 
     def _note_shaken(self, note: Note) -> None:
@@ -935,7 +959,7 @@ class Tracer:
         self._is_changing = True
         self._end_session()
         self._reader_ended.wait(ANSWER_WAIT)
-        self._socket.close()
+        self._close_socket()
         self._open(port)
         self._reader_ended, self._is_changing = Waiter(), False
         start_thread(self._read_all)
@@ -959,8 +983,8 @@ class Tracer:
                     return
             if not self._all_sent or self._outstanding:
                 self._give_up(Cause.COLLECTOR, GONE_COLLECTOR)
-        except (OSError, ValueError):
-            self._give_up(Cause.COLLECTOR, GONE_COLLECTOR)
+        except (OSError, ValueError) as fault:
+            self._lose_collector(fault)
         except BaseException as fault:
             self._give_up(Cause.TRACER, f"{type(fault).__name__} in the tracer: {fault}")
         finally:
@@ -970,7 +994,7 @@ class Tracer:
         try:
             self._journal.write(rows)
         except OSError as fault:
-            self._give_up(Cause.JOURNAL, f"the journal cannot be written: {fault.strerror}")
+            self.lose_journal(fault)
 
     def _replied(self, reply: bytes) -> str:
         """The journal's row of a report that was taken, else nothing."""
