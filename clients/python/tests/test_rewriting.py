@@ -9,7 +9,7 @@ from pathlib import Path
 from unittest import mock
 
 from itc_trace.watch import finder
-from itc_trace.watch.rewrite import Rewriter, _pair
+from itc_trace.watch.rewrite import Rewriter
 from itc_trace.watch.scopes import Scopes
 
 from .support import PACKAGE
@@ -42,9 +42,8 @@ def visited_twice(source: str) -> list[str]:
         return plain(rewriter, node)
 
     tree = ast.parse(source)
-    _pair(tree, ast.parse(source))
     with mock.patch.object(Rewriter, "_visit", visit):
-        Rewriter(Scopes(tree), "program.py", "program", lambda name: False).module(tree)
+        Rewriter(Scopes(tree, ast.parse(source)), "program.py").module(tree)
     return found
 
 

@@ -7,7 +7,7 @@ from collections.abc import Callable
 from typing import Any, NamedTuple
 
 from ..conflicts import ITERATION, LENGTH
-from .places import CASES
+from .learned import Learned
 
 Names = tuple[str, ...] | None
 """A dotted name of the module, in its parts. None, if it begins with a variable of a function."""
@@ -83,7 +83,8 @@ def looks(pattern: Any) -> bool:
 class Patterns:
     """Makes the patterns of a module's statements from its syntax tree."""
 
-    def __init__(self, site: Callable[..., int], text: Callable[[Any], str], is_of_module: Callable[[str], bool]) -> None:
+    def __init__(self, learned: Learned, site: Callable[..., int], text: Callable[[Any], str], is_of_module: Callable[[str], bool]) -> None:
+        self._learned = learned
         self._site = site
         self._text_of = text
         self._is_of_module = is_of_module
@@ -96,7 +97,7 @@ class Patterns:
         if not any(looks(case.pattern) for case in cases):
             return None
         site = self._site(node.subject, "match", "")
-        CASES[site] = cases
+        self._learned.cases[site] = cases
         return site
 
     def _made(self, node: Any) -> Any:

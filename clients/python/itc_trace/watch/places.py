@@ -8,6 +8,7 @@ from typing import Any
 
 from ..file_names import name_of_file
 from ..stretches import SITES, Site
+from .learned import SiteRow
 
 
 class Access:
@@ -48,11 +49,22 @@ if hasattr(os, "register_at_fork"):
 
 
 def new_site(file: str, line: int, function: str, access: Access) -> int:
-    """The number of a further site. Threads that import modules may want one at a time."""
+    """The number of a further site."""
+    return _new_sites([Site(name_of_file(file), line, function)], [access])
+
+
+def new_sites(file: str, module: str, rows: list[SiteRow]) -> int:
+    """The number of the first one of a module's sites. The others follow it."""
+    name = name_of_file(file)
+    sites = [Site(name, line, function) for line, function, *_ in rows]
+    return _new_sites(sites, [Access(what, kinds, of_field, text, module, words) for _, _, what, kinds, of_field, text, words in rows])
+
+
+def _new_sites(sites: list[Site], accesses: list[Access]) -> int:
+    """Threads that import modules may want one at a time."""
     with _numbering:
-        SITES.append(Site(name_of_file(file), line, function))
-        number = len(SITES) - 1
-        while len(SKIPPED) <= number:
-            SKIPPED.append(set())
-        ACCESSES[number] = access
-    return number
+        first = len(SITES)
+        SITES.extend(sites)
+        SKIPPED.extend(set() for _ in range(len(SITES) - len(SKIPPED)))
+        ACCESSES.update(zip(range(first, len(SITES)), accesses))
+    return first

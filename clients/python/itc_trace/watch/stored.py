@@ -12,7 +12,7 @@ from collections.abc import Iterator
 from itertools import islice
 
 from .kinds import METHODS
-from .scopes import STORED_ELSEWHERE, STORED_FIELDS
+from .learned import STORED_ELSEWHERE, STORED_FIELDS
 
 MOST_FILES = MOST_FOLDERS = 400
 MOST_BYTES = 1 << 20

@@ -1,0 +1,46 @@
+"""Puts what a rewriting has found where hooks look for it, and has the code with hooks know its places by their numbers."""
+
+from __future__ import annotations
+
+from itertools import repeat
+from types import CodeType
+from typing import Any
+
+from . import passed_over
+from .learned import STORED_ELSEWHERE, STORED_FIELDS, Found
+from .places import CASES, NAMES_OF_HANDED, new_sites
+
+
+def placed(code: CodeType, found: Found, file: str, module: str) -> CodeType:
+    """The code with the numbers that its places have in this process."""
+    marks = range(found.first, found.first + len(found.sites))
+    shift = new_sites(file, module, found.sites) - found.first
+    for site, cases in found.cases.items():
+        CASES[site + shift] = [_moved_part(case, marks, shift) for case in cases]
+    for (line, name), text in found.handed.items():
+        NAMES_OF_HANDED[file, line, name] = text
+    for what, line in found.passed_over:
+        passed_over.keep(what, file, line)
+    STORED_FIELDS.update(found.fields)
+    STORED_ELSEWHERE.update(found.elsewhere)
+    return _moved(code, marks, shift)
+
+
+def _moved(code: CodeType, marks: range, shift: int) -> CodeType:
+    """The code, with each number of a place as it is in this process."""
+    return code.replace(co_consts=tuple(map(_moved_constant, code.co_consts, repeat(marks), repeat(shift))))
+
+
+def _moved_constant(one: Any, marks: range, shift: int) -> Any:
+    kind = type(one)
+    if kind is int:
+        return one + shift if one in marks else one
+    return _moved(one, marks, shift) if kind is CodeType else one
+
+
+def _moved_part(one: Any, marks: range, shift: int) -> Any:
+    """A part of a pattern: a number of a place, several parts, or what has no place."""
+    if isinstance(one, tuple):
+        parts = [_moved_part(part, marks, shift) for part in one]
+        return tuple(parts) if type(one) is tuple else type(one)(*parts)
+    return one + shift if type(one) is int and one in marks else one
