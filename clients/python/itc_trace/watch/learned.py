@@ -11,8 +11,8 @@ STORED_ELSEWHERE: set[str] = set()
 STORED_FIELDS: set[str] = set()
 """Names of fields that some module stores: what is called by such a name may be anything, and is no method of a class mostly."""
 
-SiteRow = tuple[int, str, str, str, str, str, Any]
-"""A place of a hook: its line and function, what is touched, how, by which name and text, and what else is known."""
+AccessRow = tuple[str, str, str, str, Any]
+"""What is touched at a place, how, by which name and text, and what else is known."""
 
 FIRST_MARK = 0x5BE0_CD19_137E_2179
 """The number of a module's first site in its code, until it is known which numbers are free in the process."""
@@ -41,7 +41,10 @@ class Found(NamedTuple):
 
     first: int
     """The number of the first site in the code."""
-    sites: list[SiteRow]
+    lines: list[int]
+    functions: list[str]
+    accesses: list[AccessRow]
+    """Of each place."""
     cases: dict[int, list[Any]]
     """Of `match` statements, by the number of the site."""
     handed: dict[tuple[int, str], str]
@@ -60,7 +63,9 @@ class Learned:
         self._is_watched = is_watched
         self.asked = Asked()
         self.first = FIRST_MARK
-        self.sites: list[SiteRow] = []
+        self.lines: list[int] = []
+        self.functions: list[str] = []
+        self.accesses: list[AccessRow] = []
         self.cases: dict[int, list[Any]] = {}
         self.handed: dict[tuple[int, str], str] = {}
         self.passed_over: list[tuple[str, int]] = []
@@ -68,7 +73,9 @@ class Learned:
         self.elsewhere: set[str] = set()
 
     def found(self) -> Found:
-        return Found(self.first, self.sites, self.cases, self.handed, self.passed_over, self.fields, self.elsewhere)
+        return Found(
+            self.first, self.lines, self.functions, self.accesses, self.cases, self.handed, self.passed_over, self.fields, self.elsewhere,
+        )
 
     # What is asked
 
@@ -110,8 +117,10 @@ class Learned:
         STORED_ELSEWHERE.add(name)
 
     def new_site(self, line: int, function: str, what: str, kinds: str, name: str, text: str, words: Any) -> int:
-        self.sites.append((line, function, what, kinds, name, text, words))
-        return self.first + len(self.sites) - 1
+        self.lines.append(line)
+        self.functions.append(function)
+        self.accesses.append((what, kinds, name, text, words))
+        return self.first + len(self.lines) - 1
 
     def look_at_number(self, number: int) -> None:
         """A number of the source. All are looked at before there is a site."""

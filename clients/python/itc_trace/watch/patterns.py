@@ -159,3 +159,33 @@ def _constant(node: Any) -> Any:
         return ast.literal_eval(node)
     except (ValueError, TypeError):
         return Unknown
+
+
+_KINDS: tuple[Any, ...] = (Anything, Same, Named, Either, InRow, ByKey, OfClass, Case)
+_TUPLE, _UNKNOWN, _VALUE, _TABLE, _LIST = range(-5, 0)
+
+
+def packed(one: Any) -> Any:
+    """Patterns, and what has some, as tuples and values of the language alone."""
+    if type(one) in _KINDS:
+        return (_KINDS.index(type(one)), *map(packed, one))
+    if type(one) is tuple:
+        return (_TUPLE, *map(packed, one))
+    if type(one) is list:
+        return (_LIST, *map(packed, one))
+    if type(one) is dict:
+        return (_TABLE, *((key, packed(value)) for key, value in one.items()))
+    return (_UNKNOWN,) if one is Unknown else (_VALUE, one)
+
+
+def unpacked(row: Any) -> Any:
+    """What was packed."""
+    kind, *parts = row
+    if kind == _VALUE:
+        return parts[0]
+    if kind == _UNKNOWN:
+        return Unknown
+    if kind == _TABLE:
+        return {key: unpacked(value) for key, value in parts}
+    made = map(unpacked, parts)
+    return list(made) if kind == _LIST else tuple(made) if kind == _TUPLE else _KINDS[kind](*made)

@@ -2,7 +2,6 @@
 
 from __future__ import annotations
 
-from itertools import repeat
 from types import CodeType
 from typing import Any
 
@@ -13,8 +12,8 @@ from .places import CASES, NAMES_OF_HANDED, new_sites
 
 def placed(code: CodeType, found: Found, file: str, module: str) -> CodeType:
     """The code with the numbers that its places have in this process."""
-    marks = range(found.first, found.first + len(found.sites))
-    shift = new_sites(file, module, found.sites) - found.first
+    marks = range(found.first, found.first + len(found.lines))
+    shift = new_sites(file, module, found.lines, found.functions, found.accesses) - found.first
     for site, cases in found.cases.items():
         CASES[site + shift] = [_moved_part(case, marks, shift) for case in cases]
     for (line, name), text in found.handed.items():
@@ -23,19 +22,15 @@ def placed(code: CodeType, found: Found, file: str, module: str) -> CodeType:
         passed_over.keep(what, file, line)
     STORED_FIELDS.update(found.fields)
     STORED_ELSEWHERE.update(found.elsewhere)
-    return _moved(code, marks, shift)
+    return _moved(code, marks.start, marks.stop, shift)
 
 
-def _moved(code: CodeType, marks: range, shift: int) -> CodeType:
-    """The code, with each number of a place as it is in this process."""
-    return code.replace(co_consts=tuple(map(_moved_constant, code.co_consts, repeat(marks), repeat(shift))))
-
-
-def _moved_constant(one: Any, marks: range, shift: int) -> Any:
-    kind = type(one)
-    if kind is int:
-        return one + shift if one in marks else one
-    return _moved(one, marks, shift) if kind is CodeType else one
+def _moved(code: CodeType, first: int, last: int, shift: int) -> CodeType:
+    """The code, with each number of a place as it is in this process: those from the first one to before the last one are moved."""
+    return code.replace(co_consts=tuple([
+        (one + shift if first <= one < last else one) if type(one) is int else _moved(one, first, last, shift) if type(one) is CodeType else one
+        for one in code.co_consts
+    ]))
 
 
 def _moved_part(one: Any, marks: range, shift: int) -> Any:
