@@ -15,7 +15,7 @@ from ..lines import Line, state
 from ..noting import INTERNAL
 from ..verdict import PassedOver, Unseen
 from ..patches.base import like
-from . import handed, hooks, passed_over, things
+from . import handed, hooks, leaving, passed_over, things
 from .commands import own_program
 from .finder import UNWATCHED, Finder, Selection, look_around, with_hooks
 from .loaded import Prepare, folder_of_main, rewrite_loaded
@@ -36,6 +36,7 @@ def watch(folders: Sequence[str], packages: Sequence[str] = ()) -> None:
     global _finder
     if _finder is None:
         hooks.put_for_the_end()
+        leaving.begin()
     else:
         sys.meta_path.remove(_finder)  # type: ignore[arg-type]
     _finder = Finder(Selection(folders, [name for name in packages if not _is_traced_as_a_whole(name)]))

@@ -7,12 +7,12 @@ from __future__ import annotations
 
 import hashlib
 import importlib.util
-import marshal
 import os
 import stat
 import sys
 from collections.abc import Callable, Iterator
 from importlib.util import source_hash
+from marshal import dumps, loads
 from os import O_CREAT, O_EXCL, O_RDONLY, O_WRONLY, close, fstat, getpid, replace, unlink, write
 from os import open as open_file
 from os import read as read_file
@@ -81,7 +81,7 @@ class Kept:
             for slot in self._slots():
                 body = _body_of(slot, wanted)
                 if body is not None:
-                    made = marshal.loads(body)
+                    made = loads(body)
                     if fits(made):
                         return made
         except Exception:  # Whatever is there, it is none of this package's.
@@ -93,7 +93,7 @@ class Kept:
         if sys.dont_write_bytecode:
             return
         try:
-            body = marshal.dumps(made)
+            body = dumps(made)
             whole = MAGIC + self._source + self._decided() + source_hash(body) + body
             _write_whole(self._slot_for(), whole)
         except (OSError, ValueError, NotImplementedError):

@@ -41,7 +41,7 @@ def rewrite_loaded(selection: Selection, prepare: Prepare | None = None) -> None
 Mark = tuple[str, int, tuple[str, ...], tuple[int, int]]
 
 
-def _mark_of(code: CodeType) -> Mark:
+def mark_of(code: CodeType) -> Mark:
     """What a function's code with hooks and its plain one have in common, and no other function of the file."""
     ends = [(line, column) for _, line, _, column in code.co_positions() if line is not None and column is not None]
     return code.co_qualname, code.co_firstlineno, code.co_freevars, max(ends, default=(0, 0))
@@ -57,9 +57,14 @@ def _codes_of(file: str, module: ModuleType, selection: Selection, prepare: Prep
         return {}
     WATCHED.add(name)
     FILES.add(file)
+    return code_by_mark(made)
+
+
+def code_by_mark(module: CodeType) -> dict[Mark, CodeType]:
+    """All code in that of a module which is told apart from the rest of it."""
     codes: dict[Mark, CodeType | None] = {}
-    for code in _all_codes(made):
-        mark = _mark_of(code)
+    for code in _all_codes(module):
+        mark = mark_of(code)
         codes[mark] = None if mark in codes else code
     return {mark: code for mark, code in codes.items() if code is not None}
 
@@ -81,7 +86,7 @@ def _all_codes(code: CodeType) -> Iterator[CodeType]:
 
 def _replace(function: FunctionType, codes: dict[Mark, CodeType]) -> None:
     """Gives a function its code with hooks. One that is not told apart from another is left as it is."""
-    made = codes.get(_mark_of(function.__code__))
+    made = codes.get(mark_of(function.__code__))
     if made is not None and made.co_argcount == function.__code__.co_argcount and made.co_varnames == function.__code__.co_varnames:
         function.__code__ = made
 

@@ -13,7 +13,7 @@ from types import CodeType
 from typing import Any
 
 from ..conflicts import ADDITION, ITERATION, KEYS, LENGTH, REWRITE
-from . import passed_over
+from . import on_stack, passed_over
 from .kinds import (
     CHANGED_ARGUMENT, COMPARED, CONSUMING, CONTENT, DEPTHS_OF_METHODS, EACH, IN_PLACE_FUNCTIONS, IN_PLACE_METHODS, KEYED, LATE_METHODS, METHODS, ORDERED,
     SHOWN, STATE, STEPPING, TRUTH, WRITTEN, depth_of, known_function,
@@ -112,7 +112,7 @@ def written(
         text = source if isinstance(source, bytes) else source.encode()
         prepare(tree, text, file)
         prepare(twin, text, file)
-    return compiled(Rewriter(Scopes(tree, twin, learned), file).module(tree), file)
+    return on_stack.with_copies(compiled(Rewriter(Scopes(tree, twin, learned), file).module(tree), file))
 
 
 def _is_new(value: Any) -> bool:
@@ -441,8 +441,9 @@ class Rewriter:
             target.value = self._operand(owner, "o", reads)
             node.value = self._behind("l", owner, self._added(node), writes)
         else:
-            target.value = self._operand(owner, "p", writes, reads)
-            node.value = self._hook("z", node.value, self._added(node), writes)
+            target.value = self._operand(owner, "o", reads)
+            kept = on_stack.copy(on_stack.FIELD_ADDED_TO, node.value)
+            node.value = self._hook("l", node.value, self._added(node), kept, writes)
 
     def _augment_subscript(self, node: ast.AugAssign, target: ast.Subscript, is_late: bool) -> None:
         owner: Any = target.value
@@ -462,9 +463,9 @@ class Rewriter:
             self._element(target, reads)
             node.value = self._hook("L", node.value, self._added(node), owner.twin, key.twin, writes)  # type: ignore[attr-defined]
         else:
-            target.value = self._operand(owner, "p", writes, 0)
-            target.slice = self._hook("q", key, self._child(key), writes, reads, True)
-            node.value = self._hook("z", node.value, self._added(node), writes)
+            self._element_on_stack(target, reads)
+            kept = [on_stack.copy(form, node.value) for form in (on_stack.ITEM_ADDED_TO, on_stack.KEY_ADDED_TO)]
+            node.value = self._hook("L", node.value, self._added(node), *kept, writes)
 
     def _simple_Delete(self, node: ast.Delete) -> ast.stmt:
         node.targets = [self._child(target) for target in node.targets]
@@ -697,8 +698,15 @@ class Rewriter:
             node.value = self._child(owner)
             node.slice = self._key_of(owner, key, site)
         else:
-            node.value = self._operand(owner, "p", site, 0)
-            node.slice = self._hook("q", key, self._child(key), site, site, False)
+            self._element_on_stack(node, site)
+
+    def _element_on_stack(self, node: ast.Subscript, site: int) -> None:
+        node.value = self._child(node.value)
+        node.slice = self._key_behind(on_stack.copy(on_stack.ITEM, node.slice), node.slice, site)
+
+    def _key_behind(self, kept: ast.expr, key: Any, site: int) -> ast.expr:
+        """The key, passed through a hook with the container that is on the stack."""
+        return self._hook("K_kept", key, kept, self._child(key), site)
 
     def _visit_Call(self, node: ast.Call) -> ast.expr:
         self._name_handed(node)
@@ -869,7 +877,6 @@ class Rewriter:
             node.args = [self._argument(one, func, owner) for one in given]
             if name in TEMPLATES:
                 return self._call_template(node, func)
-            self._keep_owner(func, node)
         elif name in KEYED and node.args and not isinstance(node.args[0], ast.Starred):
             self._call_keyed(node, func, self._site(node, "method", "", name, self._text(owner)))
         elif is_late and name in LATE_METHODS and not isinstance(node.args[-1], ast.Starred):
@@ -879,28 +886,25 @@ class Rewriter:
             is_known = words is not None and None not in words and len(node.args) < 2
             func.value = self._operand(owner, "m", self._site(node, "method", "", name, self._text(owner), words if is_known else None))
             node.args = [self._argument(one, func, owner) for one in node.args]
-            self._keep_owner(func, node)
         if name in METHODS and any(map(self._learned.is_field, DELEGATING)) and not self._is_foreign(owner):
             self._call_delegated(node, func)
         for keyword in node.keywords:
             self._keyword(keyword)
-        return node
+        return self._with_owner(node, func)
 
     def _call_delegated(self, node: ast.Call, func: ast.Attribute) -> None:
         """A method that an object may have found at another one, by a method of its own for what it has not."""
-        place = self._site(node, "method", "", func.attr)
-        func.value = self._hook("p", func.value, func.value, place, 0)
-        node.func = self._hook("y", func, func, place)
+        owner, func.value = func.value, on_stack.copy(on_stack.OF_OWNER, func)
+        node.func = self._hook("y", func, owner, func)
 
-    def _call_template(self, node: ast.Call, func: ast.Attribute) -> ast.Call:
+    def _call_template(self, node: ast.Call, func: ast.Attribute) -> ast.expr:
         """What a template puts in by its name is looked at, too."""
         for keyword in node.keywords:
             if keyword.arg is None:
                 self._keyword(keyword)
             else:
                 keyword.value = self._argument(keyword.value, func, func.value)
-        self._keep_owner(func, node)
-        return node
+        return self._with_owner(node, func)
 
     def _is_of_fields(self, node: Any) -> bool:
         """Whether it gives the fields of an object as a dictionary."""
@@ -924,9 +928,8 @@ class Rewriter:
         elif isinstance(owner, ast.Name):
             me = owner.twin  # type: ignore[attr-defined]
         else:
-            func.value = self._operand(owner, "p", site, 0)
-            node.args[0] = self._hook("i", given[0], node.args[0], site)
-            return
+            func.value = self._child(owner)
+            me = on_stack.wanted(node)
         node.args[0] = self._hook("I", given[0], node.args[0], me, site)
 
     def _is_super_of_any(self, node: Any) -> bool:
@@ -941,7 +944,6 @@ class Rewriter:
             given = node.args
             node.func = self._called(func)
             node.args = [self._argument(one, func, owner) for one in given]
-            self._keep_owner(func, node)
         elif any(isinstance(one, ast.Starred) for one in node.args):
             node.args = [self._child(one) for one in node.args]
         else:
@@ -953,7 +955,7 @@ class Rewriter:
                 keyword.value = self._shown(keyword.value, template, keyword.arg)
             else:
                 self._keyword(keyword)
-        return node
+        return self._with_owner(node, func)
 
     def _shown(self, node: Any, template: Any, name: int | str) -> Any:
         """What a text puts in at a place of its own, or by a name."""
@@ -993,7 +995,7 @@ class Rewriter:
             return [self._child(owner), self._key_of(owner, given[1], site), *rest]
         if is_keyed:
             key: Any = given[1]
-            return [self._operand(owner, "p", site, 0), self._hook("q", key, self._child(key), site, site, False), *rest]
+            return [self._child(owner), self._key_behind(on_stack.copy(on_stack.GIVEN_FIRST, key), key, site), *rest]
         return [self._operand(owner, "m", site), *rest]
 
     def _is_container_class(self, node: Any) -> bool:
@@ -1016,13 +1018,40 @@ class Rewriter:
         site = self._site(node, "given", kinds, func.attr, self._text(node), OF_KEYS if kinds == KEYS or func.attr == "update" else None)
         if isinstance(owner, ast.Name):
             return self._hook("x", node, self._child(node), owner.twin, site)  # type: ignore[attr-defined]
-        return self._hook("X", node, self._child(node), site)
+        return self._hook("x", node, self._child(node), on_stack.wanted(node), site)
 
-    def _keep_owner(self, func: ast.Attribute, node: ast.Call) -> None:
-        """Has the object kept whose method is called, until what it is given is there."""
-        for one in (*node.args, *(keyword.value for keyword in node.keywords)):
-            if isinstance(one, ast.Call) and isinstance(one.func, ast.Name) and one.func.id == f"{PREFIX}X":
-                func.value = self._hook("p", func.value, func.value, one.args[1], 0)
+    def _with_owner(self, node: ast.Call, func: ast.Attribute) -> ast.expr:
+        """The call. If hooks of what it is given want the object whose method it is, a hook around it keeps that on the stack."""
+        given: list[Any] = [*node.args, *(keyword.value for keyword in node.keywords)]
+        wanting = [(place, one, on_stack.place_of_wanted(one)) for place, one in enumerate(given)]
+        if all(at is None for _, _, at in wanting):
+            return node
+        if _is_hook(node.func):
+            node.func.args[-1] = func  # type: ignore[attr-defined]
+        else:
+            node.func = func
+        function = self._form_of_function(node.func)
+        forms = {place: on_stack.form_of_call(node, function, place) for place, _, at in wanting if at is not None}
+        for place, hook, at in wanting:
+            if at is not None:
+                hook.args[at] = on_stack.copy(forms[place], hook.args[at])
+        return self._hook("S", node, self._owner_taken(node, func, function), node)
+
+    @staticmethod
+    def _form_of_function(function: Any) -> str:
+        if not _is_hook(function):
+            return on_stack.METHOD
+        return on_stack.BEHIND_HOOK if len(function.args) == 1 else on_stack.WITH_OWNER
+
+    @staticmethod
+    def _owner_taken(node: Any, func: ast.Attribute, function: str) -> ast.expr:
+        """The object whose method is called, with a copy of it in its place."""
+        kept = on_stack.copy(on_stack.form_of_call(node, function), func)
+        if function == on_stack.WITH_OWNER:
+            owner, node.func.args[0] = node.func.args[0], kept
+        else:
+            owner, func.value = func.value, kept
+        return owner  # type: ignore[no-any-return]
 
     def _whole(self, node: Any, kinds: str, depth: str = "", methods: tuple[str, ...] | None = None) -> Any:
         """An expression, all of which is looked at if it is a container, and no class of the program has one of the methods."""
@@ -1089,8 +1118,8 @@ class Rewriter:
             func.value = self._child(owner)
             node.args = [self._key_of(owner, first, site), *rest]
         else:
-            func.value = self._operand(owner, "p", site, 0)
-            node.args = [self._hook("q", first, self._child(first), site, site, False), *rest]
+            func.value = self._child(owner)
+            node.args = [self._hook("K_local", first, on_stack.wanted(first), self._child(first), site), *rest]
 
     def _call_late(self, node: ast.Call, func: ast.Attribute, site: int) -> None:
         """A method whose argument takes its time: the touch comes behind it."""
@@ -1101,9 +1130,9 @@ class Rewriter:
             func.value = self._child(owner)
             node.args = [*rest, self._behind("l", owner, self._argument(last, func, owner), site)]
         else:
-            func.value = self._operand(owner, "p", site, 0)
+            func.value = self._child(owner)
             made = self._whole(last, CONSUMING[func.attr]) if func.attr in CONSUMING else self._child(last)
-            node.args = [*rest, self._hook("z", last, made, site)]
+            node.args = [*rest, self._hook("l_local", last, made, on_stack.wanted(last), site)]
 
     def _visit_Compare(self, node: ast.Compare) -> ast.expr:
         if len(node.ops) != 1 or not isinstance(node.ops[0], (ast.In, ast.NotIn)):
@@ -1120,8 +1149,8 @@ class Rewriter:
             node.left = self._hook("K", left, owner.twin, self._child(left), site)  # type: ignore[attr-defined]
             node.comparators = [self._child(owner)]
         else:
-            node.left = self._operand(left, "p", site, 0)
-            node.comparators = [self._hook("b", owner, self._child(owner), site)]
+            node.left = self._child(left)
+            node.comparators = [self._operand(owner, "k", on_stack.copy(on_stack.LOOKED_FOR, owner), site)]
         return node
 
     def _compare_values(self, node: ast.Compare) -> ast.expr:
