@@ -23,11 +23,15 @@ from .helper import user_folder
 
 MAGIC = b"itc_trace kept 1"
 DIGEST = 16
-HEADER = len(MAGIC) + 2 * DIGEST + len(source_hash(b""))
+HASH = len(source_hash(b""))
+HEADER = len(MAGIC) + 2 * DIGEST + HASH
 MOST_SLOTS = 4
 """So many entries there are of one file: programs may ask for it by several names, or know other things of it."""
-MOST_OF_USER = 512
+MOST_OF_USER = 4096
 """So many entries there are in the user's own folder, about. What was made first goes first."""
+MAINS = ("__main__", "__mp_main__")
+FEWEST_BYTES_OF_MAIN = 4096
+"""The language keeps no program's main file. That of a shorter one is rewritten at once."""
 OTHERS_MAY_WRITE = 0o022
 OWN_MODE = 0o600
 PACKAGE = os.path.dirname(os.path.dirname(os.path.abspath(__file__)))
@@ -72,10 +76,13 @@ class Kept:
         self._kind = kind
         self._source = digest(source)
         self._words = words
-        self._is_main = "__main__" in words or "__mp_main__" in words
+        self._is_main = any(one in MAINS for one in words)
+        self._is_left_out = self._is_main and len(source) < FEWEST_BYTES_OF_MAIN
 
     def found(self, fits: Callable[[Any], bool]) -> Any:
         """What was kept and fits. None if there is nothing of the kind."""
+        if self._is_left_out:
+            return None
         try:
             wanted = MAGIC + self._source + self._decided()
             for slot in self._slots():
@@ -90,12 +97,12 @@ class Kept:
 
     def keep(self, made: Any) -> None:
         """Writes it to a file of its own, which takes its place at once. What cannot be written is not kept."""
-        if sys.dont_write_bytecode:
+        if sys.dont_write_bytecode or self._is_left_out:
             return
         try:
             body = dumps(made)
             whole = MAGIC + self._source + self._decided() + source_hash(body) + body
-            _write_whole(self._slot_for(), whole)
+            _write_whole(self._slot_for(made), whole)
         except (OSError, ValueError, NotImplementedError):
             pass
 
@@ -111,15 +118,21 @@ class Kept:
                 return
             yield slot
 
-    def _slot_for(self) -> str:
-        """The file for another entry: of what was made of another source, else a new one, else what was made first."""
+    def _slot_for(self, made: Any) -> str:
+        """The file for another entry: of what is no more worth anything, else a new one, else what was made first."""
         slots = list(self._slots())
         for slot in slots:
-            if _head_of(slot)[:len(MAGIC) + DIGEST] != MAGIC + self._source:
+            if self._may_go(slot, made):
                 return slot
         if len(slots) < MOST_SLOTS:
             return f"{self._name()}{len(slots)}.pyc"
         return min(slots, key=lambda slot: status(slot).st_mtime_ns)
+
+    def _may_go(self, slot: str, made: Any) -> bool:
+        """Whether the entry is broken, of another source, or for the same answers as another one."""
+        head = _head_of(slot)[:HEADER - HASH]
+        body = _body_of(slot, head) if head.startswith(MAGIC + self._source) else None
+        return body is None or head.endswith(self._decided()) and loads(body)[0] == made[0]
 
     def _name(self) -> str:
         beside = importlib.util.cache_from_source(self._file, optimization="")
@@ -150,7 +163,7 @@ def _user_folder() -> str:
 
 def _opened(file: str) -> int | None:
     """A file that this user alone has written. Whoever may rename it may put another one there, so the open one is looked at."""
-    one = open_file(file, O_RDONLY | getattr(os, "O_CLOEXEC", 0))
+    one = open_file(file, O_RDONLY | getattr(os, "O_CLOEXEC", 0) | getattr(os, "O_NONBLOCK", 0))
     kept = fstat(one)
     if stat.S_ISREG(kept.st_mode) and kept.st_uid == os.getuid() and not kept.st_mode & OTHERS_MAY_WRITE:
         return one
@@ -173,7 +186,10 @@ def _head_of(file: str) -> bytes:
 
 def _body_of(file: str, wanted: bytes) -> bytes | None:
     """What an entry has, if it is whole and what is wanted."""
-    one = _opened(file)
+    try:
+        one = _opened(file)
+    except OSError:
+        return None
     if one is None:
         return None
     try:

@@ -1246,8 +1246,8 @@ class Rewriter:
     def _bound_in(self, part: ast.comprehension) -> Iterator[ast.expr]:
         """Conditions that note which variables a step of a comprehension has bound, and that are always true."""
         for one in self._bindings(getattr(part.target, "twin", part.target)):
-            noted = ast.UnaryOp(ast.Not(), self._variable(one, one.id, "w"))
-            yield ast.copy_location(ast.IfExp(self._is_on(one), noted, ast.Constant(True)), one)
+            noted = at(one, ast.UnaryOp(ast.Not(), self._variable(one, one.id, "w")))
+            yield at(one, ast.IfExp(self._is_on(one), noted, at(one, ast.Constant(True))))
 
     def _iterated(self, part: ast.comprehension) -> Any:
         return self._guarded(part.iter) if part.is_async else self._gone_through(part.iter, part.target)
