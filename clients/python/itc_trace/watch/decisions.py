@@ -127,7 +127,7 @@ def _remember(kind: type) -> None:
     def gone(_: Any) -> None:
         for table in (_types, _families, _decided, _own_methods, _dictionaries, _inside):
             table.pop(key, None)  # type: ignore[attr-defined]
-        for skipped in SKIPPED:
+        for skipped in list(SKIPPED.values()):
             skipped.discard(key)
 
     _types[key] = weakref.ref(kind, gone)
@@ -137,7 +137,7 @@ def forget_decisions() -> None:
     """After a class was given another attribute."""
     _decided.clear()
     _own_methods.clear()
-    for skipped in SKIPPED:
+    for skipped in list(SKIPPED.values()):
         skipped.clear()
     if quick is not None:
         quick.forget()
@@ -221,6 +221,9 @@ def is_made(kind: type, name: str) -> bool:
     method = None if owner is None else _vars_of(owner)[name]
     if type(method) is not types.FunctionType:
         return False
+    inside = method.__dict__.get("__wrapped__") if method.__globals__.get("__name__") == "reprlib" else None
+    if type(inside) is types.FunctionType:
+        method = inside  # Since Python 3.13 `dataclass` has its text kept from going round in circles so.
     return method.__code__.co_filename.endswith("<string>") or method.__globals__.get("__name__") in ("dataclasses", "collections")
 
 
@@ -307,7 +310,7 @@ def decision(kind: type, access: Access, site: int) -> int:
     found = known.get(of_access)
     if found is None:
         found = known[of_access] = SKIP if _is_by_own_method(kind, of_access[1]) else _decide(kind, access.name, access.kinds or "r")
-    if found == SKIP and site < len(SKIPPED) and access.what != "named":
+    if found == SKIP and access.what != "named":
         SKIPPED[site].add(id(kind))
     return found
 

@@ -13,6 +13,7 @@ from types import CodeType, FunctionType, ModuleType
 from .decisions import WATCHED, forget_decisions
 from .depth import at_any_depth
 from .finder import FILES, Selection, tell_unwatched
+from .making import kept_code, new_code
 from .rewrite import rewritten
 
 Prepare = Callable[[ast.Module, bytes, str], None]
@@ -49,10 +50,8 @@ def mark_of(code: CodeType) -> Mark:
 def _codes_of(file: str, module: ModuleType, selection: Selection, prepare: Prepare | None) -> dict[Mark, CodeType]:
     name = module.__name__
     try:
-        with open(file, "rb") as source, warnings.catch_warnings():
-            warnings.simplefilter("ignore")
-            text = source.read()
-            made = at_any_depth(lambda: rewritten(text, file, name, selection.has_import, prepare=prepare))
+        with open(file, "rb") as source:
+            made = _made(source.read(), file, name, selection, prepare)
     except Exception as fault:  # What prepares the tree is somebody else's.
         tell_unwatched(file, fault)
         return {}
@@ -68,6 +67,14 @@ def code_by_mark(module: CodeType) -> dict[Mark, CodeType]:
         mark = mark_of(code)
         codes[mark] = None if mark in codes else code
     return {mark: code for mark, code in codes.items() if code is not None}
+
+
+def _made(text: bytes, file: str, name: str, selection: Selection, prepare: Prepare | None) -> CodeType:
+    if prepare is None:
+        return kept_code(text, file, name, selection.has_import) or new_code(text, file, name, selection.has_import)
+    with warnings.catch_warnings():
+        warnings.simplefilter("ignore")
+        return at_any_depth(lambda: rewritten(text, file, name, selection.has_import, prepare=prepare))
 
 
 def _all_codes(code: CodeType) -> Iterator[CodeType]:
