@@ -7,7 +7,8 @@ share one event, which a thread of the package reports.
 from __future__ import annotations
 
 from _thread import get_ident
-from collections.abc import Callable, Hashable
+from bisect import bisect_right
+from collections.abc import Callable, Hashable, Sequence
 from typing import TYPE_CHECKING, Any, NamedTuple
 
 if TYPE_CHECKING:
@@ -23,8 +24,36 @@ class Site(NamedTuple):
     function: str
 
 
-SITES: list[Site] = []
-"""The places that are told by their index."""
+class Sites:
+    """The places that are told by their index. Those of a module are made when they are asked for, as most never are."""
+
+    def __init__(self) -> None:
+        self._count = 0
+        self._firsts: list[int] = []
+        self._modules: list[tuple[str, Sequence[int], Sequence[str]]] = []
+
+    def append(self, site: Site) -> None:
+        self.extend(site.file, [site.line], [site.function])
+
+    def extend(self, file: str, lines: Sequence[int], functions: Sequence[str]) -> None:
+        """Adds places of one file."""
+        self._modules.append((file, lines, functions))
+        self._firsts.append(self._count)
+        self._count += len(lines)
+
+    def __len__(self) -> int:
+        return self._count
+
+    def __getitem__(self, number: int) -> Site:
+        if not 0 <= number < self._count:
+            raise IndexError(number)
+        place = bisect_right(self._firsts, number) - 1
+        file, lines, functions = self._modules[place]
+        at = number - self._firsts[place]
+        return Site(file, lines[at], functions[at])
+
+
+SITES = Sites()
 
 
 class Across(str):

@@ -8,8 +8,8 @@ import unittest
 from pathlib import Path
 from unittest import mock
 
-from itc_trace.watch import finder
-from itc_trace.watch.rewrite import Rewriter, _pair
+from itc_trace.watch import finder, making
+from itc_trace.watch.rewrite import Rewriter
 from itc_trace.watch.scopes import Scopes
 
 from .support import PACKAGE
@@ -42,9 +42,8 @@ def visited_twice(source: str) -> list[str]:
         return plain(rewriter, node)
 
     tree = ast.parse(source)
-    _pair(tree, ast.parse(source))
     with mock.patch.object(Rewriter, "_visit", visit):
-        Rewriter(Scopes(tree), "program.py", "program", lambda name: False).module(tree)
+        Rewriter(Scopes(tree, ast.parse(source)), "program.py").module(tree)
     return found
 
 
@@ -59,9 +58,9 @@ class Rewriting(unittest.TestCase):
 
     def test_a_fault_of_the_package_leaves_the_module_as_it_is(self) -> None:
         plain = compile("one = 1", "part.py", "exec")
-        with mock.patch.object(finder, "rewritten", side_effect=KeyError("a node")), mock.patch("sys.__stderr__", io.StringIO()) as told:
+        with mock.patch.object(making, "written", side_effect=KeyError("a node")), mock.patch("sys.__stderr__", io.StringIO()) as told:
             with mock.patch.object(finder, "UNWATCHED", []) as unwatched, mock.patch.object(finder, "FILES", set()):
-                code = finder.with_hooks(b"one = 1", "/folder/part.py", "part", finder.Selection([]), plain)
+                code = finder.with_hooks(b"one = 1", "/folder/part.py", "part", finder.Selection([]), lambda: plain)
         self.assertIs(code, plain)
         self.assertEqual([one.text for one in unwatched], ["part.py runs as it is, and is not watched: KeyError: 'a node'"])
         self.assertEqual(told.getvalue(), "itc_trace: part.py runs as it is, and is not watched: KeyError: 'a node'\n")

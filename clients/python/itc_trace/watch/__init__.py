@@ -15,9 +15,9 @@ from ..lines import Line, state
 from ..noting import INTERNAL
 from ..verdict import PassedOver, Unseen
 from ..patches.base import like
-from . import handed, hooks, passed_over, things
+from . import handed, hooks, leaving, passed_over, things
 from .commands import own_program
-from .finder import UNWATCHED, Finder, Selection, with_hooks
+from .finder import UNWATCHED, Finder, Selection, look_around, with_hooks
 from .loaded import Prepare, folder_of_main, rewrite_loaded
 from .unwatched import files_without_hooks
 
@@ -36,6 +36,7 @@ def watch(folders: Sequence[str], packages: Sequence[str] = ()) -> None:
     global _finder
     if _finder is None:
         hooks.put_for_the_end()
+        leaving.begin()
     else:
         sys.meta_path.remove(_finder)  # type: ignore[arg-type]
     _finder = Finder(Selection(folders, [name for name in packages if not _is_traced_as_a_whole(name)]))
@@ -76,7 +77,13 @@ def code_of(source: bytes, program: str, plain: CodeType) -> CodeType:
     """The code of the program's main file, with hooks if it is watched."""
     if _finder is None or not _finder.selection.has_file("__main__", os.path.abspath(program)):
         return plain
-    return with_hooks(source, program, "__main__", _finder.selection, plain)
+    return _with_hooks(source, program, "__main__", plain)
+
+
+def _with_hooks(source: bytes, program: str, name: str, plain: CodeType) -> CodeType:
+    assert _finder is not None
+    look_around(source, program, _finder.selection)
+    return with_hooks(source, program, name, _finder.selection, lambda: plain) or plain
 
 
 def watch_path_runs() -> None:
@@ -89,7 +96,7 @@ def watch_path_runs() -> None:
         if _finder is None or not _finder.selection.has_file(MAIN_OF_CHILD, os.path.abspath(path)):
             return told
         with open(path, "rb") as file:
-            made = with_hooks(file.read(), path, MAIN_OF_CHILD, _finder.selection, code)
+            made = _with_hooks(file.read(), path, MAIN_OF_CHILD, code)
         return (made, *told[1:]) if isinstance(told, tuple) else made
 
     runpy._get_code_from_file = like(plain, get_code)  # type: ignore[attr-defined]

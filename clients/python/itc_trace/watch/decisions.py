@@ -115,7 +115,7 @@ def _remember(kind: type) -> None:
     def gone(_: Any) -> None:
         for table in (_types, _families, _decided, _own_methods, _dictionaries, _inside):
             table.pop(key, None)  # type: ignore[attr-defined]
-        for skipped in SKIPPED:
+        for skipped in list(SKIPPED.values()):
             skipped.discard(key)
 
     _types[key] = weakref.ref(kind, gone)
@@ -125,7 +125,7 @@ def forget_decisions() -> None:
     """After a class was given another attribute."""
     _decided.clear()
     _own_methods.clear()
-    for skipped in SKIPPED:
+    for skipped in list(SKIPPED.values()):
         skipped.clear()
     if quick is not None:
         quick.forget()
@@ -295,7 +295,7 @@ def decision(kind: type, access: Access, site: int) -> int:
     found = known.get(of_access)
     if found is None:
         found = known[of_access] = SKIP if _is_by_own_method(kind, of_access[1]) else _decide(kind, access.name, access.kinds or "r")
-    if found == SKIP and site < len(SKIPPED) and access.what != "named":
+    if found == SKIP and access.what != "named":
         SKIPPED[site].add(id(kind))
     return found
 

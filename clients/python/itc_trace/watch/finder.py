@@ -6,14 +6,12 @@ import importlib.machinery
 import os
 import sys
 import sysconfig
-import warnings
-from collections.abc import Sequence
+from collections.abc import Callable, Sequence
 from types import CodeType, ModuleType
 
 from ..verdict import Cause, Unseen
 from .decisions import WATCHED
-from .depth import at_any_depth
-from .rewrite import rewritten
+from .making import kept_code, new_code
 from .stored import imported_by, look_through
 
 OWN_FOLDER = os.path.dirname(os.path.dirname(os.path.abspath(__file__)))
@@ -83,20 +81,27 @@ class Loader(importlib.machinery.SourceFileLoader):
         return self._code
 
 
-def with_hooks(source: bytes, file: str, module: str, selection: Selection, plain: CodeType) -> CodeType:
-    """The code of a module with hooks, else its plain one; then one line says so."""
-    if any(selection.has_import(name) for name in imported_by(source)):
-        look_through(selection.folder_of(file))
+def with_hooks(source: bytes, file: str, module: str, selection: Selection, plain: Callable[[], CodeType | None]) -> CodeType | None:
+    """The code of a module with hooks, else its plain one; then one line says so. None if it has none."""
     try:
-        with warnings.catch_warnings():
-            warnings.simplefilter("ignore")
-            made = at_any_depth(lambda: rewritten(source, file, module, selection.has_import))
+        made = kept_code(source, file, module, selection.has_import)
+        if made is None:
+            as_it_is = plain()
+            if as_it_is is None:
+                return None
+            made = new_code(source, file, module, selection.has_import)
     except Exception as fault:  # The program's import is not to fail, whatever the fault is.
         tell_unwatched(file, fault)
-        return plain
+        return plain()
     WATCHED.add(module)
     FILES.add(file)
     return made
+
+
+def look_around(source: bytes, file: str, selection: Selection) -> None:
+    """Has the folder of a program looked through, if it imports what is watched."""
+    if any(selection.has_import(name) for name in imported_by(source)):
+        look_through(selection.folder_of(file))
 
 
 def tell_unwatched(file: str, fault: BaseException) -> None:
@@ -131,9 +136,15 @@ class Finder:
     def _code_of(self, name: str, loader: importlib.machinery.SourceFileLoader) -> CodeType | None:
         """The code with hooks. What the program's own import would fail for is left to that."""
         try:
-            plain = loader.get_code(name)
             source = loader.get_data(loader.path)
         except Exception:
             return None
         look_through(self.selection.folder_of(loader.path))
-        return None if plain is None else with_hooks(source, loader.path, name, self.selection, plain)
+
+        def plain() -> CodeType | None:
+            try:
+                return loader.get_code(name)
+            except Exception:
+                return None
+
+        return with_hooks(source, loader.path, name, self.selection, plain)

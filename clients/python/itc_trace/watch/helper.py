@@ -25,7 +25,7 @@ def _is_known() -> bool:
     return sys.implementation.name == "cpython" and sys.version_info[:2] in KNOWN_VERSIONS and not is_debug and os.name == "posix"
 
 
-def _folder() -> str:
+def user_folder() -> str:
     """The user's own folder for what can be made again. Nobody else may write to it."""
     base = os.environ.get("XDG_CACHE_HOME") or os.path.join(os.path.expanduser("~"), ".cache")
     folder = os.path.join(base, "itc_trace")
@@ -41,7 +41,7 @@ def _built() -> str | None:
     with open(SOURCE, "rb") as source:
         text = source.read()
     told = f"{sys.version}{sysconfig.get_config_var('SOABI')}".encode()
-    name = os.path.join(_folder(), f"quick-{hashlib.sha256(text + told).hexdigest()[:24]}")
+    name = os.path.join(user_folder(), f"quick-{hashlib.sha256(text + told).hexdigest()[:24]}")
     if not os.path.exists(f"{name}.so") and not os.path.exists(f"{name}.failed"):
         _build(name)
     return f"{name}.so" if os.path.exists(f"{name}.so") else None

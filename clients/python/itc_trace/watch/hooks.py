@@ -523,14 +523,6 @@ def hook_I(name: Any, one: Any, site: int) -> Any:
     return name
 
 
-def hook_i(name: Any, place: int) -> Any:
-    """The same, behind the object."""
-    one = PENDING.pop((id(_getframe(1)), place), None)
-    if one is not None:
-        hook_A(one, name, place)
-    return name
-
-
 hook_D_local, hook_B_local = hook_D, hook_B
 
 
@@ -850,6 +842,16 @@ def hook_K_local(one: Any, key: Any, site: int) -> Any:
     return key
 
 
+def hook_K_kept(one: Any, key: Any, site: int) -> Any:
+    """The same, of a container that is on the stack of the frame, and given by a copy."""
+    if id(type(one)) not in PLAIN:
+        try:
+            _touch_keyed(one, key, site, OF_VARIABLE)
+        except Exception as fault:
+            failed(fault)
+    return key
+
+
 def _touch_keyed(one: Any, key: Any, site: int, limit: int, ways: str | None = None) -> None:
     kind = type(one)
     if id(kind) in SKIPPED[site]:
@@ -1083,71 +1085,18 @@ def _touch_late(one: Any, site: int, limit: int) -> None:
 
 
 def hook_L(value: Any, one: Any, key: Any, site: int) -> Any:
-    """Behind the value that is about to be stored in an element."""
+    """Behind the value that is about to be stored in an element. The stack has the container, too."""
     if id(type(one)) not in PLAIN:
         try:
-            _touch_keyed(one, key, site, ANYBODY)
+            _touch_keyed(one, key, site, OF_VARIABLE)
         except Exception as fault:
             failed(fault)
     return value
 
 
-PENDING: dict[tuple[int, int], Any] = {}
-"""What a place has evaluated already, by its frame, until the rest of what is touched is there."""
-
-
-def hook_p(one: Any, place: int, site: int) -> Any:
-    """Keeps the first part of what is touched."""
-    PENDING[id(_getframe(1)), place] = one
-    if site:
-        try:
-            _touch_field(one, site)
-        except Exception as fault:
-            failed(fault)
-    return one
-
-
-def hook_q(key: Any, place: int, site: int, is_kept: bool) -> Any:
-    """The key, behind the container."""
-    mark = id(_getframe(1)), place
-    one = PENDING.pop(mark, None)
-    if one is not None and id(type(one)) not in PLAIN:
-        try:
-            _touch_keyed(one, key, site, ANYBODY)
-        except Exception as fault:
-            failed(fault)
-        if is_kept:
-            PENDING[mark] = one, key
-    return key
-
-
-def hook_b(one: Any, place: int) -> Any:
-    """The container, behind the key that is looked for in it."""
-    key = PENDING.pop((id(_getframe(1)), place), None)
-    if id(type(one)) not in PLAIN:
-        try:
-            _touch_keyed(one, key, place, ANYBODY)
-        except Exception as fault:
-            failed(fault)
-    return one
-
-
-def hook_z(value: Any, place: int) -> Any:
-    """The value, behind what it is to be stored in or handed to."""
-    kept = PENDING.pop((id(_getframe(1)), place), None)
-    if kept is None:
-        return value
-    if ACCESSES[place].what == "element":
-        try:
-            _touch_keyed(kept[0], kept[1], place, ANYBODY)
-        except Exception as fault:
-            failed(fault)
-    else:
-        try:
-            _touch_late(kept, place, ANYBODY)
-        except Exception as fault:
-            failed(fault)
-    return value
+def hook_S(_: Any, given: Any) -> Any:
+    """What a call gives, beside the object whose method was called. Hooks within the call have taken copies of that."""
+    return given
 
 
 _HANDED = ids_of(HANDED)
@@ -1164,12 +1113,11 @@ def hook_Y(function: Any) -> Any:
 hook_Y_local = hook_Y
 
 
-def hook_y(function: Any, place: int) -> Any:
+def hook_y(one: Any, function: Any) -> Any:
     """The same of a method that is called by its name, if it is not the object's own: that one is noted already."""
-    frame = _getframe(1)
-    one = PENDING.pop((id(frame), place), None)
     if id(type(function)) not in _HANDED or not is_of_container(function) or getattr(function, "__self__", None) is one:
         return function
+    frame = _getframe(1)
     return Calling(function, (frame.f_code, frame.f_lasti))
 
 
@@ -1196,12 +1144,6 @@ def _touch_updated(value: Any, one: Any, site: int) -> None:
             _touch_by_name(one, name, "w", site)
     elif one is not None:
         _touch_all_fields(one, site, WRITE)
-
-
-def hook_X(value: Any, place: int) -> Any:
-    """The same, behind the object whose method it is."""
-    one = PENDING.pop((id(_getframe(1)), place), None)
-    return value if one is None else hook_x(value, one, place)
 
 
 # Where things are made
@@ -1374,7 +1316,7 @@ ALWAYS = frozenset(("n", "N"))
 BUILDS_CLASSES = "__build_class__"
 """A name of the builtins that nothing else has."""
 QUIET: dict[str, Callable[..., Any]] = {
-    **dict.fromkeys(HOOKS, _first), **dict.fromkeys(("K", "K_local"), _second), "a": _rest, **dict.fromkeys(("g", "c", "d"), _nothing),
+    **dict.fromkeys(HOOKS, _first), **dict.fromkeys(("K", "K_local", "K_kept", "S", "y"), _second), "a": _rest, **dict.fromkeys(("g", "c", "d"), _nothing),
 }
 
 

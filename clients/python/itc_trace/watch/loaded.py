@@ -13,6 +13,7 @@ from types import CodeType, FunctionType, ModuleType
 from .decisions import WATCHED, forget_decisions
 from .depth import at_any_depth
 from .finder import FILES, Selection, tell_unwatched
+from .making import kept_code, new_code
 from .rewrite import rewritten
 
 Prepare = Callable[[ast.Module, bytes, str], None]
@@ -40,7 +41,7 @@ def rewrite_loaded(selection: Selection, prepare: Prepare | None = None) -> None
 Mark = tuple[str, int, tuple[str, ...], tuple[int, int]]
 
 
-def _mark_of(code: CodeType) -> Mark:
+def mark_of(code: CodeType) -> Mark:
     """What a function's code with hooks and its plain one have in common, and no other function of the file."""
     ends = [(line, column) for _, line, _, column in code.co_positions() if line is not None and column is not None]
     return code.co_qualname, code.co_firstlineno, code.co_freevars, max(ends, default=(0, 0))
@@ -49,20 +50,31 @@ def _mark_of(code: CodeType) -> Mark:
 def _codes_of(file: str, module: ModuleType, selection: Selection, prepare: Prepare | None) -> dict[Mark, CodeType]:
     name = module.__name__
     try:
-        with open(file, "rb") as source, warnings.catch_warnings():
-            warnings.simplefilter("ignore")
-            text = source.read()
-            made = at_any_depth(lambda: rewritten(text, file, name, selection.has_import, prepare=prepare))
+        with open(file, "rb") as source:
+            made = _made(source.read(), file, name, selection, prepare)
     except Exception as fault:  # What prepares the tree is somebody else's.
         tell_unwatched(file, fault)
         return {}
     WATCHED.add(name)
     FILES.add(file)
+    return code_by_mark(made)
+
+
+def code_by_mark(module: CodeType) -> dict[Mark, CodeType]:
+    """All code in that of a module which is told apart from the rest of it."""
     codes: dict[Mark, CodeType | None] = {}
-    for code in _all_codes(made):
-        mark = _mark_of(code)
+    for code in _all_codes(module):
+        mark = mark_of(code)
         codes[mark] = None if mark in codes else code
     return {mark: code for mark, code in codes.items() if code is not None}
+
+
+def _made(text: bytes, file: str, name: str, selection: Selection, prepare: Prepare | None) -> CodeType:
+    if prepare is None:
+        return kept_code(text, file, name, selection.has_import) or new_code(text, file, name, selection.has_import)
+    with warnings.catch_warnings():
+        warnings.simplefilter("ignore")
+        return at_any_depth(lambda: rewritten(text, file, name, selection.has_import, prepare=prepare))
 
 
 def _all_codes(code: CodeType) -> Iterator[CodeType]:
@@ -74,7 +86,7 @@ def _all_codes(code: CodeType) -> Iterator[CodeType]:
 
 def _replace(function: FunctionType, codes: dict[Mark, CodeType]) -> None:
     """Gives a function its code with hooks. One that is not told apart from another is left as it is."""
-    made = codes.get(_mark_of(function.__code__))
+    made = codes.get(mark_of(function.__code__))
     if made is not None and made.co_argcount == function.__code__.co_argcount and made.co_varnames == function.__code__.co_varnames:
         function.__code__ = made
 

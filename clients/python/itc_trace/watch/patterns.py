@@ -7,7 +7,7 @@ from collections.abc import Callable
 from typing import Any, NamedTuple
 
 from ..conflicts import ITERATION, LENGTH
-from .places import CASES
+from .learned import Learned
 
 Names = tuple[str, ...] | None
 """A dotted name of the module, in its parts. None, if it begins with a variable of a function."""
@@ -83,7 +83,8 @@ def looks(pattern: Any) -> bool:
 class Patterns:
     """Makes the patterns of a module's statements from its syntax tree."""
 
-    def __init__(self, site: Callable[..., int], text: Callable[[Any], str], is_of_module: Callable[[str], bool]) -> None:
+    def __init__(self, learned: Learned, site: Callable[..., int], text: Callable[[Any], str], is_of_module: Callable[[str], bool]) -> None:
+        self._learned = learned
         self._site = site
         self._text_of = text
         self._is_of_module = is_of_module
@@ -96,7 +97,7 @@ class Patterns:
         if not any(looks(case.pattern) for case in cases):
             return None
         site = self._site(node.subject, "match", "")
-        CASES[site] = cases
+        self._learned.cases[site] = cases
         return site
 
     def _made(self, node: Any) -> Any:
@@ -158,3 +159,33 @@ def _constant(node: Any) -> Any:
         return ast.literal_eval(node)
     except (ValueError, TypeError):
         return Unknown
+
+
+_KINDS: tuple[Any, ...] = (Anything, Same, Named, Either, InRow, ByKey, OfClass, Case)
+_TUPLE, _UNKNOWN, _VALUE, _TABLE, _LIST = range(-5, 0)
+
+
+def packed(one: Any) -> Any:
+    """Patterns, and what has some, as tuples and values of the language alone."""
+    if type(one) in _KINDS:
+        return (_KINDS.index(type(one)), *map(packed, one))
+    if type(one) is tuple:
+        return (_TUPLE, *map(packed, one))
+    if type(one) is list:
+        return (_LIST, *map(packed, one))
+    if type(one) is dict:
+        return (_TABLE, *((key, packed(value)) for key, value in one.items()))
+    return (_UNKNOWN,) if one is Unknown else (_VALUE, one)
+
+
+def unpacked(row: Any) -> Any:
+    """What was packed."""
+    kind, *parts = row
+    if kind == _VALUE:
+        return parts[0]
+    if kind == _UNKNOWN:
+        return Unknown
+    if kind == _TABLE:
+        return {key: unpacked(value) for key, value in parts}
+    made = map(unpacked, parts)
+    return list(made) if kind == _LIST else tuple(made) if kind == _TUPLE else _KINDS[kind](*made)

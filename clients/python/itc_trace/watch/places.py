@@ -4,10 +4,13 @@ from __future__ import annotations
 
 import os
 from _thread import allocate_lock
+from bisect import bisect_right
+from collections import defaultdict
 from typing import Any
 
 from ..file_names import name_of_file
-from ..stretches import SITES, Site
+from ..stretches import SITES
+from .learned import AccessRow
 
 
 class Access:
@@ -26,8 +29,30 @@ class Access:
         self.decided: dict[int, int] = {}
 
 
-ACCESSES: dict[int, Access] = {}
-SKIPPED: list[set[int]] = []
+class Accesses(dict[int, Access]):
+    """What each hook is told, by the number of its site. That of a module is made when the first hook asks for it."""
+
+    def __init__(self) -> None:
+        super().__init__()
+        self._firsts: list[int] = []
+        self._modules: list[tuple[str, list[AccessRow]]] = []
+
+    def extend(self, first: int, module: str, rows: list[AccessRow]) -> None:
+        self._modules.append((module, rows))
+        self._firsts.append(first)
+
+    def __missing__(self, site: int) -> Access:
+        place = bisect_right(self._firsts, site) - 1
+        module, rows = self._modules[place] if place >= 0 else ("", [])
+        at = site - self._firsts[place] if rows else 0
+        if at >= len(rows):
+            raise KeyError(site)
+        what, kinds, name, text, words = rows[at]
+        return self.setdefault(site, Access(what, kinds, name, text, module, words))
+
+
+ACCESSES = Accesses()
+SKIPPED: dict[int, set[int]] = defaultdict(set)
 """Of each place the types, by identity, for which there is nothing to note."""
 
 
@@ -48,11 +73,16 @@ if hasattr(os, "register_at_fork"):
 
 
 def new_site(file: str, line: int, function: str, access: Access) -> int:
-    """The number of a further site. Threads that import modules may want one at a time."""
-    with _numbering:
-        SITES.append(Site(name_of_file(file), line, function))
-        number = len(SITES) - 1
-        while len(SKIPPED) <= number:
-            SKIPPED.append(set())
-        ACCESSES[number] = access
+    """The number of a further site."""
+    number = new_sites(file, access.module, [line], [function], [])
+    ACCESSES[number] = access
     return number
+
+
+def new_sites(file: str, module: str, lines: list[int], functions: list[str], rows: list[AccessRow]) -> int:
+    """The number of the first one of a module's sites. The others follow it. Threads that import modules may want some at a time."""
+    with _numbering:
+        first = len(SITES)
+        ACCESSES.extend(first, module, rows)
+        SITES.extend(name_of_file(file), lines, functions)
+    return first

@@ -997,6 +997,7 @@ HOOK(k, 3, touch_keyed(words[0], words[1], words[2], OF_TEMPORARY, words[0]))
 HOOK(k_local, 3, touch_keyed(words[0], words[1], words[2], OF_VARIABLE, words[0]))
 HOOK(K, 3, touch_keyed(words[0], words[1], words[2], ANYBODY, words[1]))
 HOOK(K_local, 3, touch_keyed(words[0], words[1], words[2], OF_VARIABLE_IN_USE, words[1]))
+HOOK(K_kept, 3, touch_keyed(words[0], words[1], words[2], OF_VARIABLE, words[1]))
 HOOK(first, Py_MAX(count, 1), Py_NewRef(words[0]))
 HOOK(second, Py_MAX(count, 2), Py_NewRef(words[1]))
 HOOK(none, count, Py_NewRef(Py_None))
@@ -1259,7 +1260,7 @@ static PyMethodDef methods[] = {
     FAST("hook_o", hook_o), FAST("hook_o_local", hook_o_local), FAST("hook_w", hook_o), FAST("hook_w_local", hook_o_local),
     FAST("hook_o_new", hook_o_new), FAST("hook_h", hook_h), FAST("hook_h_local", hook_h_local), FAST("hook_m", hook_m),
     FAST("hook_m_local", hook_m_local), FAST("hook_f", hook_f), FAST("hook_f_local", hook_f_local), FAST("hook_k", hook_k),
-    FAST("hook_k_local", hook_k_local), FAST("hook_K", hook_K), FAST("hook_K_local", hook_K_local), FAST("hook_c", hook_c),
+    FAST("hook_k_local", hook_k_local), FAST("hook_K", hook_K), FAST("hook_K_local", hook_K_local), FAST("hook_K_kept", hook_K_kept), FAST("hook_S", hook_second), FAST("hook_c", hook_c),
     {"hook_g", hook_g, METH_O, NULL}, FAST("hook_n", hook_n), FAST("hook_N", hook_N), {"hook_d", hook_d, METH_NOARGS, NULL},
     FAST("hook_v", hook_first), FAST("first", hook_first), FAST("second", hook_second), FAST("nothing", hook_none), FAST("references", references),
     FAST("owner_of", owner_of),

@@ -7,25 +7,28 @@ operands, and give them back. So the program's own instructions stay, in their o
 from __future__ import annotations
 
 import ast
-import builtins
 import os
 from collections.abc import Callable, Iterator
 from types import CodeType
 from typing import Any
 
 from ..conflicts import ADDITION, ITERATION, KEYS, LENGTH, REWRITE
-from . import passed_over
+from . import on_stack, passed_over
 from .kinds import (
     CHANGED_ARGUMENT, COMPARED, CONSUMING, CONTENT, DEPTHS_OF_METHODS, EACH, IN_PLACE_FUNCTIONS, IN_PLACE_METHODS, KEYED, LATE_METHODS, METHODS, ORDERED,
     SHOWN, STATE, STEPPING, TRUTH, WRITTEN, depth_of, known_function,
 )
 from .patterns import Patterns
-from .places import DELETED, MADE_HERE, NAMES_OF_HANDED, OF_BASE, Access, new_site
-from .scopes import CLASS, COMPREHENSION, COMPREHENSIONS, DELEGATING, FUNCTION, MODULE, STORED_ELSEWHERE, STORED_FIELDS, Scope, Scopes
+from .learned import Learned
+from .nodes import at, compiled
+from .places import DELETED, MADE_HERE, OF_BASE
+from .placing import placed
+from .scopes import CLASS, COMPREHENSION, DELEGATING, FUNCTION, MODULE, Scope, Scopes
 from .templates import field_paths
 
 PREFIX = "_itc_"
 ON = PREFIX + "on"
+LOAD = ast.Load()
 
 READERS = {
     **dict.fromkeys(("len", "bool"), LENGTH),
@@ -79,13 +82,10 @@ GIVERS = frozenset("getattr next vars globals max min iter reversed".split())
 CONTAINER_CLASSES = frozenset(f"collections.{name}" for name in "deque defaultdict OrderedDict Counter UserDict UserList".split())
 DISPLAYS = (ast.Dict, ast.List, ast.Set, ast.DictComp, ast.ListComp, ast.SetComp)
 VIEWS = frozenset(("items", "keys", "values"))
-SCOPED = (*COMPREHENSIONS, ast.Lambda, ast.Slice)
-"""What no choice may stand around: what has variables of its own is compiled once, and a slice is no value."""
 PARTS = (ast.Starred,)
 REACHED = (ast.Name, ast.Attribute, ast.Subscript)
 GIVEN = (*REACHED, ast.Call, ast.IfExp, ast.BoolOp, ast.NamedExpr, ast.Await)
 """What may give something that others can reach."""
-LATE = (ast.Call, ast.Await, ast.Yield, ast.YieldFrom)
 JOINING = (ast.Add, ast.Sub, ast.BitOr, ast.BitAnd, ast.BitXor)
 """Operators that make a container of two others."""
 NUMBERS = (int, float, complex)
@@ -98,30 +98,21 @@ def rewritten(
     source: bytes | str, file: str, module: str, is_watched: Callable[[str], bool],
     prepare: Callable[[ast.Module, bytes, str], None] | None = None,
 ) -> CodeType:
-    """The module's code with hooks. `prepare` is what somebody else does to its tree first."""
+    """The module's code with hooks, whose places are known from here on. `prepare` is what somebody else does to its tree first."""
+    learned = Learned(is_watched)
+    return placed(written(source, file, module, learned, prepare), learned.found(), file, module)
+
+
+def written(
+    source: bytes | str, file: str, module: str, learned: Learned, prepare: Callable[[ast.Module, bytes, str], None] | None = None,
+) -> CodeType:
+    """The code with hooks, whose places have no numbers of the process yet."""
     tree, twin = ast.parse(source, file), ast.parse(source, file)
     if prepare is not None:
         text = source if isinstance(source, bytes) else source.encode()
         prepare(tree, text, file)
         prepare(twin, text, file)
-    _pair(tree, twin)
-    rewriter = Rewriter(Scopes(tree, is_watched), file, module, is_watched)
-    return compile(rewriter.module(tree), file, "exec", dont_inherit=True)  # type: ignore[no-any-return]
-
-
-def _pair(node: Any, twin: Any) -> bool:
-    """Gives each node the same one of an untouched tree, and tells whether it has scopes of its own inside."""
-    is_scoped = False
-    for name in node._fields:
-        one = getattr(node, name, None)
-        if isinstance(one, list):
-            for child, other in zip(one, getattr(twin, name)):
-                if isinstance(child, ast.AST):
-                    is_scoped |= _pair(child, other)
-        elif isinstance(one, ast.AST):
-            is_scoped |= _pair(one, getattr(twin, name))
-    node.twin, node.is_scoped = twin, is_scoped or isinstance(node, SCOPED)
-    return bool(node.is_scoped)
+    return on_stack.with_copies(compiled(Rewriter(Scopes(tree, twin, learned), file).module(tree), file))
 
 
 def _is_new(value: Any) -> bool:
@@ -151,18 +142,13 @@ def _pairs_of(node: ast.Assign) -> list[tuple[Any, Any]]:
     return [] if any(isinstance(one, ast.Starred) for pair in pairs for one in pair) else pairs
 
 
-def _contains(node: ast.AST, kinds: tuple[type, ...]) -> bool:
-    return any(isinstance(one, kinds) for one in ast.walk(node))
-
-
 class Rewriter:
     """Rewrites one module."""
 
-    def __init__(self, scopes: Scopes, file: str, module: str, is_watched: Callable[[str], bool]) -> None:
+    def __init__(self, scopes: Scopes, file: str) -> None:
         self._scopes = scopes
+        self._learned = scopes.learned
         self._file = file
-        self._module = module
-        self._is_watched = is_watched
         self._scope: Scope = scopes.module
         self._hooks = 0
         self._is_guarding = False
@@ -171,29 +157,29 @@ class Rewriter:
         self._has_texts_of_annotations = "annotations" in scopes.module.imported and scopes.module.imported["annotations"] == (
             "__future__.annotations"
         )
-        self._patterns = Patterns(self._site, self._text, lambda name: self._scope.owner(name).kind == MODULE)
+        self._patterns = Patterns(self._learned, self._site, self._text, lambda name: self._scope.owner(name).kind == MODULE)
 
     def module(self, tree: ast.Module) -> ast.Module:
         tree.body = self._statements(tree.body)
-        return ast.fix_missing_locations(tree)
+        del self._patterns  # It refers to this object, which would have the tree wait for the collector.
+        return tree
 
     # Sites and hooks
 
     def _site(self, node: Any, what: str, kinds: str, name: str = "", text: str = "", words: Any = None) -> int:
-        access = Access(what, kinds, name, text, self._module, words)
-        return new_site(self._file, node.lineno, self._scope.name or "<module>", access)
+        return self._learned.new_site(node.lineno, self._scope.name or "<module>", what, kinds, name, text, words)
 
     def _hook(self, name: str, node: ast.AST, *words: Any) -> ast.Call:
         self._hooks += 1
-        made = [word if isinstance(word, ast.AST) else ast.Constant(word) for word in words]
-        return ast.copy_location(ast.Call(ast.Name(PREFIX + name, ast.Load()), made, []), node)
+        made = [at(node, word if isinstance(word, ast.AST) else ast.Constant(word)) for word in words]
+        return at(node, ast.Call(at(node, ast.Name(PREFIX + name, LOAD)), made, []))
 
     def _is_on(self, node: ast.AST) -> ast.Name:
-        return ast.copy_location(ast.Name(ON, ast.Load()), node)
+        return at(node, ast.Name(ON, LOAD))
 
     def _choice(self, hooked: ast.expr, node: Any) -> ast.expr:
         """The hooked expression while hooks are on, else the one that stood there."""
-        return ast.copy_location(ast.IfExp(self._is_on(node), hooked, node.twin), node)
+        return at(node, ast.IfExp(self._is_on(node), hooked, node.twin))
 
     def _operand(self, node: Any, hook: str, *words: Any) -> ast.expr:
         """The expression, passed through a hook."""
@@ -284,7 +270,7 @@ class Rewriter:
         if isinstance(node, ast.Name) and self._is_builtin(node.id):
             return True
         name = self._import_of(node)
-        return name is not None and not name.startswith(".") and not self._is_watched(name)
+        return name is not None and not name.startswith(".") and not self._learned.is_watched(name)
 
     def _is_foreign_container(self, node: Any) -> bool:
         """The same of what is looked at as a container, which a module of the library may well have."""
@@ -294,7 +280,7 @@ class Rewriter:
 
     def _is_builtin(self, name: str) -> bool:
         owner = self._scope.owner(name)
-        return owner.kind == MODULE and not owner.bound[name] and hasattr(builtins, name)
+        return owner.kind == MODULE and not owner.bound[name] and self._learned.is_builtin(name)
 
     def _text(self, node: Any) -> str:
         """How a person would write it, in short. `self` is known by its class."""
@@ -343,7 +329,7 @@ class Rewriter:
         return self._only_on(made, node)
 
     def _only_on(self, statements: list[ast.stmt], node: ast.AST) -> list[ast.stmt]:
-        return [ast.copy_location(ast.If(self._is_on(node), statements, []), node)] if statements else []
+        return [at(node, ast.If(self._is_on(node), statements, []))] if statements else []
 
     # Statements
 
@@ -352,7 +338,7 @@ class Rewriter:
 
     def _statement(self, node: Any) -> list[ast.stmt]:
         if isinstance(node, (ast.Import, ast.ImportFrom)):
-            passed_over.look_at_import(node, self._file)
+            passed_over.look_at_import(node, self._learned)
             if isinstance(node, ast.ImportFrom) and node.module == "__future__":
                 return [node]  # No other statement may stand before the next one of these.
             return [node, *self._stored([one.asname or one.name.partition(".")[0] for one in node.names], node)]
@@ -370,7 +356,7 @@ class Rewriter:
         if self._hooks == before_hooks:
             return [made]
         if is_twice:
-            return [ast.copy_location(ast.If(self._is_on(node), [*self._before, made, *self._after], [node.twin]), node)]
+            return [at(node, ast.If(self._is_on(node), [*self._before, made, *self._after], [node.twin]))]
         return [*self._only_on(self._before, node), made, *self._only_on(self._after, node)]
 
     def _simple_Assign(self, node: ast.Assign) -> ast.stmt:
@@ -409,7 +395,7 @@ class Rewriter:
 
     def _simple_AugAssign(self, node: ast.AugAssign) -> ast.stmt:
         target = node.target
-        is_late = _contains(node.value, LATE)
+        is_late = node.value.is_late  # type: ignore[attr-defined]
         if isinstance(target, ast.Name):
             if self._is_shared(target.id):
                 self._before += [ast.copy_location(ast.Expr(self._variable(target, target.id, "r")), node)]
@@ -455,8 +441,9 @@ class Rewriter:
             target.value = self._operand(owner, "o", reads)
             node.value = self._behind("l", owner, self._added(node), writes)
         else:
-            target.value = self._operand(owner, "p", writes, reads)
-            node.value = self._hook("z", node.value, self._added(node), writes)
+            target.value = self._operand(owner, "o", reads)
+            kept = on_stack.copy(on_stack.FIELD_ADDED_TO, node.value)
+            node.value = self._hook("l", node.value, self._added(node), kept, writes)
 
     def _augment_subscript(self, node: ast.AugAssign, target: ast.Subscript, is_late: bool) -> None:
         owner: Any = target.value
@@ -476,9 +463,9 @@ class Rewriter:
             self._element(target, reads)
             node.value = self._hook("L", node.value, self._added(node), owner.twin, key.twin, writes)  # type: ignore[attr-defined]
         else:
-            target.value = self._operand(owner, "p", writes, 0)
-            target.slice = self._hook("q", key, self._child(key), writes, reads, True)
-            node.value = self._hook("z", node.value, self._added(node), writes)
+            self._element_on_stack(target, reads)
+            kept = [on_stack.copy(form, node.value) for form in (on_stack.ITEM_ADDED_TO, on_stack.KEY_ADDED_TO)]
+            node.value = self._hook("L", node.value, self._added(node), *kept, writes)
 
     def _simple_Delete(self, node: ast.Delete) -> ast.stmt:
         node.targets = [self._child(target) for target in node.targets]
@@ -671,7 +658,7 @@ class Rewriter:
         return node
 
     def _visit_Attribute(self, node: ast.Attribute) -> ast.expr:
-        passed_over.look_at_attribute(node, self._file)
+        passed_over.look_at_attribute(node, self._learned)
         if node.attr == "__dict__":
             is_read = isinstance(node.ctx, ast.Load)
             node.value = self._operand(node.value, "D") if is_read else self._operand(node.value, "B", self._site(node, "field", "w"))
@@ -686,7 +673,7 @@ class Rewriter:
     def _is_never_changed(self, node: ast.Attribute) -> bool:
         """Whether it is an attribute of what is not watched, which no source of the program stores. What `super()` finds is the program's."""
         is_loaded = isinstance(node.ctx, ast.Load)
-        return self._is_foreign(node.value) and is_loaded and node.attr not in STORED_ELSEWHERE and not self._is_super_of_any(node.value)
+        return self._is_foreign(node.value) and is_loaded and not self._learned.is_stored_elsewhere(node.attr) and not self._is_super_of_any(node.value)
 
     def _visit_Subscript(self, node: ast.Subscript) -> ast.expr:
         kinds = "r" if isinstance(node.ctx, ast.Load) else "d" if isinstance(node.ctx, ast.Del) else "w"
@@ -711,14 +698,21 @@ class Rewriter:
             node.value = self._child(owner)
             node.slice = self._key_of(owner, key, site)
         else:
-            node.value = self._operand(owner, "p", site, 0)
-            node.slice = self._hook("q", key, self._child(key), site, site, False)
+            self._element_on_stack(node, site)
+
+    def _element_on_stack(self, node: ast.Subscript, site: int) -> None:
+        node.value = self._child(node.value)
+        node.slice = self._key_behind(on_stack.copy(on_stack.ITEM, node.slice), node.slice, site)
+
+    def _key_behind(self, kept: ast.expr, key: Any, site: int) -> ast.expr:
+        """The key, passed through a hook with the container that is on the stack."""
+        return self._hook("K_kept", key, kept, self._child(key), site)
 
     def _visit_Call(self, node: ast.Call) -> ast.expr:
         self._name_handed(node)
         name = self._import_of(node.func)
-        passed_over.look_at_call(node, self._file, self._is_builtin, name)
-        passed_over.look_at_handed(node, self._file, self._is_foreign(node.func), name)
+        passed_over.look_at_call(node, self._learned, self._is_builtin, name)
+        passed_over.look_at_handed(node, self._learned, self._is_foreign(node.func), name)
         if name in STEPPING:
             return self._call_stepping(node)
         if name == "os.getenv" and node.args and not isinstance(node.args[0], ast.Starred):
@@ -755,7 +749,7 @@ class Rewriter:
             elif isinstance(one, ast.Attribute) and one.attr in METHODS and self._is_container_class(one.value):
                 self._name_elements(node, one, one.attr)
             elif isinstance(one, ast.Attribute) and one.attr in METHODS:
-                NAMES_OF_HANDED[self._file, node.lineno, one.attr] = self._text(one.value)
+                self._learned.handed[node.lineno, one.attr] = self._text(one.value)
             elif isinstance(one, ast.Name) and one.id in READERS and self._is_builtin(one.id):
                 self._name_elements(node, one, f"builtins.{one.id}")
 
@@ -763,7 +757,7 @@ class Rewriter:
         """Keeps the name of what a function looks at, if it is given each element of what the call has beside it: `map(len, queues)`."""
         given: Any = next((other for other in node.args if other is not function), getattr(node.func, "value", None))
         if isinstance(given, GIVEN):
-            NAMES_OF_HANDED[self._file, node.lineno, name] = f"{self._text(given)}[..]"
+            self._learned.handed[node.lineno, name] = f"{self._text(given)}[..]"
 
     def _handed(self, node: Any) -> Any:
         """What is called by its name, or handed to a function that calls it: it may be a method of a container."""
@@ -774,7 +768,7 @@ class Rewriter:
             is_known = node.id in owner.defined or node.id in owner.imported
             is_handed = node.id in CALLED_BY_OTHERS if self._is_builtin(node.id) else not is_known
         elif isinstance(node, ast.Attribute):
-            is_handed = node.attr in METHODS or node.attr in STORED_FIELDS
+            is_handed = node.attr in METHODS or self._learned.is_field(node.attr)
         else:
             is_handed = isinstance(node, GIVEN)
         return self._operand(node, "Y") if is_handed else self._child(node)
@@ -865,7 +859,7 @@ class Rewriter:
 
     def _call_method(self, node: ast.Call, func: ast.Attribute) -> ast.expr:
         name, owner = func.attr, func.value
-        is_late = any(_contains(one, LATE) for one in node.args)
+        is_late = any(one.is_late for one in node.args)  # type: ignore[attr-defined]
         if name in METHODS and _is_super(owner) and self._scope.first:
             self._call_of_base(node, func)
         elif name in METHODS and node.args and not isinstance(node.args[0], ast.Starred) and self._is_container_class(owner):
@@ -879,11 +873,10 @@ class Rewriter:
         elif name not in METHODS or self._is_foreign_container(owner):
             given = node.args
             called = self._called(func)
-            node.func = self._hook("Y", func, called) if name in STORED_FIELDS and not self._is_foreign(owner) else called
+            node.func = self._hook("Y", func, called) if self._learned.is_field(name) and not self._is_foreign(owner) else called
             node.args = [self._argument(one, func, owner) for one in given]
             if name in TEMPLATES:
                 return self._call_template(node, func)
-            self._keep_owner(func, node)
         elif name in KEYED and node.args and not isinstance(node.args[0], ast.Starred):
             self._call_keyed(node, func, self._site(node, "method", "", name, self._text(owner)))
         elif is_late and name in LATE_METHODS and not isinstance(node.args[-1], ast.Starred):
@@ -893,28 +886,25 @@ class Rewriter:
             is_known = words is not None and None not in words and len(node.args) < 2
             func.value = self._operand(owner, "m", self._site(node, "method", "", name, self._text(owner), words if is_known else None))
             node.args = [self._argument(one, func, owner) for one in node.args]
-            self._keep_owner(func, node)
-        if name in METHODS and DELEGATING & STORED_FIELDS and not self._is_foreign(owner):
+        if name in METHODS and any(map(self._learned.is_field, DELEGATING)) and not self._is_foreign(owner):
             self._call_delegated(node, func)
         for keyword in node.keywords:
             self._keyword(keyword)
-        return node
+        return self._with_owner(node, func)
 
     def _call_delegated(self, node: ast.Call, func: ast.Attribute) -> None:
         """A method that an object may have found at another one, by a method of its own for what it has not."""
-        place = self._site(node, "method", "", func.attr)
-        func.value = self._hook("p", func.value, func.value, place, 0)
-        node.func = self._hook("y", func, func, place)
+        owner, func.value = func.value, on_stack.copy(on_stack.OF_OWNER, func)
+        node.func = self._hook("y", func, owner, func)
 
-    def _call_template(self, node: ast.Call, func: ast.Attribute) -> ast.Call:
+    def _call_template(self, node: ast.Call, func: ast.Attribute) -> ast.expr:
         """What a template puts in by its name is looked at, too."""
         for keyword in node.keywords:
             if keyword.arg is None:
                 self._keyword(keyword)
             else:
                 keyword.value = self._argument(keyword.value, func, func.value)
-        self._keep_owner(func, node)
-        return node
+        return self._with_owner(node, func)
 
     def _is_of_fields(self, node: Any) -> bool:
         """Whether it gives the fields of an object as a dictionary."""
@@ -938,9 +928,8 @@ class Rewriter:
         elif isinstance(owner, ast.Name):
             me = owner.twin  # type: ignore[attr-defined]
         else:
-            func.value = self._operand(owner, "p", site, 0)
-            node.args[0] = self._hook("i", given[0], node.args[0], site)
-            return
+            func.value = self._child(owner)
+            me = on_stack.wanted(node)
         node.args[0] = self._hook("I", given[0], node.args[0], me, site)
 
     def _is_super_of_any(self, node: Any) -> bool:
@@ -955,7 +944,6 @@ class Rewriter:
             given = node.args
             node.func = self._called(func)
             node.args = [self._argument(one, func, owner) for one in given]
-            self._keep_owner(func, node)
         elif any(isinstance(one, ast.Starred) for one in node.args):
             node.args = [self._child(one) for one in node.args]
         else:
@@ -967,7 +955,7 @@ class Rewriter:
                 keyword.value = self._shown(keyword.value, template, keyword.arg)
             else:
                 self._keyword(keyword)
-        return node
+        return self._with_owner(node, func)
 
     def _shown(self, node: Any, template: Any, name: int | str) -> Any:
         """What a text puts in at a place of its own, or by a name."""
@@ -1007,7 +995,7 @@ class Rewriter:
             return [self._child(owner), self._key_of(owner, given[1], site), *rest]
         if is_keyed:
             key: Any = given[1]
-            return [self._operand(owner, "p", site, 0), self._hook("q", key, self._child(key), site, site, False), *rest]
+            return [self._child(owner), self._key_behind(on_stack.copy(on_stack.GIVEN_FIRST, key), key, site), *rest]
         return [self._operand(owner, "m", site), *rest]
 
     def _is_container_class(self, node: Any) -> bool:
@@ -1030,13 +1018,40 @@ class Rewriter:
         site = self._site(node, "given", kinds, func.attr, self._text(node), OF_KEYS if kinds == KEYS or func.attr == "update" else None)
         if isinstance(owner, ast.Name):
             return self._hook("x", node, self._child(node), owner.twin, site)  # type: ignore[attr-defined]
-        return self._hook("X", node, self._child(node), site)
+        return self._hook("x", node, self._child(node), on_stack.wanted(node), site)
 
-    def _keep_owner(self, func: ast.Attribute, node: ast.Call) -> None:
-        """Has the object kept whose method is called, until what it is given is there."""
-        for one in (*node.args, *(keyword.value for keyword in node.keywords)):
-            if isinstance(one, ast.Call) and isinstance(one.func, ast.Name) and one.func.id == f"{PREFIX}X":
-                func.value = self._hook("p", func.value, func.value, one.args[1], 0)
+    def _with_owner(self, node: ast.Call, func: ast.Attribute) -> ast.expr:
+        """The call. If hooks of what it is given want the object whose method it is, a hook around it keeps that on the stack."""
+        given: list[Any] = [*node.args, *(keyword.value for keyword in node.keywords)]
+        wanting = [(place, one, on_stack.place_of_wanted(one)) for place, one in enumerate(given)]
+        if all(at is None for _, _, at in wanting):
+            return node
+        if _is_hook(node.func):
+            node.func.args[-1] = func  # type: ignore[attr-defined]
+        else:
+            node.func = func
+        function = self._form_of_function(node.func)
+        forms = {place: on_stack.form_of_call(node, function, place) for place, _, at in wanting if at is not None}
+        for place, hook, at in wanting:
+            if at is not None:
+                hook.args[at] = on_stack.copy(forms[place], hook.args[at])
+        return self._hook("S", node, self._owner_taken(node, func, function), node)
+
+    @staticmethod
+    def _form_of_function(function: Any) -> str:
+        if not _is_hook(function):
+            return on_stack.METHOD
+        return on_stack.BEHIND_HOOK if len(function.args) == 1 else on_stack.WITH_OWNER
+
+    @staticmethod
+    def _owner_taken(node: Any, func: ast.Attribute, function: str) -> ast.expr:
+        """The object whose method is called, with a copy of it in its place."""
+        kept = on_stack.copy(on_stack.form_of_call(node, function), func)
+        if function == on_stack.WITH_OWNER:
+            owner, node.func.args[0] = node.func.args[0], kept
+        else:
+            owner, func.value = func.value, kept
+        return owner  # type: ignore[no-any-return]
 
     def _whole(self, node: Any, kinds: str, depth: str = "", methods: tuple[str, ...] | None = None) -> Any:
         """An expression, all of which is looked at if it is a container, and no class of the program has one of the methods."""
@@ -1103,8 +1118,8 @@ class Rewriter:
             func.value = self._child(owner)
             node.args = [self._key_of(owner, first, site), *rest]
         else:
-            func.value = self._operand(owner, "p", site, 0)
-            node.args = [self._hook("q", first, self._child(first), site, site, False), *rest]
+            func.value = self._child(owner)
+            node.args = [self._hook("K_local", first, on_stack.wanted(first), self._child(first), site), *rest]
 
     def _call_late(self, node: ast.Call, func: ast.Attribute, site: int) -> None:
         """A method whose argument takes its time: the touch comes behind it."""
@@ -1115,9 +1130,9 @@ class Rewriter:
             func.value = self._child(owner)
             node.args = [*rest, self._behind("l", owner, self._argument(last, func, owner), site)]
         else:
-            func.value = self._operand(owner, "p", site, 0)
+            func.value = self._child(owner)
             made = self._whole(last, CONSUMING[func.attr]) if func.attr in CONSUMING else self._child(last)
-            node.args = [*rest, self._hook("z", last, made, site)]
+            node.args = [*rest, self._hook("l_local", last, made, on_stack.wanted(last), site)]
 
     def _visit_Compare(self, node: ast.Compare) -> ast.expr:
         if len(node.ops) != 1 or not isinstance(node.ops[0], (ast.In, ast.NotIn)):
@@ -1134,8 +1149,8 @@ class Rewriter:
             node.left = self._hook("K", left, owner.twin, self._child(left), site)  # type: ignore[attr-defined]
             node.comparators = [self._child(owner)]
         else:
-            node.left = self._operand(left, "p", site, 0)
-            node.comparators = [self._hook("b", owner, self._child(owner), site)]
+            node.left = self._child(left)
+            node.comparators = [self._operand(owner, "k", on_stack.copy(on_stack.LOOKED_FOR, owner), site)]
         return node
 
     def _compare_values(self, node: ast.Compare) -> ast.expr:
@@ -1231,8 +1246,8 @@ class Rewriter:
     def _bound_in(self, part: ast.comprehension) -> Iterator[ast.expr]:
         """Conditions that note which variables a step of a comprehension has bound, and that are always true."""
         for one in self._bindings(getattr(part.target, "twin", part.target)):
-            noted = ast.UnaryOp(ast.Not(), self._variable(one, one.id, "w"))
-            yield ast.copy_location(ast.IfExp(self._is_on(one), noted, ast.Constant(True)), one)
+            noted = at(one, ast.UnaryOp(ast.Not(), self._variable(one, one.id, "w")))
+            yield at(one, ast.IfExp(self._is_on(one), noted, at(one, ast.Constant(True))))
 
     def _iterated(self, part: ast.comprehension) -> Any:
         return self._guarded(part.iter) if part.is_async else self._gone_through(part.iter, part.target)

@@ -3,11 +3,12 @@
 from __future__ import annotations
 
 import ast
-import builtins
 from collections import Counter
 from collections.abc import Callable, Iterator
+from typing import Any
 
 from .kinds import METHODS
+from .learned import Learned
 
 FUNCTIONS = (ast.FunctionDef, ast.AsyncFunctionDef, ast.Lambda)
 COMPREHENSIONS = (ast.ListComp, ast.SetComp, ast.DictComp, ast.GeneratorExp)
@@ -17,10 +18,12 @@ STARTERS = frozenset("start submit create_task ensure_future run_in_executor run
 MODULE, FUNCTION, CLASS, COMPREHENSION = "module", "function", "class", "comprehension"
 FIRST_BINDING, LATER_BINDING = 1, 2
 
-STORED_ELSEWHERE: set[str] = set()
-"""Names that some module has stored in another, as `config.debug = True` does. A module that imports is looked at before what it imports."""
-STORED_FIELDS: set[str] = set()
-"""Names of fields that some module stores: what is called by such a name may be anything, and is no method of a class mostly."""
+SCOPED, LATE = 1, 2
+"""What an expression has inside: variables of its own or a slice, and what may take its time or run code of the program."""
+SCOPED_KINDS = (*COMPREHENSIONS, ast.Lambda, ast.Slice)
+LATE_KINDS = (ast.Call, ast.Await, ast.Yield, ast.YieldFrom)
+WITHOUT_NODES = frozenset("id attr arg ctx op ops kind level module type_comment type_ignores simple is_async conversion rest kwd_attrs".split())
+"""Fields of nodes that have no other nodes, or none with a place in the source."""
 
 DELEGATING = frozenset(("__getattr__", "__getattribute__"))
 """Methods by which an object may give what another one has. Where a source defines one, it is among the fields that are stored."""
@@ -52,6 +55,10 @@ class Scope:
         """The variable of a method that has the object it was called for."""
         self.is_after_start = False
         """Whether another task may be there already, where the source is looked at now."""
+        self.calls_and_bindings: list[tuple[bool, str]] = []
+        """What follows the first call of a function that may start a task: each such call, and each name that is bound once."""
+        self._owners: dict[str, Scope] | None = None
+        """What was found for names, once no scope gets another one."""
 
     @property
     def class_name(self) -> str | None:
@@ -63,6 +70,18 @@ class Scope:
 
     def owner(self, name: str) -> Scope:
         """The scope whose variable a name is here; that of the module, where no other binds it."""
+        if self._owners is None:
+            return self._found_owner(name)
+        owner = self._owners.get(name)
+        if owner is None:
+            owner = self._owners[name] = self._found_owner(name)
+        return owner
+
+    def end(self) -> None:
+        """From here on no scope of the module gets another name."""
+        self._owners = {}
+
+    def _found_owner(self, name: str) -> Scope:
         scope = self
         while scope.parent is not None:
             if name in scope.globals:
@@ -93,39 +112,90 @@ class Scope:
         owner.bound[name] += LATER_BINDING if is_repeated or owner is not self else FIRST_BINDING
 
 
-class Scopes(ast.NodeVisitor):
-    """The scopes of a module's syntax tree, by the nodes that open them."""
+class Scopes:
+    """The scopes of a module's syntax tree, by the nodes that open them.
 
-    def __init__(self, tree: ast.Module, is_watched: Callable[[str], bool] = lambda name: False) -> None:
+    One walk finds them. It gives each node the same one of an untouched tree, too, and tells of each what it has inside.
+    """
+
+    def __init__(self, tree: ast.Module, twin: ast.Module | None = None, learned: Learned | None = None) -> None:
         self.module = Scope(MODULE, None)
-        self._is_watched = is_watched
-        self._starting = _starting_functions(tree)
+        self.learned = Learned() if learned is None else learned
         self.by_node: dict[ast.AST, Scope] = {tree: self.module}
         self._scope = self.module
         self._loops = 0
+        self._is_target = False
         self._outer: list[tuple[Scope, str]] = []
-        for one in tree.body:
-            self.visit(one)
+        self._called: set[str] = set()
+        self._called_by: dict[str, set[str]] = {}
+        self._walk_all(tree.body, (twin or tree).body)
+        self._end()
+
+    def _end(self) -> None:
+        starting = _starting_functions(self._called_by)
+        for scope in self.by_node.values():
+            _count_later(scope, starting)
         for scope, name in self._outer:
             scope.bind(name, True)
+        for scope in self.by_node.values():
+            scope.end()
         for scope in self.by_node.values():
             self._note_captures(scope)
 
     @staticmethod
     def _note_captures(scope: Scope) -> None:
+        function = scope.function
         for name in scope.used:
             owner = scope.owner(name)
-            if owner.function is not scope.function:
+            if owner.function is not function:
                 owner.captured.add(name)
 
     def may_be_shared(self, scope: Scope, name: str) -> bool:
         """Whether the variable is bound more than once, and more than its own scope uses it."""
         owner = scope.owner(name)
-        if owner.kind == MODULE and name in STORED_ELSEWHERE:
+        if owner.kind == MODULE and self.learned.is_stored_elsewhere(name):
             return owner.bound[name] > 0
         if owner.kind == MODULE and owner.is_open and name not in owner.defined and name not in owner.imported:
-            return owner.bound[name] > 0 or not hasattr(builtins, name)
+            return owner.bound[name] > 0 or not self.learned.is_builtin(name)
         return name in owner.captured and (owner.kind == COMPREHENSION or owner.kind != CLASS and owner.bound[name] > FIRST_BINDING)
+
+    # The walk
+
+    def _walk(self, node: Any, twin: Any) -> int:
+        """Looks at a node and all that is inside. Gives what it has."""
+        node.twin = twin
+        inside = _visit_of(type(node))(self, node, twin)
+        node.is_scoped = inside & SCOPED != 0
+        node.is_late = inside & LATE != 0
+        return inside
+
+    def _walk_all(self, nodes: list[Any], twins: list[Any]) -> int:
+        inside = 0
+        for node, twin in zip(nodes, twins):
+            if node is not None:
+                inside |= self._walk(node, twin)
+        return inside
+
+    def _walk_inside(self, node: Any, twin: Any) -> int:
+        """Looks at all that is inside of a node."""
+        inside = 0
+        for name in _fields_of(type(node)):
+            one = getattr(node, name, None)
+            if type(one) is list:
+                for child, other in zip(one, getattr(twin, name)):
+                    if isinstance(child, ast.AST):
+                        inside |= self._walk(child, other)
+            elif isinstance(one, ast.AST):
+                inside |= self._walk(one, getattr(twin, name))
+        return inside
+
+    def _walk_leaf(self, node: Any, twin: Any) -> int:
+        return 0
+
+    def _visit_Constant(self, node: ast.Constant, twin: Any) -> int:
+        if type(node.value) is int:
+            self.learned.look_at_number(node.value)
+        return 0
 
     def _opened(self, node: ast.AST, kind: str, name: str = "") -> Scope:
         scope = self.by_node[node] = Scope(kind, self._scope, name)
@@ -133,207 +203,296 @@ class Scopes(ast.NodeVisitor):
 
     def _bind(self, name: str) -> None:
         scope = self._scope.function
-        self._scope.used.add(name)
+        scope.used.add(name)
         if name in scope.nonlocals or name in scope.globals:
             self._outer.append((scope, name))  # Its own scope may bind it further down.
-        else:
-            scope.bind(name, self._loops > 0 or scope.is_after_start)
+            return
+        is_repeated = self._loops > 0 or scope.is_after_start
+        scope.bind(name, is_repeated)
+        if scope.calls_and_bindings and not is_repeated:
+            scope.calls_and_bindings.append((False, name))
 
-    def visit_Name(self, node: ast.Name) -> None:
-        if isinstance(node.ctx, ast.Load):
-            self._scope.used.add(node.id)
-        elif self._scope.kind == COMPREHENSION and node in self._targets:
-            self._scope.bound[node.id] += FIRST_BINDING
+    def _visit_Name(self, node: ast.Name, twin: Any) -> int:
+        scope = self._scope
+        if type(node.ctx) is ast.Load:
+            scope.used.add(node.id)
+        elif scope.kind == COMPREHENSION and self._is_target:
+            scope.bound[node.id] += FIRST_BINDING
         else:
             self._bind(node.id)
-            if self._scope.kind == CLASS:
-                STORED_FIELDS.add(node.id)
-            if node.id not in self._scope.globals | self._scope.nonlocals:
-                self._scope.function.first_lines.setdefault(node.id, node.lineno)
+            if scope.kind == CLASS:
+                self.learned.add_field(node.id)
+            if node.id not in scope.globals and node.id not in scope.nonlocals:
+                scope.function.first_lines.setdefault(node.id, node.lineno)
+        return 0
 
-    _targets: frozenset[ast.AST] = frozenset()
-
-    def _visit_value_first(self, node: ast.Assign | ast.AnnAssign | ast.NamedExpr) -> None:
+    def _visit_Assign(self, node: ast.Assign, twin: Any) -> int:
         """What is bound to the value of a call is bound behind it."""
-        for one in (node.value, *(node.targets if isinstance(node, ast.Assign) else [node.target])):
-            if one is not None:
-                self.visit(one)
-        if isinstance(node, ast.AnnAssign):
-            self.visit(node.annotation)
+        return self._walk(node.value, twin.value) | self._walk_all(node.targets, twin.targets)
 
-    visit_Assign = visit_AnnAssign = visit_NamedExpr = _visit_value_first
+    def _visit_AnnAssign(self, node: ast.AnnAssign, twin: Any) -> int:
+        inside = 0 if node.value is None else self._walk(node.value, twin.value)
+        return inside | self._walk(node.target, twin.target) | self._walk(node.annotation, twin.annotation)
 
-    def visit_Global(self, node: ast.Global) -> None:
+    def _visit_NamedExpr(self, node: ast.NamedExpr, twin: Any) -> int:
+        return self._walk(node.value, twin.value) | self._walk(node.target, twin.target)
+
+    def _visit_Global(self, node: ast.Global, twin: Any) -> int:
         self._scope.globals.update(node.names)
+        return 0
 
-    def visit_Nonlocal(self, node: ast.Nonlocal) -> None:
+    def _visit_Nonlocal(self, node: ast.Nonlocal, twin: Any) -> int:
         self._scope.nonlocals.update(node.names)
+        return 0
 
-    def visit_Import(self, node: ast.Import) -> None:
+    def _visit_Import(self, node: ast.Import, twin: Any) -> int:
         for one in node.names:
             name = one.asname or one.name.partition(".")[0]
             self._import(name, one.name if one.asname else name)
+        return 0
 
-    def visit_ImportFrom(self, node: ast.ImportFrom) -> None:
+    def _visit_ImportFrom(self, node: ast.ImportFrom, twin: Any) -> int:
         for one in node.names:
             self._import(one.asname or one.name, f"{'.' * node.level}{node.module or ''}.{one.name}")
+        return 0
 
     def _import(self, name: str, dotted: str) -> None:
         scope = self._scope.function
         (self.module if name in scope.globals else scope).imported[name] = dotted
         self._bind(name)
 
-    def visit_ExceptHandler(self, node: ast.ExceptHandler) -> None:
+    def _visit_named(self, node: Any, twin: Any) -> int:
+        """A handler or a pattern, which may bind a name."""
         if node.name:
             self._bind(node.name)
-        self.generic_visit(node)
+        return self._walk_inside(node, twin)
 
-    def visit_MatchAs(self, node: ast.MatchAs) -> None:
-        if node.name:
-            self._bind(node.name)
-        self.generic_visit(node)
+    _visit_ExceptHandler = _visit_MatchAs = _visit_MatchStar = _visit_named
 
-    def visit_MatchStar(self, node: ast.MatchStar) -> None:
-        if node.name:
-            self._bind(node.name)
-
-    def visit_MatchMapping(self, node: ast.MatchMapping) -> None:
+    def _visit_MatchMapping(self, node: ast.MatchMapping, twin: Any) -> int:
         if node.rest:
             self._bind(node.rest)
-        self.generic_visit(node)
+        return self._walk_inside(node, twin)
 
-    def visit_Attribute(self, node: ast.Attribute) -> None:
-        if not isinstance(node.ctx, ast.Load):
-            STORED_FIELDS.add(node.attr)
+    def _visit_Attribute(self, node: ast.Attribute, twin: Any) -> int:
+        if type(node.ctx) is not ast.Load:
+            self.learned.add_field(node.attr)
             whole: ast.expr = node.value
             while isinstance(whole, ast.Attribute):
                 whole = whole.value
             if isinstance(whole, ast.Name) and whole.id in self._scope.owner(whole.id).imported:
-                STORED_ELSEWHERE.add(node.attr)
+                self.learned.add_elsewhere(node.attr)
         elif node.attr == "modules" and isinstance(node.value, ast.Name) and node.value.id == "sys":
             self.module.is_open = True
-        self.visit(node.value)
+        return self._walk(node.value, twin.value)
 
-    def visit_Call(self, node: ast.Call) -> None:
-        if self._may_start(node.func):
-            self._scope.function.is_after_start = True
-        if isinstance(node.func, ast.Name) and node.func.id == "globals":
+    def _visit_Call(self, node: ast.Call, twin: Any) -> int:
+        function = node.func
+        if isinstance(function, (ast.Name, ast.Attribute)):
+            self._note_call(function)
+        if isinstance(function, ast.Name) and function.id == "globals":
             self.module.is_open = True
         for keyword in node.keywords:
             if keyword.arg is not None and isinstance(keyword.value, ast.Attribute) and keyword.value.attr in METHODS:
-                STORED_FIELDS.add(keyword.arg)
-        self.generic_visit(node)
+                self.learned.add_field(keyword.arg)
+        inside = self._walk(function, twin.func) | LATE
+        if node.args:
+            inside |= self._walk_all(node.args, twin.args)
+        if node.keywords:
+            inside |= self._walk_all(node.keywords, twin.keywords)
+        return inside
 
-    def _may_start(self, function: ast.expr) -> bool:
-        """Whether another task may be there once this was called: by its name, or as it is of another module of the program."""
+    def _note_call(self, function: ast.Name | ast.Attribute) -> None:
+        """Another task may be there once this was called: by its name, or as it is of another module of the program."""
         if isinstance(function, ast.Attribute):
-            of_module = isinstance(function.value, ast.Name) and self._is_of_program(function.value.id)
-            return of_module or function.attr in STARTERS or function.attr in self._starting
-        return isinstance(function, ast.Name) and (function.id in self._starting or self._is_of_program(function.id))
+            name = function.attr
+            of_program = isinstance(function.value, ast.Name) and self._is_of_program(function.value.id) or name in STARTERS
+        else:
+            name = function.id
+            of_program = self._is_of_program(name)
+        self._called.add(name)
+        scope = self._scope.function
+        if of_program:
+            scope.is_after_start = True
+        elif not scope.is_after_start:
+            scope.calls_and_bindings.append((True, name))
 
     def _is_of_program(self, name: str) -> bool:
         imported = self.module.imported.get(name)
-        return imported is not None and (imported.startswith(".") or self._is_watched(imported))
+        return imported is not None and (imported.startswith(".") or self.learned.is_watched(imported))
 
-    def _visit_loop(self, node: ast.AST) -> None:
+    def _visit_loop(self, node: Any, twin: Any) -> int:
         self._loops += 1
-        self.generic_visit(node)
+        inside = self._walk_inside(node, twin)
         self._loops -= 1
+        return inside
 
-    visit_For = visit_AsyncFor = visit_While = _visit_loop
+    _visit_For = _visit_AsyncFor = _visit_While = _visit_loop
 
-    def _visit_definition(self, node: ast.FunctionDef | ast.AsyncFunctionDef) -> None:
+    def _visit_definition(self, node: Any, twin: Any) -> int:
+        before, self._called = self._called, set()
         self._bind(node.name)
         self._scope.defined.add(node.name)
-        STORED_FIELDS.update(DELEGATING & {node.name})
-        for one in (*node.decorator_list, *_defaults(node.args)):
-            self.visit(one)
-        self._visit_function(node, node.name, node.args, node.body)
+        if isinstance(node, ast.ClassDef):
+            inside = self._walk_class(node, twin)
+        else:
+            if node.name in DELEGATING:
+                self.learned.add_field(node.name)
+            inside = self._walk_all(node.decorator_list, twin.decorator_list) | self._walk_defaults(node.args, twin.args)
+            inside |= self._walk_function(node, twin, node.name)
+        self._called_by.setdefault(node.name, set()).update(self._called)
+        before |= self._called
+        self._called = before
+        return inside
 
-    visit_FunctionDef = visit_AsyncFunctionDef = _visit_definition
+    _visit_FunctionDef = _visit_AsyncFunctionDef = _visit_ClassDef = _visit_definition
 
-    def visit_Lambda(self, node: ast.Lambda) -> None:
-        for one in _defaults(node.args):
-            self.visit(one)
-        self._visit_function(node, "<lambda>", node.args, [node.body])
+    def _visit_Lambda(self, node: ast.Lambda, twin: Any) -> int:
+        return self._walk_defaults(node.args, twin.args) | self._walk_function(node, twin, "<lambda>") | SCOPED
 
-    def _visit_function(self, node: ast.AST, name: str, arguments: ast.arguments, body: list[ast.AST] | list[ast.stmt]) -> None:
+    def _walk_defaults(self, arguments: ast.arguments, twin: Any) -> int:
+        return self._walk_all(arguments.defaults, twin.defaults) | self._walk_all(arguments.kw_defaults, twin.kw_defaults)
+
+    def _walk_function(self, node: Any, twin: Any, name: str) -> int:
         before = self._scope, self._loops
-        self._scope, self._loops = self._opened(node, FUNCTION, name), 0
-        for declared in _declared(body):
-            self.visit(declared)
-        for one in _arguments(arguments):
+        inside = _pair_annotations(node, twin)
+        self._scope, self._loops = self._with_type_parameters(node, twin), 0
+        self._scope = self._opened(node, FUNCTION, name)
+        for one in _arguments(node.args):
             self._scope.bind(one.arg, False)
-        for statement in body:
-            self.visit(statement)
+        is_lambda = isinstance(node, ast.Lambda)
+        inside |= self._walk(node.body, twin.body) if is_lambda else self._walk_all(node.body, twin.body)
         self._scope, self._loops = before
+        return inside
 
-    def visit_ClassDef(self, node: ast.ClassDef) -> None:
-        self._bind(node.name)
-        self._scope.defined.add(node.name)
-        for one in (*node.decorator_list, *node.bases, *node.keywords):
-            self.visit(one)
+    def _with_type_parameters(self, node: Any, twin: Any) -> Scope:
+        """The scope that a definition stands in. One with parameters for types has a scope around it, which has their names."""
+        parameters = getattr(node, "type_params", None)
+        if not parameters:
+            return self._scope
+        for one, other in zip(parameters, twin.type_params):
+            pair(one, other)
+        scope = self.by_node[parameters[0]] = Scope(FUNCTION, self._scope, getattr(node, "name", ""))
+        for one in parameters:
+            scope.bind(one.name, False)
+        return scope
+
+    def _walk_class(self, node: ast.ClassDef, twin: Any) -> int:
+        inside = self._walk_all(node.decorator_list, twin.decorator_list)
         before = self._scope, self._loops
+        self._scope = self._with_type_parameters(node, twin)
+        inside |= self._walk_all(node.bases, twin.bases) | self._walk_all(node.keywords, twin.keywords)
         self._scope, self._loops = self._opened(node, CLASS, node.name), 0
-        for statement in node.body:
-            self.visit(statement)
+        inside |= self._walk_all(node.body, twin.body)
         self._scope, self._loops = before
+        return inside
 
-    def _visit_comprehension(self, node: ast.ListComp | ast.SetComp | ast.DictComp | ast.GeneratorExp) -> None:
+    def _visit_TypeAlias(self, node: Any, twin: Any) -> int:
+        """Its value is worked out when it is asked for, in a scope of its own."""
+        self._bind(node.name.id)
+        return pair(node, twin)
+
+    def _visit_comprehension_of(self, node: Any, twin: Any) -> int:
         first = node.generators[0]
-        self.visit(first.iter)
-        before = self._scope, self._targets
+        inside = self._walk(first.iter, twin.generators[0].iter)
+        before = self._scope, self._is_target
         self._scope = self._opened(node, COMPREHENSION, before[0].name)
-        self._targets = frozenset(one for part in node.generators for one in ast.walk(part.target))
-        for part in node.generators:
-            self.visit(part.target)
-        for part in node.generators:
-            for one in (*part.ifs, *([] if part is first else [part.iter])):
-                self.visit(one)
-        for one in [node.key, node.value] if isinstance(node, ast.DictComp) else [node.elt]:
-            self.visit(one)
-        self._scope, self._targets = before
+        self._is_target = True
+        for part, other in zip(node.generators, twin.generators):
+            part.twin, part.is_scoped = other, False
+            inside |= self._walk(part.target, other.target)
+        self._is_target = False
+        for part, other in zip(node.generators, twin.generators):
+            inside |= self._walk_all(part.ifs, other.ifs)
+            if part is not first:
+                inside |= self._walk(part.iter, other.iter)
+        for name in ("key", "value", "elt"):
+            if hasattr(node, name):
+                inside |= self._walk(getattr(node, name), getattr(twin, name))
+        self._scope, self._is_target = before
+        return inside | SCOPED
 
-    visit_ListComp = visit_SetComp = visit_DictComp = visit_GeneratorExp = _visit_comprehension
+    _visit_ListComp = _visit_SetComp = _visit_DictComp = _visit_GeneratorExp = _visit_comprehension_of
 
 
-def _starting_functions(tree: ast.Module) -> set[str]:
+Visit = Callable[[Scopes, Any, Any], int]
+
+_LEAVES = (ast.Pass, ast.Break, ast.Continue, ast.alias)
+
+
+def _visit_late(scopes: Scopes, node: Any, twin: Any) -> int:
+    return scopes._walk_inside(node, twin) | LATE
+
+
+def _visit_slice(scopes: Scopes, node: Any, twin: Any) -> int:
+    return scopes._walk_inside(node, twin) | SCOPED
+
+
+_VISITS: dict[type, Visit] = {
+    **dict.fromkeys(_LEAVES, Scopes._walk_leaf), **dict.fromkeys(LATE_KINDS[1:], _visit_late), ast.Slice: _visit_slice,
+}
+_FIELDS: dict[type, tuple[str, ...]] = {}
+
+
+def _visit_of(kind: type) -> Visit:
+    visit = _VISITS.get(kind)
+    if visit is None:
+        visit = _VISITS[kind] = getattr(Scopes, f"_visit_{kind.__name__}", Scopes._walk_inside)
+    return visit
+
+
+def _fields_of(kind: type) -> tuple[str, ...]:
+    """The fields of a node that may have other nodes."""
+    names = _FIELDS.get(kind)
+    if names is None:
+        names = _FIELDS[kind] = tuple(name for name in kind._fields if name not in WITHOUT_NODES)  # type: ignore[attr-defined]
+    return names
+
+
+def pair(node: Any, twin: Any) -> int:
+    """Gives each node the same one of an untouched tree, with no look at scopes: those of annotations are others."""
+    inside = 0
+    for name in _fields_of(type(node)):
+        one = getattr(node, name, None)
+        if isinstance(one, list):
+            for child, other in zip(one, getattr(twin, name)):
+                if isinstance(child, ast.AST):
+                    inside |= pair(child, other)
+        elif isinstance(one, ast.AST):
+            inside |= pair(one, getattr(twin, name))
+    inside |= SCOPED * isinstance(node, SCOPED_KINDS) | LATE * isinstance(node, LATE_KINDS)
+    node.twin, node.is_scoped, node.is_late = twin, inside & SCOPED != 0, inside & LATE != 0
+    return inside
+
+
+def _pair_annotations(node: Any, twin: Any) -> int:
+    inside = 0
+    for one, other in zip(_arguments(node.args), _arguments(twin.args)):
+        if one.annotation is not None:
+            inside |= pair(one.annotation, other.annotation)
+    returns = getattr(node, "returns", None)
+    return inside if returns is None else inside | pair(returns, twin.returns)
+
+
+def _count_later(scope: Scope, starting: set[str]) -> None:
+    """Counts what is bound behind a call that may start a task as bound later."""
+    is_after = False
+    for is_call, name in scope.calls_and_bindings:
+        if not is_call and is_after:
+            scope.bound[name] += LATER_BINDING - FIRST_BINDING
+        is_after = is_after or is_call and name in starting
+
+
+def _starting_functions(called_by: dict[str, set[str]]) -> set[str]:
     """The functions, methods and classes of a module that may start a task: by a starter, or by a call of another one of them."""
-    called: dict[str, set[str]] = {}
-    for node in ast.walk(tree):
-        if isinstance(node, (*FUNCTIONS[:2], ast.ClassDef)):
-            called.setdefault(node.name, set()).update(_called_in(node))
-    found = {name for name, names in called.items() if names & STARTERS}
+    found = {name for name, names in called_by.items() if names & STARTERS}
     more = found
     while more:
-        more = {name for name, names in called.items() if name not in found and names & found}
+        more = {name for name, names in called_by.items() if name not in found and names & found}
         found |= more
     return found
-
-
-def _called_in(node: ast.AST) -> Iterator[str]:
-    """The last names of what is called in a function or a class."""
-    for one in ast.walk(node):
-        if isinstance(one, ast.Call) and isinstance(one.func, (ast.Name, ast.Attribute)):
-            yield one.func.id if isinstance(one.func, ast.Name) else one.func.attr
-
-
-def _defaults(arguments: ast.arguments) -> Iterator[ast.expr]:
-    yield from arguments.defaults
-    yield from (one for one in arguments.kw_defaults if one is not None)
 
 
 def _arguments(arguments: ast.arguments) -> Iterator[ast.arg]:
     yield from (*arguments.posonlyargs, *arguments.args, *arguments.kwonlyargs)
     yield from (one for one in (arguments.vararg, arguments.kwarg) if one is not None)
-
-
-def _declared(body: list[ast.AST] | list[ast.stmt]) -> Iterator[ast.AST]:
-    """What is declared global or nonlocal in a function, wherever in it that stands."""
-    todo = list(body)
-    while todo:
-        node = todo.pop()
-        if isinstance(node, (ast.Global, ast.Nonlocal)):
-            yield node
-        elif not isinstance(node, (*FUNCTIONS, ast.ClassDef)):
-            todo.extend(ast.iter_child_nodes(node))

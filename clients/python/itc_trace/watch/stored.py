@@ -1,7 +1,7 @@
 """Finds what other modules of the program store: variables of modules, as `config.debug = True` does, and fields that may have methods.
 
 A module may be imported before the one that stores into it. So the sources of a folder are looked through, as texts, before the first
-module of it is rewritten. A name that is found without need costs a hook, and nothing else.
+module of it is rewritten. A name that is found without need costs a hook, and nothing else. What is found is kept for other runs.
 """
 
 from __future__ import annotations
@@ -10,50 +10,94 @@ import os
 import re
 from collections.abc import Iterator
 from itertools import islice
+from typing import NamedTuple
 
+from .kept import Kept
 from .kinds import METHODS
-from .scopes import STORED_ELSEWHERE, STORED_FIELDS
+from .learned import STORED_ELSEWHERE, STORED_FIELDS
 
 MOST_FILES = MOST_FOLDERS = 400
 MOST_BYTES = 1 << 20
+FEWEST_KEPT = 8
+"""What so few files store is found as soon as it is read."""
 _OPERATOR = rb"(?:[-+%&|^@]|\*\*?|//?|<<|>>)?=(?!=)"
-_STORES = (
-    re.compile(rb"\b([^\W\d]\w*)\.([^\W\d]\w*)(?=[ \t]*(?:,[^=\n]*)?" + _OPERATOR + rb")"), re.compile(rb"\b([^\W\d]\w*)\.([^\W\d]\w*)[ \t]*:[^=\n]+=(?!=)"),
-    re.compile(rb"""\b(?:setattr|delattr)\([ \t]*([^\W\d]\w*)[ \t]*,[ \t]*["'](\w+)["']"""), re.compile(rb"\bdel[ \t]+([^\W\d]\w*)\.([^\W\d]\w*)"),
-)
-_KEPT = (
-    re.compile(rb"\.([^\W\d]\w*)(?=[ \t]*(?:,[^=\n]*)?" + _OPERATOR + rb")"), re.compile(rb"\.([^\W\d]\w*)[ \t]*:[^=\n]+=(?!=)"),
-    re.compile(rb"\b([^\W\d]\w*)[ \t]*=[ \t]*[\w.]+\.(?:" + "|".join(sorted(METHODS)).encode() + rb")\b(?!\()"),
-    re.compile(rb"\bdef[ \t]+(__getattr__|__getattribute__)\b"),
-)
-"""Fields that get a value, names that get a method of a container, and methods that may give one."""
+_FIELD = re.compile(rb"\.([^\W\d]\w*)(?=[ \t]*(?:(?:,[^=\n]*)?" + _OPERATOR + rb"|:[^=\n]+=(?!=)))")
+"""A field that gets a value."""
+_BY_NAME = re.compile(rb"""(?:setattr|delattr)\([ \t]*([^\W\d]\w*)[ \t]*,[ \t]*["'](\w+)["']""")
+_DELETED = re.compile(rb"del[ \t]+([^\W\d]\w*)\.([^\W\d]\w*)")
+_GIVEN = re.compile(rb"=[ \t]*([\w.]+)(\()?")
+"""What a name may get: a method of a container, if it has the name of one."""
+_DELEGATING = re.compile(rb"def[ \t]+(__getattr__|__getattribute__)\b")
+"""Methods that may give what another object has."""
+_NAME_BEFORE = re.compile(rb"([^\W\d]\w*)[ \t]*\Z")
+LONGEST_NAME = 80
+_METHODS = frozenset(name.encode() for name in METHODS)
 _IMPORT = re.compile(rb"^[ \t]*(?:from[^\n]*)?import\b(?:[^\n(]*\([^)]*\)|[^\n]*)", re.MULTILINE)
 _WORD = re.compile(rb"\w+")
 
 _seen: set[str] = set()
+"""Folders that were looked through."""
+_read: dict[str, tuple[frozenset[str], frozenset[str]]] = {}
+"""What each file stores elsewhere, and which fields it stores."""
+
+
+class Source(NamedTuple):
+    """A file, as it was when it was looked at."""
+
+    path: str
+    changed: int
+    size: int
 
 
 def look_through(folder: str) -> None:
     """Keeps the names that the sources of a folder, and of the folders in it, store into what they import. Each folder is read once."""
     if folder not in _seen:
+        folders: set[str] = set()
+        sources = list(islice(_sources_in(folder, folders), MOST_FILES + 1))
         _seen.add(folder)
-        for file in _sources_in(folder):
-            text = _text_of(file)
-            STORED_ELSEWHERE.update(stored_by(text))
-            STORED_FIELDS.update(kept_by(text))
+        if len(sources) <= MOST_FILES and len(folders) < MOST_FOLDERS:
+            _seen.update(folders)  # What is in them is found with this one.
+        elsewhere, fields = _stored_in(folder, sources[:MOST_FILES])
+        STORED_ELSEWHERE.update(elsewhere)
+        STORED_FIELDS.update(fields)
 
 
-def _sources_in(folder: str) -> Iterator[str]:
+def _sources_in(folder: str, folders_seen: set[str]) -> Iterator[Source]:
     """Not more than so many, and none of what is hidden or installed."""
-    count = 0
     for place, folders, names in islice(os.walk(folder), MOST_FOLDERS):
         folders[:] = [one for one in folders if not one.startswith((".", "__")) and one not in ("site-packages", "dist-packages")]
+        folders_seen.add(place)
         for name in names:
             if name.endswith(".py"):
-                count += 1
-                if count > MOST_FILES:
-                    return
-                yield os.path.join(place, name)
+                path = os.path.join(place, name)
+                try:
+                    known = os.stat(path)
+                except OSError:
+                    continue
+                yield Source(path, known.st_mtime_ns, known.st_size)
+
+
+def _stored_in(folder: str, sources: list[Source]) -> tuple[set[str], set[str]]:
+    if len(sources) < FEWEST_KEPT:
+        return _stored_by_all(sources)
+    kept = Kept(os.path.join(folder, "__init__.py"), "names", repr([tuple(one) for one in sources]).encode("utf-8", "surrogateescape"))
+    found = kept.found(lambda made: True)
+    if found is None:
+        found = _stored_by_all(sources)
+        kept.keep(found)
+    return found  # type: ignore[no-any-return]
+
+
+def _stored_by_all(sources: list[Source]) -> tuple[set[str], set[str]]:
+    elsewhere: set[str] = set()
+    fields: set[str] = set()
+    for source in sources:
+        if source.path not in _read:
+            text = _text_of(source.path)
+            _read[source.path] = frozenset(stored_by(text)), frozenset(kept_by(text))
+        elsewhere.update(_read[source.path][0])
+        fields.update(_read[source.path][1])
+    return elsewhere, fields
 
 
 def _text_of(file: str) -> bytes:
@@ -67,8 +111,15 @@ def _text_of(file: str) -> bytes:
 def stored_by(text: bytes) -> set[str]:
     """The names that a source stores into what it imports."""
     imported = imported_by(text)
-    pairs = {(_text(name), _text(attribute)) for store in _STORES for name, attribute in store.findall(text)}
-    return {attribute for name, attribute in pairs if name in imported}
+    pairs = [(_name_before(text, found.start()), found[1]) for found in _FIELD.finditer(text)]
+    pairs += [*_BY_NAME.findall(text), *_DELETED.findall(text)]
+    return {_text(attribute) for name, attribute in pairs if name is not None and _text(name) in imported}
+
+
+def _name_before(text: bytes, place: int) -> bytes | None:
+    """The name that ends in front of a place of a text."""
+    found = _NAME_BEFORE.search(text, max(0, place - LONGEST_NAME), place)
+    return None if found is None else found[1]
 
 
 def imported_by(text: bytes) -> set[str]:
@@ -82,4 +133,11 @@ def _text(name: bytes) -> str:
 
 def kept_by(text: bytes) -> set[str]:
     """The names of fields that may have methods of containers by this source."""
-    return {_text(name) for kept in _KEPT for name in kept.findall(text)}
+    found = {*_FIELD.findall(text), *_DELEGATING.findall(text)}
+    for given in _GIVEN.finditer(text):
+        *methods, last = given[1].split(b".")[1:] or [b""]
+        if last in _METHODS and given[2] is None or not _METHODS.isdisjoint(methods):
+            name = _name_before(text, given.start())
+            if name is not None:
+                found.add(name)
+    return {_text(one) for one in found}

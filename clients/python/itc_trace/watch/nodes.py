@@ -1,0 +1,27 @@
+"""Nodes of a syntax tree that are made for hooks, with the places of those that stood there."""
+
+from __future__ import annotations
+
+import ast
+from types import CodeType
+from typing import Any, TypeVar
+
+Made = TypeVar("Made", bound=ast.AST)
+
+
+def at(node: Any, made: Made) -> Made:
+    """A node with the place of another one, unless it has one of its own."""
+    names = made.__dict__
+    if "lineno" not in names:
+        place = node.__dict__
+        names["lineno"], names["col_offset"] = place["lineno"], place["col_offset"]
+        if "end_lineno" in place:
+            names["end_lineno"], names["end_col_offset"] = place["end_lineno"], place["end_col_offset"]
+    return made
+
+
+def compiled(tree: ast.Module, file: str) -> CodeType:
+    try:
+        return compile(tree, file, "exec", dont_inherit=True)  # type: ignore[no-any-return]
+    except TypeError:  # A node has no place.
+        return compile(ast.fix_missing_locations(tree), file, "exec", dont_inherit=True)  # type: ignore[no-any-return]
