@@ -14,7 +14,7 @@ from contextvars import Context
 from types import CodeType, FrameType
 from typing import Any, NamedTuple
 
-from .noting import failed, frame_at, is_internal
+from .noting import frame_at, is_internal, lost, without_own_frame
 
 BOUND = (types.BuiltinMethodType, types.MethodWrapperType)
 UNBOUND = (types.MethodDescriptorType, types.WrapperDescriptorType)
@@ -134,7 +134,7 @@ def called(function: Any, words: tuple[Any, ...], place: Place | None) -> None:
         for method in _methods_of(function, words):
             _watcher.touch(method, place)
     except Exception as fault:
-        failed(fault)
+        lost(fault)
 
 
 def _methods_of(function: Any, words: tuple[Any, ...]) -> Iterator[Method]:
@@ -193,4 +193,12 @@ class Calling:
 
     def __call__(self, *words: Any, **named: Any) -> Any:
         called(self._function, words, self._place)
-        return self._function(*words, **named)
+        try:
+            return self._function(*words, **named)
+        except BaseException as fault:
+            without_own_frame(fault)
+            raise
+
+    def __reduce__(self) -> Any:
+        """Whoever copies it, or sends it to another process, does so with the function alone."""
+        return functools.partial, (self._function,)

@@ -196,6 +196,25 @@ def failed(fault: Exception) -> None:
         tracer.fail(fault)
 
 
+def without_own_frame(fault: BaseException) -> None:
+    """Leaves the frame that has caught a fault out of its traceback. Whoever calls it raises the fault again, as it came."""
+    trace = fault.__traceback__
+    if trace is not None:
+        fault.__traceback__ = trace.tb_next
+
+
+LOST: dict[tuple[CodeType | None, int, str], int] = {}
+"""How many touches hooks have failed to note, by the place and the fault."""
+
+
+def lost(fault: Exception) -> None:
+    """Counts a touch that a hook failed to note. The order of the rest is not lost, so tracing goes on."""
+    kind = type(fault)
+    text = f"{kind.__name__}: {fault}" if kind.__module__ == "builtins" else kind.__name__
+    where = (*place(_getframe(1)), text.split("\n", 1)[0])
+    LOST[where] = LOST.get(where, 0) + 1
+
+
 def mark(what: What, depth: int = 2) -> Token | None:
     """A token for the place where the current task is now, for others to take. None where tracing is off.
 

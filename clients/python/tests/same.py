@@ -22,6 +22,7 @@ for name in sys.argv[1:]:
         importlib.import_module(name)
     except BaseException:
         traceback.print_exc()
+print("== end", flush=True)
 """
 """From the first thread on all hooks are there."""
 ADDRESS = re.compile(r"0x[0-9a-f]{6,}")
@@ -44,4 +45,6 @@ def outcome(programs: dict[str, str], hooks: str | None) -> Outcome:
         main = os.path.join(folder, "main.py")
         ran = run_python(main, *programs) if hooks is None else run_traced(main, *programs, ITC_TRACE_PURE=FORMS[hooks])
     parts = re.split(r"^== (\w+)\n", ADDRESS.sub("0x", ran.stdout.replace(folder, "")), flags=re.MULTILINE)
-    return Outcome(dict(zip(parts[1::2], parts[2::2])), ran.stderr, ran.returncode)
+    written = dict(zip(parts[1::2], parts[2::2]))
+    written.pop("end", None)
+    return Outcome(written, ran.stderr, ran.returncode)

@@ -54,8 +54,59 @@ itc_trace.touch(["a", "list"], write=True)
 print("done")
 """
 
+PLANTED = """
+import threading
+from itc_trace.watch import hooks
+plain, odd = hooks._touch_keyed, ("odd", 1)
+def planted(one, key, *words):
+    if key == odd:
+        raise RuntimeError("planted")
+    return plain(one, key, *words)
+hooks._touch_keyed = planted
+table, count = {odd: 1}, 0
+def work():
+    global count
+    table[odd] = 2
+    count += 1
+threads = [threading.Thread(target=work) for _ in range(2)]
+for thread in threads:
+    thread.start()
+    JOINED
+for thread in threads:
+    thread.join()
+print(table, count)
+"""
+UNREADY = """
+import threading
+def work():
+    print([*work.__code__.co_lines()][0], list(work.__code__.co_lines())[0], next(work.__code__.co_lines()), len(list(work.__code__.co_lines())) > 5)
+    for one in work.__code__.co_lines():
+        pass
+thread = threading.Thread(target=work)
+thread.start()
+thread.join()
+"""
+"""The type of these iterators has no order of classes yet."""
+
 
 class FailingHooks(ProgramCase):
+    def test_a_fault_costs_its_touch_alone(self) -> None:
+        lost = "itc_trace: incomplete: 2 touches could not be noted at program.py:13*: RuntimeError: planted in a hook"
+        for hooks in ("", "1"):
+            with self.subTest(hooks=hooks):
+                ran = run_traced(self.program(PLANTED.replace("JOINED", "pass")), ITC_TRACE_PURE=hooks)
+                self.assertEqual((ran.returncode, ran.stdout), (Verdict.RACES, "{('odd', 1): 2} 2\n"), ran.stderr)
+                self.assertIn("count", ran.stderr)
+                ran = run_traced(self.program(PLANTED.replace("JOINED", "thread.join()")), ITC_TRACE_PURE=hooks)
+                self.assertEqual((ran.returncode, ran.stderr.splitlines()[0]), (Verdict.INCOMPLETE, lost), ran.stderr)
+
+    def test_a_type_that_is_not_ready_is_looked_at_as_any_other(self) -> None:
+        for hooks in ("", "1"):
+            with self.subTest(hooks=hooks):
+                program = self.program(UNREADY)
+                plain, ran = run_python(program), run_traced(program, ITC_TRACE_PURE=hooks)
+                self.assertEqual((ran.returncode, ran.stdout), (0, plain.stdout), ran.stderr)
+
     def test_odd_threads_and_tasks_run_as_untraced(self) -> None:
         for text in (ODD_THREADS, ODD_TASKS):
             with self.subTest(text=text):

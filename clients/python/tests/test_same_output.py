@@ -2,7 +2,11 @@
 
 from __future__ import annotations
 
+import re
 import unittest
+from pathlib import Path
+
+from itc_trace.watch.helper import quick
 
 from .same import FORMS, outcome
 from .support import PACKAGE
@@ -138,35 +142,50 @@ print(sorted(name for name in globals() if "itc" in name))
 """
 
 
-SHARED = """
-import threading
-items = []
-thread = threading.Thread(target=items.append, args=(1,))
-thread.start()
-thread.join()
-items.append(2)
-print(items)
-"""
+def of_file() -> dict[str, str]:
+    """The programs of a file, each behind a line with its name. Some are for the hooks in C alone."""
+    parts = re.split(r"^== (.*)\n", Path(PACKAGE, "tests", "programs", "same.txt").read_text(), flags=re.MULTILINE)
+    return dict(zip(parts[1::2], parts[2::2]))
 
-PROGRAMS = {
-    "shared": SHARED,
-    **{f"expression{number}": of_expression(line) for number, line in enumerate(EXPRESSIONS.strip().splitlines())},
-}
+
+COLLECTED = """
+import gc, threading
+class R:
+    def __del__(self): print("gone")
+def work():
+    items, lock = [R()], threading.Lock()
+    def add():
+        with lock: items.append(1)
+    threads = [threading.Thread(target=add) for _ in range(2)]
+    for one in threads: one.start()
+    for one in threads: one.join()
+work()
+gc.collect()
+print("collected")
+"""
+IN_C = " in C"
+PROGRAMS = {**{f"expression{number}": of_expression(line) for number, line in enumerate(EXPRESSIONS.strip().splitlines())}, **of_file()}
 
 
 class SameOutput(unittest.TestCase):
     maxDiff = None
 
     def test_programs_print_the_same_traced_as_untraced(self) -> None:
-        plain = outcome(PROGRAMS, None)
-        self.assertEqual((list(plain.written), plain.status), (list(PROGRAMS), 0), plain.said)
-        for form in FORMS:
-            traced = outcome(PROGRAMS, form)
-            self.assertRegex(traced.said, r"itc_trace: no race in this run: [1-9]\d* places of [1-9]\d* things?")
-            for name, text in PROGRAMS.items():
+        programs = {name.removesuffix(IN_C): text for name, text in PROGRAMS.items()}
+        plain = outcome(programs, None)
+        self.assertEqual((list(plain.written), plain.status), (list(programs), 0), plain.said)
+        for form in FORMS if quick is not None else ["in Python"]:
+            chosen = {name.removesuffix(IN_C): text for name, text in PROGRAMS.items() if not name.endswith(IN_C) or form == "in C"}
+            traced = outcome(chosen, form)
+            self.assertRegex(traced.said, r"itc_trace: no race in this run.*: [1-9]\d* places of [1-9]\d* things?")
+            for name, text in chosen.items():
                 with self.subTest(hooks=form, program=name):
                     self.assertEqual(traced.written.get(name), plain.written[name], text)
             self.assertNotIn(str(PACKAGE), "".join(traced.written.values()), "a frame of the package")
+
+    def test_with_hooks_in_python_the_next_collection_lets_go_of_a_shared_list(self) -> None:
+        traced = outcome({"program": COLLECTED}, "in Python")
+        self.assertEqual(traced.written["program"], "gone\ncollected\n", traced.said)
 
 
 if __name__ == "__main__":

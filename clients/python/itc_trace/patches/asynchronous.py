@@ -27,7 +27,7 @@ from ..lines import (
 )
 from ..lock_identity import LockIdentity
 from ..loop_runs import BEGINS, RUNS, LoopRun, begun_here, take_step
-from ..noting import current, frame_at, is_internal, joining, mark, place, starting, take
+from ..noting import current, frame_at, is_internal, joining, mark, place, starting, take, without_own_frame
 from ..stretches import STRETCHES, TURNS, leave
 from .base import Patches, like
 from .futures import is_settled_by_source, take_any
@@ -93,11 +93,16 @@ def _awaiting(plain: Any) -> Any:
         waits_for = () if is_done(self) else (self, *getattr(self, "_itc_waits_for", ()))
         try:
             result = yield from plain.__await__(self)
+        except BaseException as fault:
+            without_own_frame(fault)
+            raise
         finally:
             if is_done(self) and state.note is not None:
                 take_any(self)
                 for one in waits_for:  # Their callbacks were called before the one that goes on here.
                     _take_called(one)
+                    del one
+            del self, waits_for  # The future's exception refers to this frame.
         return result
 
     return __await__
@@ -112,9 +117,13 @@ def _looking(plain: Any, name: str) -> Any:
             told = original(self)
             is_seen = True  # It may have come from another thread in between.
             return told
+        except BaseException as fault:
+            without_own_frame(fault)
+            raise
         finally:
             if is_seen and state.note is not None and not _waits_inside(frame_at(1)):
                 take_any(self)
+            del self  # The future's exception refers to this frame.
 
     return like(original, look)
 
@@ -412,6 +421,9 @@ def _group_leave(original: Any) -> Any:
     async def __aexit__(self: Any, *words: Any) -> Any:
         try:
             return await original(self, *words)
+        except BaseException as fault:
+            without_own_frame(fault)
+            raise
         finally:
             note = state.note
             if note is not None:
@@ -449,6 +461,7 @@ def _run_handle(original: Any) -> Any:
         try:
             return original(self)  # type: ignore[no-any-return]
         finally:
+            del self  # Frames of the callback refer to this one, and the handle to what the callback is given.
             STRETCHES.pop(thread, None)
 
     return _run

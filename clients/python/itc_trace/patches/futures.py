@@ -14,7 +14,7 @@ from typing import Any
 
 from ..handed_on import called, handed_at, watched_place
 from ..lines import CALLBACK, FINISH, RESULT, SPAWN, SUBMIT, TAKE_END, WORKER, LateJob, Line, Token, state
-from ..noting import current, enter, frame_at, is_internal, joining, local, mark, place, starting, take
+from ..noting import current, enter, frame_at, is_internal, joining, local, mark, place, starting, take, without_own_frame
 from ..web import incoming_at
 from .base import Patches, like
 from .exits import await_at_exit
@@ -128,6 +128,8 @@ def _result(original: Any) -> Any:
         except BaseException as error:
             if error is self._exception or isinstance(error, base.CancelledError) and self._state in _DONE:
                 take_result(self)
+            without_own_frame(error)
+            del self  # The future's exception refers to this frame.
             raise
         take_result(self)
         return told
@@ -256,7 +258,10 @@ def _item_run(original: Any) -> Any:
                 worker.job = LateJob(worker, number) if number else None
             take(submitted)
             _tell_called(self)
-            return original(self, *words)  # type: ignore[no-any-return]
+            try:
+                return original(self, *words)  # type: ignore[no-any-return]
+            finally:
+                del self  # The traceback of what the job raises refers to this frame, and the job's future to that.
         ready = mark(WORKER) if self._itc_is_after_worker else None
         worker = getattr(local, "line", None)
         line.must_finish = True
@@ -266,6 +271,7 @@ def _item_run(original: Any) -> Any:
         try:
             return original(self, *words)  # type: ignore[no-any-return]
         finally:
+            del self
             enter(worker)
             note = state.note
             if note is not None:

@@ -2,6 +2,7 @@
 
 from __future__ import annotations
 
+import gc
 import importlib.machinery
 import importlib.util
 import os
@@ -19,7 +20,7 @@ from . import handed, hooks, leaving, passed_over, things
 from .commands import own_program
 from .finder import UNWATCHED, Finder, Selection, look_around, with_hooks
 from .loaded import Prepare, folder_of_main, rewrite_loaded
-from .unwatched import files_without_hooks
+from .unwatched import files_without_hooks, touches_lost
 
 __all__ = ["Prepare", "begin", "code_of", "end", "program_of", "unwatched", "watch", "watch_loaded", "watch_main", "watch_path_runs"]
 
@@ -37,6 +38,7 @@ def watch(folders: Sequence[str], packages: Sequence[str] = ()) -> None:
     if _finder is None:
         hooks.put_for_the_end()
         leaving.begin()
+        gc.callbacks.append(things.collecting)
     else:
         sys.meta_path.remove(_finder)  # type: ignore[arg-type]
     _finder = Finder(Selection(folders, [name for name in packages if not _is_traced_as_a_whole(name)]))
@@ -136,7 +138,7 @@ def is_on() -> bool:
 
 def unwatched() -> list[Unseen]:
     """What of the program was to be watched, and was not."""
-    return [] if _finder is None else [*UNWATCHED, *files_without_hooks(_finder.selection)]
+    return [] if _finder is None else [*UNWATCHED, *files_without_hooks(_finder.selection), *touches_lost()]
 
 
 def not_looked_into() -> list[PassedOver]:

@@ -94,8 +94,20 @@ FILES = ids_of((io.TextIOWrapper,))
 STEPPED = (VIEWS - _UNCHANGED) | _OF_VALUES | COMPOSED | FILES | ids_of((types.GeneratorType,))
 """Iterators: each step changes how far they have come."""
 
-_mro_of: Any = vars(type)["__mro__"].__get__
-_vars_of: Any = vars(type)["__dict__"].__get__
+_kept_mro_of: Any = vars(type)["__mro__"].__get__
+_kept_vars_of: Any = vars(type)["__dict__"].__get__
+_NOTHING: Any = types.MappingProxyType({})
+
+
+def _mro_of(kind: type) -> Any:
+    """The classes by whose order the type finds its attributes. One that the interpreter has not made ready has only itself."""
+    return _kept_mro_of(kind) or (kind, object)
+
+
+def _vars_of(kind: type) -> Any:
+    return _kept_vars_of(kind) or _NOTHING
+
+
 _name_of: Any = vars(type)["__name__"].__get__
 
 _families: dict[int, int] = {}

@@ -13,7 +13,7 @@ import os
 import sys
 import types
 from array import array
-from builtins import any, enumerate, getattr, id, issubclass, len, list, map, next, setattr, type, zip
+from builtins import any, enumerate, getattr, id, issubclass, iter, len, list, map, next, setattr, type, zip
 from _thread import get_ident
 from collections import defaultdict, deque
 from collections.abc import Callable, Iterable, Iterator
@@ -25,7 +25,7 @@ from typing import Any
 from ..conflicts import ADDITION, ITERATION, KEYS, LENGTH, REMOVAL, REPLACEMENT, REWRITE, STEP, WRITE
 from ..handed_on import HANDED, Calling, is_of_container
 from ..lines import state
-from ..noting import begin_stretch, failed, touched_all
+from ..noting import begin_stretch, lost, touched_all
 from ..stretches import STRETCHES
 from .decisions import (
     AS_KEY, BY_ELEMENTS, COMPOSED, FIELD, FILES, OF_CLASS, OF_METHOD, OF_MODULE, OF_SUPER, OF_TYPE, OWN_FIELD, PLAIN, SKIP, STEPPED, VARIABLES,
@@ -110,7 +110,7 @@ def hook_o(one: Any, site: int) -> Any:
         try:
             _touch_field(one, site)
         except Exception as fault:
-            failed(fault)
+            lost(fault)
     return one
 
 
@@ -129,7 +129,7 @@ def hook_o_local(one: Any, site: int) -> Any:
         try:
             _touch_field(one, site)
         except Exception as fault:
-            failed(fault)
+            lost(fault)
     return one
 
 
@@ -155,7 +155,7 @@ def hook_o_new(one: Any, site: int, constructor: int) -> Any:
         try:
             _touch_field(one, site)
         except Exception as fault:
-            failed(fault)
+            lost(fault)
     return one
 
 
@@ -169,7 +169,7 @@ def hook_A(one: Any, name: Any, site: int) -> Any:
                 return one
             _touch_field(one, site, Access("named", access.kinds, name, "", access.module))
         except Exception as fault:
-            failed(fault)
+            lost(fault)
     return one
 
 
@@ -296,12 +296,6 @@ def _touch_in_place(value: Any, kind: str, site: int) -> None:
 hook_A_local = hook_A
 
 
-def hook_a(site: int, *words: Any) -> tuple[Any, ...]:
-    """The same, with all arguments of the function, which it gives back."""
-    hook_A(words[0], words[1], site)
-    return words
-
-
 # Variables and cells
 
 
@@ -312,7 +306,7 @@ def hook_g(site: int) -> None:
         try:
             _touch_variable(site)
         except Exception as fault:
-            failed(fault)
+            lost(fault)
 
 
 def _touch_variable(site: int) -> None:
@@ -339,7 +333,7 @@ def hook_c(function: Any, site: int) -> None:
     try:
         _touch_cell(cell, site)
     except Exception as fault:
-        failed(fault)
+        lost(fault)
 
 
 def _touch_cell(cell: Any, site: int) -> None:
@@ -361,7 +355,7 @@ def hook_h(one: Any, site: int) -> Any:
     try:
         _touch_whole(one, site, OF_TEMPORARY)
     except Exception as fault:
-        failed(fault)
+        lost(fault)
     return one
 
 
@@ -376,7 +370,7 @@ def hook_h_local(one: Any, site: int) -> Any:
     try:
         _touch_whole(one, site, OF_VARIABLE)
     except Exception as fault:
-        failed(fault)
+        lost(fault)
     return one
 
 
@@ -493,7 +487,7 @@ def hook_D(one: Any) -> Any:
     try:
         keep_fields_of(one)
     except Exception as fault:
-        failed(fault)
+        lost(fault)
     return one
 
 
@@ -504,7 +498,7 @@ def hook_G(variables: Any) -> Any:
         if type(module) is types.ModuleType and fields_of(module) is variables:
             keep_fields_of(module)
     except Exception as fault:
-        failed(fault)
+        lost(fault)
     return variables
 
 
@@ -513,7 +507,7 @@ def hook_B(one: Any, site: int) -> Any:
     try:
         _touch_all_fields(one, site, WRITE)
     except Exception as fault:
-        failed(fault)
+        lost(fault)
     return one
 
 
@@ -521,6 +515,12 @@ def hook_I(name: Any, one: Any, site: int) -> Any:
     """The name of an attribute, which is given to a method of an object."""
     hook_A(one, name, site)
     return name
+
+
+def hook_J(value: Any, one: Any, name: Any, site: int) -> Any:
+    """The last argument of `setattr` and its like, behind the object and the name."""
+    hook_A(one, name, site)
+    return value
 
 
 hook_D_local, hook_B_local = hook_D, hook_B
@@ -535,7 +535,7 @@ def hook_M(one: Any, site: int) -> Any:
         is_own = _has_few(one, OF_TEMPORARY)
         _match(one, site, is_own, _getframe(1).f_globals)
     except Exception as fault:
-        failed(fault)
+        lost(fault)
     return one
 
 
@@ -544,7 +544,7 @@ def hook_M_local(one: Any, site: int) -> Any:
         is_own = _has_few(one, OF_VARIABLE)
         _match(one, site, is_own, _getframe(1).f_globals)
     except Exception as fault:
-        failed(fault)
+        lost(fault)
     return one
 
 
@@ -577,7 +577,7 @@ def hook_r(value: Any, paths: tuple[Path, ...], site: int) -> Any:
         for path in paths:
             _touch_path(value, path, site)
     except Exception as fault:
-        failed(fault)
+        lost(fault)
     return value
 
 
@@ -657,7 +657,7 @@ def hook_f(one: Any, site: int) -> Any:
     try:
         return _stepping(one, site, OF_TEMPORARY)
     except Exception as fault:
-        failed(fault)
+        lost(fault)
         return one
 
 
@@ -667,7 +667,7 @@ def hook_f_local(one: Any, site: int) -> Any:
     try:
         return _stepping(one, site, OF_VARIABLE)
     except Exception as fault:
-        failed(fault)
+        lost(fault)
         return one
 
 
@@ -734,7 +734,7 @@ def _take_apart(paths: tuple[tuple[int, ...], ...], site: int, element: Any) -> 
             if one is not None:
                 _touch_if_any(one, site)
     except Exception as fault:
-        failed(fault)
+        lost(fault)
     return element
 
 
@@ -749,6 +749,10 @@ class _Step:
     def __iter__(self) -> _Step:
         return self
 
+    def __reduce__(self) -> Any:
+        """A copy, and what is sent to another process, looks at nothing."""
+        return itertools.repeat, (None,)
+
     def __next__(self) -> None:
         seen = self._owner.seen
         if self._site not in seen or seen.stretch is not stretch_of(get_ident()):
@@ -756,7 +760,7 @@ class _Step:
                 saw(self._owner, self._site, self._late, True)
                 _went_on(self._owner, self._site)
             except Exception as fault:
-                failed(fault)
+                lost(fault)
 
 
 OWN_STEPS.update(map(id, [_Step] if quick is None else [_Step, quick.Step]))
@@ -767,7 +771,7 @@ def _steps(one: Iterable[Any], owner: Owner, site: int, kind: str) -> Iterator[A
     late = shape_late, site, kind, site
     saw(owner, site, late, True)
     if quick is not None:
-        return map(quick.second, quick.Step(owner, site, late), one)
+        return quick.Step(owner, site, late, one)  # type: ignore[no-any-return]
     return map(itemgetter(1), zip(_Step(owner, site, late), one))
 
 
@@ -798,7 +802,7 @@ def hook_k(one: Any, key: Any, site: int) -> Any:
     try:
         _touch_keyed(one, key, site, OF_TEMPORARY)
     except Exception as fault:
-        failed(fault)
+        lost(fault)
     return one
 
 
@@ -813,7 +817,7 @@ def hook_k_local(one: Any, key: Any, site: int) -> Any:
     try:
         _touch_keyed(one, key, site, OF_VARIABLE)
     except Exception as fault:
-        failed(fault)
+        lost(fault)
     return one
 
 
@@ -823,7 +827,7 @@ def hook_K(one: Any, key: Any, site: int) -> Any:
         try:
             _touch_keyed(one, key, site, ANYBODY)
         except Exception as fault:
-            failed(fault)
+            lost(fault)
     return key
 
 
@@ -838,7 +842,7 @@ def hook_K_local(one: Any, key: Any, site: int) -> Any:
     try:
         _touch_keyed(one, key, site, OF_VARIABLE_IN_USE)
     except Exception as fault:
-        failed(fault)
+        lost(fault)
     return key
 
 
@@ -848,7 +852,7 @@ def hook_K_kept(one: Any, key: Any, site: int) -> Any:
         try:
             _touch_keyed(one, key, site, OF_VARIABLE)
         except Exception as fault:
-            failed(fault)
+            lost(fault)
     return key
 
 
@@ -965,7 +969,7 @@ def hook_e(key: Any, site: int) -> Any:
     try:
         _touch_keyed(os.environ, key, site, ANYBODY)
     except Exception as fault:
-        failed(fault)
+        lost(fault)
     return key
 
 
@@ -982,7 +986,7 @@ def hook_m(one: Any, site: int) -> Any:
         try:
             _touch_method(one, site, OF_TEMPORARY)
         except Exception as fault:
-            failed(fault)
+            lost(fault)
     return one
 
 
@@ -998,7 +1002,7 @@ def hook_m_local(one: Any, site: int) -> Any:
         try:
             _touch_method(one, site, OF_VARIABLE)
         except Exception as fault:
-            failed(fault)
+            lost(fault)
     return one
 
 
@@ -1063,7 +1067,7 @@ def hook_l(value: Any, one: Any, site: int) -> Any:
     try:
         _touch_late(one, site, ANYBODY)
     except Exception as fault:
-        failed(fault)
+        lost(fault)
     return value
 
 
@@ -1071,7 +1075,7 @@ def hook_l_local(value: Any, one: Any, site: int) -> Any:
     try:
         _touch_late(one, site, OF_VARIABLE_IN_USE + 1)
     except Exception as fault:
-        failed(fault)
+        lost(fault)
     return value
 
 
@@ -1090,7 +1094,7 @@ def hook_L(value: Any, one: Any, key: Any, site: int) -> Any:
         try:
             _touch_keyed(one, key, site, OF_VARIABLE)
         except Exception as fault:
-            failed(fault)
+            lost(fault)
     return value
 
 
@@ -1132,7 +1136,7 @@ def hook_x(value: Any, one: Any, site: int) -> Any:
         if FIELDS_OF and name == "update":
             _touch_updated(value, object_of(one), site)
     except Exception as fault:
-        failed(fault)
+        lost(fault)
         return value
     return hook_h(value, site)
 
@@ -1154,7 +1158,7 @@ def hook_n(one: Any, site: int) -> Any:
     try:
         made_here(one, site)
     except Exception as fault:
-        failed(fault)
+        lost(fault)
     return one
 
 
@@ -1172,7 +1176,7 @@ def hook_N(one: Any, constructor: int) -> None:
     try:
         made_by(one, frame.f_code, frame.f_lasti)
     except Exception as fault:
-        failed(fault)
+        lost(fault)
 
 
 def hook_d() -> None:
@@ -1278,17 +1282,27 @@ def _touch_method_inside(one: Any, site: int) -> None:
         _touch_method(one, site, ANYBODY)
 
 
+_EMPTY: tuple[Any, ...] = ([], {}, set(), deque(), bytearray(), (), array("b"), {}.keys(), {}.values(), {}.items())
+FOLLOWED: tuple[type, ...] = (
+    object, bytearray, defaultdict, types.CellType, types.SimpleNamespace, enumerate, filter, map, reversed, zip, *map(type, _EMPTY[:2]), *map(type, _EMPTY[7:]),
+    *(type(iter(one)) for one in _EMPTY), *(type(reversed(one)) for one in ([], {}, deque(), {}.keys(), {}.values(), {}.items())),
+    *(one for one in vars(itertools).values() if type(one) is type and one is not itertools.tee),
+    *(one for one in vars(builtins).values() if type(one) is type and issubclass(one, BaseException)),
+)
+"""Types of which the helper sees that an object is gone. It need not hold one that cannot be referred to weakly."""
+
+
 def _set_up() -> None:
     quick.setup(
         stretches=STRETCHES, state=state, made=MADE, begun=BEGUN, begun_more=OF_VARIABLE - 1 - OF_VARIABLE_IN_C, never=NEVER,
         owner_type=Owner, made_type=Made, maker=maker_now, begin_stretch=begin_stretch, share=share, shorten=shorten, saw=saw,
-        note_shared=note_shared, what_of=lambda hook, kind, site: _what_of(hook, kind, site), failed=failed,
+        note_shared=note_shared, what_of=lambda hook, kind, site: _what_of(hook, kind, site), lost=lost,
         field=lambda one, site: _touch_field(one, site), whole=lambda one, site, is_own: _touch_whole(one, site, NOBODY if is_own else ANYBODY),
-        nested=lambda one, site: _touch_nested(one, site), fields_of=FIELDS_OF, method=_touch_method_inside,
+        nested=lambda one, site: _touch_nested(one, site), fields_of=FIELDS_OF, followed=FOLLOWED, method=_touch_method_inside,
         steps=lambda one, site, is_own: _stepping(one, site, NOBODY if is_own else ANYBODY),
         keyed=lambda one, key, site: _touch_keyed(one, key, site, ANYBODY), variable=lambda site: _touch_variable(site),
         cell=lambda one, site: _touch_cell(one, site), went_on=lambda owner, site: _went_on(owner, site),
-        second=quick.second,
+        iter=iter,
     )
 
 
@@ -1303,10 +1317,6 @@ def _second(_: Any, one: Any, *__: Any) -> Any:
     return one
 
 
-def _rest(_: Any, *words: Any) -> tuple[Any, ...]:
-    return words
-
-
 def _nothing(*_: Any) -> None:
     return None
 
@@ -1316,7 +1326,7 @@ ALWAYS = frozenset(("n", "N"))
 BUILDS_CLASSES = "__build_class__"
 """A name of the builtins that nothing else has."""
 QUIET: dict[str, Callable[..., Any]] = {
-    **dict.fromkeys(HOOKS, _first), **dict.fromkeys(("K", "K_local", "K_kept", "S", "y"), _second), "a": _rest, **dict.fromkeys(("g", "c", "d"), _nothing),
+    **dict.fromkeys(HOOKS, _first), **dict.fromkeys(("K", "K_local", "K_kept", "S", "y"), _second), **dict.fromkeys(("g", "c", "d"), _nothing),
 }
 
 
@@ -1326,6 +1336,7 @@ if quick is not None:
     QUIET.update({name: quick.first for name, one in QUIET.items() if one is _first})
     QUIET.update({name: quick.second for name, one in QUIET.items() if one is _second})
     QUIET.update({name: quick.nothing for name, one in QUIET.items() if one is _nothing})
+    HOOKS, QUIET = [{name: quick.Hook(one) for name, one in hooks.items()} for hooks in (HOOKS, QUIET)]
 AT_THE_END = {**QUIET, "n": QUIET["o"], "N": QUIET["g"]}
 """Hooks that need nothing of any module, where all modules are about to go."""
 QUIET.update({name: HOOKS[name] for name in ALWAYS})

@@ -78,6 +78,14 @@ def form_of_call(node: ast.Call, function: str, hooked: int | None = None) -> st
     return CALLED.format(function.format("one"), ", ".join(words))
 
 
+@functools.lru_cache(maxsize=None)
+def form_of_argument(kept: int, hooked: int) -> str:
+    """The form of a call with a hook at one of its arguments, for the value of one before it. The hook is given those before that first."""
+    words = ["a"] * hooked
+    words[kept] = KEPT
+    return f"function({', '.join(words)}, hook(a, {'a, ' * kept}{HERE}))"
+
+
 def with_copies(code: CodeType) -> CodeType:
     """The code with instructions that copy where constants stand for them, and so all code within it."""
     made = tuple([with_copies(one) if type(one) is CodeType else one for one in code.co_consts])

@@ -25,14 +25,16 @@ static struct {
     PyObject *made_type;
     PyObject *maker;          /* Whose the task is. */
     PyObject *begin_stretch;
+    PyObject *iter;           /* The function of the language. */
     PyObject *share;          /* A second task has reached an owner. */
     PyObject *shorten;        /* Many stretches have reached an owner. */
     PyObject *saw;
     PyObject *note_shared;
     PyObject *what_of;        /* What a place is to a type. */
-    PyObject *failed;
+    PyObject *lost;           /* What is told of a touch that could not be noted. */
     PyObject *fields_of;      /* Whose fields some dictionaries have. */
-    PyObject *field, *whole, *nested, *method, *steps, *keyed, *variable, *cell, *went_on, *second;  /* What is done for the rest. */
+    PyObject *followed;       /* Types whose objects need not be held: they may be seen to go. */
+    PyObject *field, *whole, *nested, *method, *steps, *keyed, *variable, *cell, *went_on;  /* What is done for the rest. */
     long long begun_more;     /* How many references more the beginning of a constructor counts. */
 } given;
 
@@ -375,6 +377,115 @@ static int hold(PyObject *one)
     return 0;
 }
 
+/* What tells by how its type frees it that it is gone, and so is not held. The types are those that the Python part has named. Lists, dicts
+   and faults that are nested deeply go one after another. The interpreter does so too, but only where the type has not been changed. */
+
+#define MOST_FOLLOWED 256
+
+static struct {
+    PyTypeObject *type;
+    destructor plain;
+} followed[MOST_FOLLOWED];
+
+static size_t followed_types;
+static PyInterpreterState *home;
+
+static destructor plain_of(PyTypeObject *type)
+{
+    for (; type != NULL; type = type->tp_base)
+        for (size_t place = 0; place < followed_types; place++)
+            if (followed[place].type == type)
+                return followed[place].plain;
+    return NULL;
+}
+
+static void leave_freed(Owner *owner)
+{
+    PyObject *type, *fault, *trace;
+    PyErr_Fetch(&type, &fault, &trace);
+    if (leave_owner(owner) < 0)
+        PyErr_Clear();
+    Py_DECREF((PyObject *)owner);
+    PyErr_Restore(type, fault, trace);
+}
+
+/* No code runs before the object is freed, but what frees it. */
+static void freed_by(PyObject *one, destructor plain)
+{
+    Owner *owner = table.used == 0 || PyThreadState_Get()->interp != home ? NULL : take_owner(one);
+    plain(one);
+    if (owner != NULL)
+        leave_freed(owner);
+}
+
+static void freed(PyObject *one)
+{
+    freed_by(one, plain_of(Py_TYPE(one)));
+}
+
+static destructor plain_of_object;
+
+static void freed_object(PyObject *one)
+{
+    freed_by(one, plain_of_object);
+}
+
+#define FREED_IN_TURN(kind)                         \
+    static destructor plain_of_##kind;             \
+                                                    \
+    static void freed_##kind(PyObject *one)        \
+    {                                               \
+        PyObject_GC_UnTrack(one);                   \
+        Py_TRASHCAN_BEGIN(one, freed_##kind)        \
+        freed_by(one, plain_of_##kind);             \
+        Py_TRASHCAN_END                             \
+    }
+
+FREED_IN_TURN(list)
+FREED_IN_TURN(dict)
+
+static destructor plain_of_faults;
+
+static void freed_fault(PyObject *one)
+{
+    PyObject_GC_UnTrack(one);
+    Py_TRASHCAN_BEGIN(one, freed_fault)
+    freed_by(one, plain_of(Py_TYPE(one)));
+    Py_TRASHCAN_END
+}
+
+static destructor freed_as(PyTypeObject *type)
+{
+    if (type->tp_dealloc == plain_of_faults)
+        return freed_fault;
+    destructor *plain = type == &PyList_Type ? &plain_of_list : type == &PyDict_Type ? &plain_of_dict
+        : type == &PyBaseObject_Type ? &plain_of_object : NULL;
+    if (plain == NULL)
+        return freed;
+    *plain = type->tp_dealloc;
+    return type == &PyList_Type ? freed_list : type == &PyDict_Type ? freed_dict : freed_object;
+}
+
+/* Whether objects of a type tell that they are gone. A class of the program is freed by the first of its bases that is none. */
+static int is_followed(PyTypeObject *type)
+{
+    destructor of_classes = ((PyTypeObject *)given.owner_type)->tp_dealloc;
+    while (type != NULL && type->tp_dealloc == of_classes)
+        type = type->tp_base;
+    if (type == NULL)
+        return 0;
+    for (size_t place = 0; place < followed_types; place++)
+        if (followed[place].type == type)
+            return 1;
+    if (followed_types == MOST_FOLLOWED || PySequence_Contains(given.followed, (PyObject *)type) <= 0)
+        return 0;
+    followed[followed_types].type = type;
+    followed[followed_types].plain = type->tp_dealloc;
+    followed_types++;
+    type->tp_dealloc = freed_as(type);
+    return 1;
+}
+
 static void let_go_of_all(void)
 {
     while (held.count > 0)
@@ -479,7 +590,7 @@ static Owner *new_owner(PyObject *one, PyObject *name)
             owner->maker = Py_NewRef(PyTuple_GET_ITEM(made, 3));
         }
     }
-    int is_weak = PyType_SUPPORTS_WEAKREFS(type);
+    int is_weak = PyType_SUPPORTS_WEAKREFS(type), is_held = !is_weak && !is_followed(type);
     if (is_weak ? (owner->reference = PyWeakref_NewRef(one, (PyObject *)owner)) == NULL : let_go_of_some(LOOKED_THROUGH) < 0)
         goto fail;
     Owner *first = find_owner(one);  /* Another task may have come meanwhile. */
@@ -487,7 +598,7 @@ static Owner *new_owner(PyObject *one, PyObject *name)
         Py_INCREF((PyObject *)first);
         Py_CLEAR(owner->reference);
         Py_SETREF(owner, first);
-    } else if ((!is_weak && hold(one) < 0) || add_owner(one, owner) < 0)
+    } else if ((is_held && hold(one) < 0) || add_owner(one, owner) < 0)
         goto fail;
     Py_DECREF(key);
     return owner;
@@ -741,7 +852,7 @@ static int saw(Owner *owner, PyObject *mark, PyObject *late, int is_repeated)
     return result;
 }
 
-/* Gives back what the hook was given. A fault stops tracing, and does not reach the program. */
+/* Gives back what the hook was given. A fault costs the touch, and does not reach the program. */
 static PyObject *end_hook(PyObject *back, int result)
 {
     if (result < 0 && PyErr_Occurred()) {
@@ -750,7 +861,7 @@ static PyObject *end_hook(PyObject *back, int result)
         PyObject *type, *fault, *trace;
         PyErr_Fetch(&type, &fault, &trace);
         PyErr_NormalizeException(&type, &fault, &trace);
-        PyObject *told = PyObject_CallOneArg(given.failed, fault);
+        PyObject *told = PyObject_CallOneArg(given.lost, fault);
         Py_XDECREF(type);
         Py_XDECREF(fault);
         Py_XDECREF(trace);
@@ -1137,12 +1248,12 @@ static PyObject *hook_d(PyObject *self, PyObject *ignored)
     return end_hook(Py_None, let_go_of_some(LOOKED_THROUGH_AT_ONCE));
 }
 
-/* Goes on for ever, and looks at a container before each step of a loop through it. */
+/* Goes on as another iterator does, and looks at a container before each step of it. Who takes it apart, as a copy does, gets that one. */
 
 typedef struct {
     PyObject_HEAD
     Owner *owner;
-    PyObject *site, *late;
+    PyObject *site, *late, *inner;
 } Step;
 
 /* The first step of another stretch: a loop goes on, which began in an earlier one. */
@@ -1157,17 +1268,35 @@ static int step_on(Step *self)
 
 static PyObject *step_next(Step *self)
 {
-    return end_hook(Py_None, is_seen(self->owner, self->site) ? 0 : step_on(self));
+    PyObject *looked = end_hook(Py_None, is_seen(self->owner, self->site) ? 0 : step_on(self));
+    if (looked == NULL)
+        return NULL;
+    Py_DECREF(looked);
+    return Py_TYPE(self->inner)->tp_iternext(self->inner);
 }
+
+static PyObject *step_reduce(Step *self, PyObject *ignored)
+{
+    return Py_BuildValue("O(O)", given.iter, self->inner);
+}
+
+static PyMethodDef step_methods[] = {
+    {"__reduce__", (PyCFunction)step_reduce, METH_NOARGS, NULL},
+    {NULL},
+};
 
 static PyObject *step_new(PyTypeObject *type, PyObject *words, PyObject *named)
 {
-    PyObject *owner, *site, *late;
-    if (!PyArg_ParseTuple(words, "O!OO", &OwnerType, &owner, &site, &late))
+    PyObject *owner, *site, *late, *through;
+    if (!PyArg_ParseTuple(words, "O!OOO", &OwnerType, &owner, &site, &late, &through))
         return NULL;
-    Step *step = (Step *)type->tp_alloc(type, 0);
-    if (step == NULL)
+    PyObject *inner = PyObject_GetIter(through);
+    Step *step = inner == NULL ? NULL : (Step *)type->tp_alloc(type, 0);
+    if (step == NULL) {
+        Py_XDECREF(inner);
         return NULL;
+    }
+    step->inner = inner;
     step->owner = (Owner *)Py_NewRef(owner);
     step->site = Py_NewRef(site);
     step->late = Py_NewRef(late);
@@ -1178,6 +1307,7 @@ static int step_traverse(Step *self, visitproc visit, void *arg)
 {
     Py_VISIT(self->owner);
     Py_VISIT(self->late);
+    Py_VISIT(self->inner);
     return 0;
 }
 
@@ -1187,6 +1317,7 @@ static void step_dealloc(Step *self)
     Py_CLEAR(self->owner);
     Py_CLEAR(self->site);
     Py_CLEAR(self->late);
+    Py_CLEAR(self->inner);
     Py_TYPE(self)->tp_free((PyObject *)self);
 }
 
@@ -1197,6 +1328,7 @@ static PyTypeObject StepType = {
     .tp_flags = Py_TPFLAGS_DEFAULT | Py_TPFLAGS_HAVE_GC,
     .tp_iter = PyObject_SelfIter,
     .tp_iternext = (iternextfunc)step_next,
+    .tp_methods = step_methods,
     .tp_new = step_new,
     .tp_traverse = (traverseproc)step_traverse,
     .tp_dealloc = (destructor)step_dealloc,
@@ -1207,11 +1339,10 @@ static PyObject *steps_through(PyObject *one, PyObject *site, Decision *decision
 {
     PyObject *late = Py_NewRef(decision->late), *name = Py_NewRef(decision->name);
     Owner *owner = owner_for(one, name);
-    PyObject *words = owner == NULL ? NULL : PyTuple_Pack(3, owner, site, late);
-    PyObject *step = words == NULL ? NULL : step_new(&StepType, words, NULL), *steps = NULL;
-    if (step != NULL && saw(owner, site, late, 1) == 0)
-        steps = PyObject_CallFunctionObjArgs((PyObject *)&PyMap_Type, given.second, step, one, NULL);
-    Py_XDECREF(step);
+    PyObject *words = owner == NULL ? NULL : PyTuple_Pack(4, owner, site, late, one);
+    PyObject *steps = words == NULL ? NULL : step_new(&StepType, words, NULL);
+    if (steps != NULL && saw(owner, site, late, 1) < 0)
+        Py_CLEAR(steps);
     Py_XDECREF(words);
     Py_XDECREF((PyObject *)owner);
     Py_DECREF(late);
@@ -1219,20 +1350,80 @@ static PyObject *steps_through(PyObject *one, PyObject *site, Decision *decision
     return steps;
 }
 
+/* What a rewritten module calls. A program may have come to the limit of its recursion: a hook takes nothing of that. */
+
+typedef struct {
+    PyObject_HEAD
+    vectorcallfunc vectorcall;
+    PyObject *function;
+    PyObject *(*quick)(PyObject *, PyObject *const *, Py_ssize_t);
+} Hook;
+
+#define ROOM 200
+
+#if PY_VERSION_HEX >= 0x030C0000
+#define GIVE_ROOM(thread, more) ((thread)->py_recursion_remaining += (more), (thread)->c_recursion_remaining += (more))
+#else
+#define GIVE_ROOM(thread, more) ((thread)->recursion_remaining += (more))
+#endif
+
+static PyObject *hook_called(PyObject *self, PyObject *const *words, size_t count, PyObject *named)
+{
+    Hook *hook = (Hook *)self;
+    PyThreadState *thread = PyThreadState_Get();
+    GIVE_ROOM(thread, ROOM);
+    PyObject *result = hook->quick != NULL && named == NULL ? hook->quick(NULL, words, PyVectorcall_NARGS(count))
+        : PyObject_Vectorcall(hook->function, words, count, named);
+    GIVE_ROOM(thread, -ROOM);
+    return result;
+}
+
+static PyObject *hook_new(PyTypeObject *type, PyObject *words, PyObject *named)
+{
+    PyObject *function;
+    if (named != NULL || !PyArg_ParseTuple(words, "O", &function))
+        return NULL;
+    Hook *hook = (Hook *)type->tp_alloc(type, 0);
+    if (hook == NULL)
+        return NULL;
+    hook->vectorcall = hook_called;
+    hook->function = Py_NewRef(function);
+    if (PyCFunction_CheckExact(function) && PyCFunction_GetFlags(function) == METH_FASTCALL)
+        hook->quick = (PyObject *(*)(PyObject *, PyObject *const *, Py_ssize_t))(void (*)(void))PyCFunction_GetFunction(function);
+    return (PyObject *)hook;
+}
+
+static void hook_dealloc(Hook *self)
+{
+    Py_CLEAR(self->function);
+    Py_TYPE(self)->tp_free((PyObject *)self);
+}
+
+static PyTypeObject HookType = {
+    PyVarObject_HEAD_INIT(NULL, 0)
+    .tp_name = "itc_trace.watch.quick.Hook",
+    .tp_basicsize = sizeof(Hook),
+    .tp_flags = Py_TPFLAGS_DEFAULT | Py_TPFLAGS_HAVE_VECTORCALL,
+    .tp_call = PyVectorcall_Call,
+    .tp_vectorcall_offset = offsetof(Hook, vectorcall),
+    .tp_new = hook_new,
+    .tp_dealloc = (destructor)hook_dealloc,
+};
+
 /* Beginning */
 
 static PyObject *setup(PyObject *self, PyObject *words, PyObject *named)
 {
     static char *names[] = {
         "stretches", "state", "made", "begun", "begun_more", "never", "owner_type", "made_type", "maker", "begin_stretch", "share",
-        "shorten", "saw", "note_shared", "what_of", "failed", "fields_of", "field", "whole", "nested", "method", "steps", "keyed", "variable", "cell",
-        "went_on", "second", NULL,
+        "shorten", "saw", "note_shared", "what_of", "lost", "fields_of", "followed", "field", "whole", "nested", "method", "steps", "keyed", "variable", "cell",
+        "went_on", "iter", NULL,
     };
     PyObject **objects[] = {
         &given.stretches, &given.state, &given.made, &given.begun, NULL, &given.never, &given.owner_type, &given.made_type,
-        &given.maker, &given.begin_stretch, &given.share, &given.shorten, &given.saw, &given.note_shared, &given.what_of, &given.failed,
-        &given.fields_of, &given.field, &given.whole, &given.nested, &given.method, &given.steps, &given.keyed, &given.variable, &given.cell,
-        &given.went_on, &given.second,
+        &given.maker, &given.begin_stretch, &given.share, &given.shorten, &given.saw, &given.note_shared, &given.what_of, &given.lost,
+        &given.fields_of, &given.followed, &given.field, &given.whole, &given.nested, &given.method, &given.steps, &given.keyed, &given.variable, &given.cell,
+        &given.went_on, &given.iter,
     };
     for (size_t place = 0; names[place] != NULL; place++) {
         PyObject *found = named == NULL ? NULL : PyDict_GetItemString(named, names[place]);
@@ -1245,6 +1436,9 @@ static PyObject *setup(PyObject *self, PyObject *words, PyObject *named)
     }
     if (PyErr_Occurred())
         return NULL;
+    home = PyInterpreterState_Get();
+    if (plain_of_faults == NULL)
+        plain_of_faults = ((PyTypeObject *)PyExc_BaseException)->tp_dealloc;
     Py_RETURN_NONE;
 }
 
@@ -1289,7 +1483,7 @@ static int fill_module(PyObject *made)
     if (text_note == NULL || text_line == NULL || text_leave == NULL || text_constructor == NULL || no_words == NULL)
         return -1;
     if (add_type(made, "Seen", &SeenType) < 0 || add_type(made, "OwnerFields", &OwnerType) < 0 || add_type(made, "Owners", &OwnersType) < 0
-        || add_type(made, "Step", &StepType) < 0)
+        || add_type(made, "Step", &StepType) < 0 || add_type(made, "Hook", &HookType) < 0)
         return -1;
     PyObject *owners = PyObject_New(PyObject, &OwnersType);
     int result = owners == NULL ? -1 : PyModule_AddObjectRef(made, "OWNERS", owners);

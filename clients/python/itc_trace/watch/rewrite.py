@@ -837,7 +837,9 @@ class Rewriter:
             return
         node.args = [self._child(one) for one in node.args]
         if not any(isinstance(one, ast.Starred) for one in node.args):
-            node.args = [ast.copy_location(ast.Starred(self._hook("a", node, ast.Constant(site), *node.args), ast.Load()), node)]
+            last = len(node.args) - 1
+            kept = [on_stack.copy(on_stack.form_of_argument(place, last), node.args[last]) for place in range(min(last, 2))]
+            node.args[last] = self._hook("I" if last == 1 else "J", node.args[last], node.args[last], *kept, site)
 
     def _is_made(self, node: Any) -> bool:
         """Whether it is a call of a function of the language that gives something new."""

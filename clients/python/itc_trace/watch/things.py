@@ -222,6 +222,16 @@ def let_go_of_some(most: int) -> None:
         KEPT.pop(key, None)
 
 
+def collecting(phase: str, found: dict[str, int]) -> None:
+    """What nobody else holds goes when the garbage is collected, and all of it where all garbage is."""
+    if phase == "start":
+        let_go_of_some(MOST_HELD if found["generation"] == OLDEST else LOOKED_THROUGH)
+
+
+OLDEST = 2
+"""The last generation of the collector of garbage."""
+
+
 def _references_of_held() -> int:
     kept: dict[int, Any] = {0: []}
     return getrefcount(kept[0])

@@ -4,8 +4,10 @@ from __future__ import annotations
 
 import gc
 import os
-from types import FunctionType
+from types import CodeType, FunctionType
 
+from ..journal import line_of
+from ..noting import LOST
 from ..verdict import Cause, Unseen
 from .finder import FILES, LIBRARY_FOLDERS, Selection
 
@@ -17,6 +19,18 @@ def files_without_hooks(selection: Selection) -> list[Unseen]:
     known = {os.path.realpath(file) for file in FILES}
     left = {file for file in files if _is_source(file) and os.path.dirname(file) in own and os.path.realpath(file) not in known}
     return [Unseen(Cause.MODULE, f"{os.path.basename(file)} was not watched, as it was not imported from a source file") for file in sorted(left)]
+
+
+def touches_lost() -> list[Unseen]:
+    """The touches that hooks have failed to note, by place. Tracing went on behind them."""
+    return [
+        Unseen(Cause.TRACER, f"{count} touch{'' if count == 1 else 'es'} could not be noted{_told_at(code, instruction)}: {fault} in a hook")
+        for (code, instruction, fault), count in list(LOST.items())
+    ]
+
+
+def _told_at(code: CodeType | None, instruction: int) -> str:
+    return "" if code is None else f" at {os.path.basename(code.co_filename)}:{line_of(code, instruction)}*"
 
 
 def _is_source(file: str) -> bool:
