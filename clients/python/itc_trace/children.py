@@ -8,7 +8,7 @@ import select
 from collections.abc import Callable
 from typing import Any
 
-from . import watch
+from . import own_files, watch
 from .file_names import name_of_file
 from .following import not_traced, place_of_start
 from .journal import line_of
@@ -143,20 +143,20 @@ class ForkedChildren:
     """Knows whether forked children are left, by a pipe that each of them holds open until it ends or runs another program."""
 
     def __init__(self) -> None:
-        self._end, self._held = os.pipe()
+        self._end, self._held = map(own_files.keep, os.pipe())
 
     def have_one(self) -> bool:
         """Whether a child is left. It can be asked once."""
         held, self._held = self._held, -1
         if held >= 0:
-            os.close(held)
+            own_files.close(held)
         return not select.select([self._end], [], [], 0)[0]
 
     def close(self) -> None:
         for file in (self._end, self._held):
             if file >= 0:
                 with contextlib.suppress(OSError):  # The program has closed it.
-                    os.close(file)
+                    own_files.close(file)
         self._end = self._held = -1
 
 

@@ -12,6 +12,7 @@ from collections.abc import Iterator
 from pathlib import Path
 from types import TracebackType
 
+from . import own_files
 from .own_threads import with_signals
 
 HOST = "127.0.0.1"
@@ -117,10 +118,14 @@ if hasattr(os, "register_at_fork"):
 
 def _run_beside(words: list[str]) -> subprocess.Popen[bytes]:
     """Runs a command that no key of the terminal reaches."""
-    return with_signals(lambda: subprocess.Popen(
+    process = with_signals(lambda: subprocess.Popen(
         ["/bin/sh", "-c", BESIDE, "sh", *words], stdin=subprocess.PIPE, stdout=subprocess.PIPE, stderr=sys.__stderr__,
         start_new_session=True,
     ))
+    for pipe in (process.stdin, process.stdout):
+        if pipe is not None:
+            own_files.spare(pipe.fileno())
+    return process
 
 
 def _end(process: subprocess.Popen[bytes]) -> None:
@@ -130,5 +135,6 @@ def _end(process: subprocess.Popen[bytes]) -> None:
 
 def _close_pipes(process: subprocess.Popen[bytes]) -> None:
     for pipe in (process.stdin, process.stdout):
-        if pipe is not None:
+        if pipe is not None and not pipe.closed:
+            own_files.let_go(pipe.fileno())
             pipe.close()

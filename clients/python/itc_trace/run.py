@@ -33,7 +33,7 @@ from .races import Race, Races
 from .seeing import races_seen
 from .session import Refused
 from .snapshot import snapshot
-from .verdict import BREAKS_OFF, Cause, Unseen, Verdict, reasons
+from .verdict import BREAKS_OFF, REMOVED, Cause, Unseen, Verdict, reasons
 
 UNTOUCHED = """\
 itc_trace: nothing was touched, so there was no race to find
@@ -206,6 +206,8 @@ def _outcome(asked: Run, seed: int | None) -> Outcome | None:
         else:
             with _opened(journal) as rows:
                 races = races_seen(asked.tenant, port, rows, asked.host, asked.looking, Bar(sys.stderr))
+            if not os.path.exists(journal):
+                races.unseen = [REMOVED if one == BREAKS_OFF else one for one in races.unseen]
         if child.signal_name and not _is_killed(races):
             killed = Unseen(Cause.KILLED, f"the program was ended by {child.signal_name}")
             races.unseen = [killed, *(one for one in races.unseen if one != BREAKS_OFF)]

@@ -13,6 +13,8 @@ import threading
 from collections.abc import Iterator
 from zlib import crc32
 
+from . import own_files
+
 LONGEST_KEY = 32
 LONGEST_NAME = 32
 SLOT = LONGEST_KEY + LONGEST_NAME
@@ -26,10 +28,11 @@ class SharedNames:
     def __init__(self, path: str | None = None) -> None:
         """Opens the file, or makes one."""
         if path is None:
-            self._file, self.path = tempfile.mkstemp(prefix=PREFIX)
-            os.ftruncate(self._file, SLOT * MOST_SLOTS)
+            file, self.path = tempfile.mkstemp(prefix=PREFIX)
+            os.ftruncate(file, SLOT * MOST_SLOTS)
         else:
-            self._file, self.path = os.open(path, os.O_RDWR | os.O_CLOEXEC), path
+            file, self.path = os.open(path, os.O_RDWR | os.O_CLOEXEC), path
+        self._file = own_files.keep(file)
         self._memory = mmap.mmap(self._file, SLOT * MOST_SLOTS)
         self._thread_lock = threading.Lock()
 

@@ -4,6 +4,7 @@ from __future__ import annotations
 
 import _thread
 import contextlib
+import errno
 import functools
 import itertools
 import re
@@ -16,6 +17,7 @@ from collections.abc import Callable, Hashable
 from sys import getrefcount
 from types import CodeType
 
+from . import own_files
 from .collector import HOST, MOST_TASKS
 from .dividing import Report, request
 from .faults import FULL, Fault, nobody_listens, refusal
@@ -49,6 +51,7 @@ MOST_HINTS = 256
 """So many hints are kept, each with the name that is made of it."""
 ANY_PROCESS = "p"
 GONE_COLLECTOR = "the collector is gone"
+CLOSED_CONNECTION = "the program has closed the connection to the collector"
 MANY_JOBS = Unseen(
     Cause.FULL, f"more than {MOST_TASKS // 2} jobs were given to pools, and a race between two later ones is not seen if one thread ran both"
 )
@@ -233,7 +236,7 @@ class Tracer:
             elif process is not None or self._events_before > 0:
                 self._begin_beside_others(process or ANY_PROCESS)
         except BaseException:
-            self._socket.close()
+            self._close_socket()
             raise
         if self._parts is not None:
             self._parts.add(self.main)
@@ -243,7 +246,7 @@ class Tracer:
     def _open(self, port: int) -> int:
         """Begins to report at this port. Gives how many events there are."""
         try:
-            self._socket = socket.create_connection((self._host, port))
+            self._keep_socket(socket.create_connection((self._host, port)).detach())
         except ConnectionRefusedError as refused:
             raise Fault(nobody_listens(port)) from refused
         try:
@@ -253,9 +256,24 @@ class Tracer:
             if not count.startswith("200 "):
                 raise Fault(refusal(count, self._tenant, port))
         except BaseException:
-            self._socket.close()
+            self._close_socket()
             raise
         return int(count.split()[1])
+
+    def _keep_socket(self, file: int) -> None:
+        self._socket = socket.socket(fileno=own_files.keep(file, self._move_socket))
+        self._socket.settimeout(None)  # The program may have set another one for all sockets.
+
+    def _move_socket(self, file: int) -> None:
+        """The program has put another file at the number of the socket. It is not to be closed there."""
+        self._socket.detach()
+        self._socket = socket.socket(fileno=file)
+        self._socket.settimeout(None)
+
+    def _close_socket(self) -> None:
+        own_files.let_go(self._socket.fileno())
+        with contextlib.suppress(OSError):  # The program has closed it.
+            self._socket.close()
 
     @property
     def part(self) -> int:
@@ -321,8 +339,7 @@ class Tracer:
             self._await(self._ended)
         self._end_session()
         self._reader_ended.wait(ANSWER_WAIT)
-        with contextlib.suppress(OSError):  # The program has closed it.
-            self._socket.close()
+        self._close_socket()
         self._write_touches(is_last=True)
         if not self._is_over:
             written = self._journal.lines
@@ -343,11 +360,19 @@ class Tracer:
         state.tracer = None
         STRETCHES.clear()
         self._is_over = True
-        self._socket.close()
+        self._close_socket()
 
     def fail(self, fault: Exception) -> None:
         """A hook in the program's own thread failed."""
         self._give_up(Cause.TRACER, f"{type(fault).__name__} in a hook: {fault}")
+
+    def lose_journal(self, fault: OSError) -> None:
+        """A line cannot be written."""
+        self._give_up(Cause.JOURNAL, f"the journal cannot be written: {fault.strerror}")
+
+    def _lose_collector(self, fault: OSError | ValueError) -> None:
+        is_closed_here = isinstance(fault, OSError) and fault.errno in (errno.EBADF, errno.ENOTSOCK)
+        self._give_up(Cause.COLLECTOR, CLOSED_CONNECTION if is_closed_here else GONE_COLLECTOR)
 
     def _give_up(self, cause: Cause, reason: str) -> None:
         """Stops tracing in the middle. The program goes on."""
@@ -358,7 +383,8 @@ class Tracer:
             if state.tracer is self:
                 state.note = None
         self._write_touches(is_last=True)
-        self._journal_row(Unseen(cause, reason).row())
+        with contextlib.suppress(OSError):  # A journal without its last line breaks off, and whoever reads it says so.
+            self._journal.write_last(Unseen(cause, reason).row())
         self._end_session()
         self._let_go()
         _say(f"tracing stops: {reason}")
@@ -424,8 +450,8 @@ class Tracer:
                     self._report_some()
         except Fault as fault:
             self._give_up(Cause.COLLECTOR, str(fault))
-        except OSError:
-            self._give_up(Cause.COLLECTOR, GONE_COLLECTOR)
+        except OSError as fault:
+            self._lose_collector(fault)
         except BaseException as fault:  # Nothing that happens here may reach the program.
             self._give_up(Cause.TRACER, f"{type(fault).__name__} in the tracer: {fault}")
 
@@ -935,7 +961,7 @@ class Tracer:
         self._is_changing = True
         self._end_session()
         self._reader_ended.wait(ANSWER_WAIT)
-        self._socket.close()
+        self._close_socket()
         self._open(port)
         self._reader_ended, self._is_changing = Waiter(), False
         start_thread(self._read_all)
@@ -959,8 +985,8 @@ class Tracer:
                     return
             if not self._all_sent or self._outstanding:
                 self._give_up(Cause.COLLECTOR, GONE_COLLECTOR)
-        except (OSError, ValueError):
-            self._give_up(Cause.COLLECTOR, GONE_COLLECTOR)
+        except (OSError, ValueError) as fault:
+            self._lose_collector(fault)
         except BaseException as fault:
             self._give_up(Cause.TRACER, f"{type(fault).__name__} in the tracer: {fault}")
         finally:
@@ -970,7 +996,7 @@ class Tracer:
         try:
             self._journal.write(rows)
         except OSError as fault:
-            self._give_up(Cause.JOURNAL, f"the journal cannot be written: {fault.strerror}")
+            self.lose_journal(fault)
 
     def _replied(self, reply: bytes) -> str:
         """The journal's row of a report that was taken, else nothing."""

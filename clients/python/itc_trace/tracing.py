@@ -55,7 +55,7 @@ class Tracing:
         self._tracer: Tracer | None = None
         self._found: Races | None = None
         self._is_temporary = journal is None
-        self.journal: str = "" if journal is None else os.fspath(journal)
+        self.journal: str = "" if journal is None else os.path.abspath(os.fspath(journal))
         self._file: JournalFile | None = None
         self._children: ForkedChildren | None = None
         self._announced: Announced | None = None
@@ -124,7 +124,7 @@ class Tracing:
             self._file.write(row)
         except OSError as fault:
             if self._tracer is not None:
-                self._tracer.fail(fault)
+                self._tracer.lose_journal(fault)
 
     @property
     def is_child(self) -> bool:

@@ -85,6 +85,7 @@ END_OF_ALL = '{"end":true,"task":null}\n'
 """The last line of several journals put together. Which of the processes have ended is told by the lines before it."""
 
 BREAKS_OFF = Unseen(Cause.JOURNAL, "the journal breaks off before the end of its process")
+REMOVED = Unseen(Cause.JOURNAL, "the journal breaks off: the program has removed its file")
 
 
 def verdict_of(failing: int, unseen: Iterable[Unseen]) -> Verdict:

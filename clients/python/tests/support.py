@@ -182,10 +182,24 @@ class ProgramCase(unittest.TestCase):
         return str(path)
 
 
-def run_python(*words: str, **variables: str) -> subprocess.CompletedProcess[str]:
+def python_with(*modules: str) -> str | None:
+    """A Python that has these modules and that the package works with: the one that runs the tests, else the system's own."""
+    for python in (sys.executable, "/usr/bin/python3"):
+        asked = f"import {', '.join(('sys', *modules))}; sys.exit(sys.version_info < (3, 11))"
+        if os.path.exists(python) and subprocess.run([python, "-c", asked], capture_output=True, check=False).returncode == 0:
+            return python
+    return None
+
+
+def needs(package: str, *modules: str) -> Callable[[Any], Any]:
+    """Skips a test that wants these modules, if no Python here has them. Debian has them in the package."""
+    return unittest.skipIf(python_with(*modules) is None, f"there is no {modules[-1]} here: apt-get install -y {package}")
+
+
+def run_python(*words: str, python: str | None = sys.executable, **variables: str) -> subprocess.CompletedProcess[str]:
     """Runs `python3 WORDS..` with the package at hand."""
     environment = {**os.environ, "PYTHONPATH": str(PACKAGE), **variables}
-    return subprocess.run([sys.executable, *words], capture_output=True, text=True, env=environment, timeout=1500, check=False)
+    return subprocess.run([python or sys.executable, *words], capture_output=True, text=True, env=environment, timeout=1500, check=False)
 
 
 PATIENT = f"""
@@ -202,6 +216,6 @@ def run_system(*words: str, **variables: str) -> subprocess.CompletedProcess[str
     return run_python("-c", PATIENT, "system", *words, **variables)
 
 
-def run_traced(*words: str, **variables: str) -> subprocess.CompletedProcess[str]:
+def run_traced(*words: str, python: str | None = sys.executable, **variables: str) -> subprocess.CompletedProcess[str]:
     """Runs `python3 -m itc_trace run WORDS..`."""
-    return run_python("-m", "itc_trace", "run", *words, **variables)
+    return run_python("-m", "itc_trace", "run", *words, python=python, **variables)

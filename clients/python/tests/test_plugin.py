@@ -3,13 +3,15 @@
 from __future__ import annotations
 
 import os
+import re
 import subprocess
 import sys
 import tempfile
 import unittest
 from pathlib import Path
+from typing import NamedTuple
 
-from .support import PACKAGE
+from .support import PACKAGE, needs, python_with
 
 TESTS = '''
 import os, threading
@@ -70,18 +72,205 @@ def test_lucky():
 '''
 
 
-def python_with_pytest() -> str | None:
-    for python in (sys.executable, "/usr/bin/python3"):
-        asked = "import sys, pytest; sys.exit(sys.version_info < (3, 11))"
-        if os.path.exists(python) and subprocess.run([python, "-c", asked], capture_output=True, check=False).returncode == 0:
-            return python
-    return None
+KINDS = '''
+# Some words before the first statement.
+
+import asyncio, threading, unittest
+import pytest
+
+def run(work):
+    threads = [threading.Thread(target=work) for _ in range(2)]
+    for thread in threads: thread.start()
+    for thread in threads: thread.join()
+
+class Shop:
+    stock = 2
+    def sell(self):
+        self.stock -= 1
+
+async def race():
+    shop = Shop()
+    async def sell():
+        left = shop.stock
+        await asyncio.sleep(0)
+        shop.stock = left - 1
+    await asyncio.gather(sell(), sell())
+
+def racing_by_its_function():
+    """
+    >>> run(Shop().sell)
+    """
+
+def racing_by_its_lines():
+    """
+    >>> sold = 0
+    >>> def sell():
+    ...     global sold
+    ...     sold += 1
+    >>> run(sell)
+    >>> sold
+    2
+    """
+
+def quiet_doctest():
+    """
+    >>> Shop().stock
+    2
+    """
+
+class Plain(unittest.TestCase):
+    def test_racing_case(self): run(Shop().sell)
+    def test_quiet_case(self): Shop().sell()
+
+class WithSetUp(unittest.TestCase):
+    def setUp(self): run(Shop().sell)
+    def test_racing_setup(self): pass
+
+class WithTearDown(unittest.TestCase):
+    def tearDown(self): run(Shop().sell)
+    def test_racing_tear_down(self): pass
+
+class Asynchronous(unittest.IsolatedAsyncioTestCase):
+    async def test_racing_asynchronous_case(self): await race()
+    async def test_quiet_asynchronous_case(self): Shop().sell()
+
+class AsynchronousWithSetUp(unittest.IsolatedAsyncioTestCase):
+    async def asyncSetUp(self): await race()
+    async def test_racing_asynchronous_setup(self): pass
+
+@pytest.fixture
+def early(): run(Shop().sell)
+
+@pytest.fixture
+def late():
+    yield
+    run(Shop().sell)
+
+@pytest.fixture
+def served():
+    shop = Shop()
+    thread = threading.Thread(target=shop.sell)
+    thread.start()
+    yield shop
+    thread.join()
+
+def test_racing_function(): run(Shop().sell)
+def test_racing_fixture(early): pass
+def test_racing_end_of_fixture(late): pass
+def test_racing_with_a_fixture(served): served.stock
+def test_quiet_function(): Shop().sell()
+
+class TestMethods:
+    def setup_method(self): run(Shop().sell)
+    def test_racing_setup_method(self): pass
+
+@pytest.mark.parametrize("number", (1, 2))
+def test_racing_parameter(number): run(Shop().sell)
+'''
+MARKED = "\npytestmark = pytest.mark.races\n"
+ASYNCIO = '''
+@pytest.mark.asyncio
+async def test_racing_coroutine(): await race()
+@pytest.mark.asyncio
+async def test_quiet_coroutine(): Shop().sell()
+'''
+EXPECTED = '''
+@pytest.mark.xfail
+def test_racing_expected(): run(Shop().sell)
+@pytest.mark.xfail(strict=True)
+def test_racing_strictly(): run(Shop().sell)
+@pytest.mark.skip
+def test_racing_skipped(): run(Shop().sell)
+'''
+HEADS = ("", "\n", "# A licence.\n\n", '"""Words."""\n', '\n\n"""Words.\n"""\nfrom __future__ import annotations\n')
+BODY = '''import pytest
+@pytest.mark.races
+def test_quiet():
+    assert 1 == 1
+@pytest.mark.races
+def test_own():
+    assert 1 == 2
+'''
+FAILING = '''
+# Some words.
+import pytest
+
+class Shop:
+    def __init__(self):
+        self.stock = [1, 2]
+
+@pytest.fixture
+def shop():
+    yield Shop()
+
+def test_compares(shop):
+    assert shop.stock == [1, 3], "its own reason"
+def test_contains(shop):
+    assert 7 in shop.stock and shop
+def test_raises(shop):
+    shop.stock[9].x = 3
+def test_raises_within(shop):
+    with pytest.raises(KeyError) as caught:
+        {}["left"]
+    assert str(caught.value) == "left"
+def test_prints(shop, capsys):
+    print(shop.stock)
+    assert capsys.readouterr().out == "[1, 2]"
+def test_late():
+    import helper
+    helper.check([1, 2])
+'''
+REWRITTEN_LATE = "import pytest\npytest.register_assert_rewrite('helper')\n"
+HELPER = "# Words.\nstock = [1, 3]\ndef check(one):\n    assert one == stock\n"
+WITHIN = '''
+def test_quiet_within(pytester):
+    pytester.makepyfile("import pytest\\n@pytest.mark.races\\ndef test_in(): pass")
+    assert pytester.runpytest_inprocess("-p", "itc_trace.pytest_plugin").ret == 1
+'''
+LEAVES_OUT = '''
+import pytest
+@pytest.hookimpl(tryfirst=True)
+def pytest_runtest_protocol(item, nextitem):
+    from _pytest import runner
+    item.ihook.pytest_runtest_logstart(nodeid=item.nodeid, location=item.location)
+    for when in ("call", "teardown"):
+        call = runner.CallInfo.from_call(lambda: None, when)
+        report = item.ihook.pytest_runtest_makereport(item=item, call=call)
+        item.ihook.pytest_runtest_logreport(report=report)
+    return True
+'''
 
 
-PYTHON = python_with_pytest()
+PYTHON = python_with("pytest")
+NEEDS_PYTEST = needs("python3-pytest", "pytest")
+WITHOUT_CACHE = "-p", "no:cacheprovider"
+VERDICT = re.compile(r"^(?:\[gw\d+\] \[ *\d+%\] (?P<before>[A-Z]+) )?\S*::(?P<name>[\w.\[\]]+)(?: (?P<behind>[A-Z]+))?", re.MULTILINE)
 
 
-@unittest.skipIf(PYTHON is None, "there is no pytest here")
+class Suite(NamedTuple):
+    """What became of the tests of a folder."""
+
+    said: str
+    verdicts: dict[str, str]
+    """By the last part of the name of each test."""
+
+
+def suite(*words: str, before: tuple[str, ...] = (), variables: dict[str, str] | None = None, **files: str) -> Suite:
+    """Runs pytest on files of these names, with the plugin at hand."""
+    assert PYTHON is not None
+    with tempfile.TemporaryDirectory() as folder:
+        for name, text in files.items():
+            Path(folder, f"{name}.py").write_text(text)
+        words = (PYTHON, *before, "-m", "pytest", "-p", "itc_trace.pytest_plugin", "-v", "--strict-markers", *words)
+        paths = os.pathsep.join(path for path in (str(PACKAGE), os.environ.get("PYTHONPATH")) if path)
+        environment = {**os.environ, "PYTHONPATH": paths, **(variables or {})}
+        ran = subprocess.run(words, cwd=folder, env=environment, capture_output=True, text=True, timeout=1500, check=False)
+    found = VERDICT.finditer(re.split(" FAILURES | ERRORS ", ran.stdout)[0])
+    verdicts = {one["name"]: one["before"] or one["behind"] for one in found if one["before"] or one["behind"]}
+    return Suite(ran.stdout + ran.stderr, verdicts)
+
+
+@NEEDS_PYTEST
 class Plugin(unittest.TestCase):
     def run_tests(self, *words: str) -> str:
         assert PYTHON is not None
@@ -110,6 +299,102 @@ class Plugin(unittest.TestCase):
 
     def test_a_marked_test_fails_for_a_possible_race_if_it_is_to(self) -> None:
         self.assert_verdicts(self.run_tests("-k", "lucky or locked", "--races-fail-on", "possible"), lucky="FAILED", locked="PASSED")
+
+
+@NEEDS_PYTEST
+class Kinds(unittest.TestCase):
+    """What pytest runs is traced, whatever kind of test it is."""
+
+    def assert_all_told(self, least: int, text: str, *words: str) -> Suite:
+        ran = suite("--doctest-modules", *words, test_kinds=text)
+        self.assertGreaterEqual(len(ran.verdicts), least, ran.said)
+        wrong = {name: verdict for name, verdict in ran.verdicts.items() if verdict != ("FAILED" if "racing" in name else "PASSED")}
+        self.assertFalse(wrong, ran.said)
+        return ran
+
+    def test_each_kind_of_test_and_its_fixtures_are_traced(self) -> None:
+        self.assert_all_told(18, KINDS, "--races", *WITHOUT_CACHE)
+
+    def test_each_kind_is_traced_with_the_cache_and_without_assertions_rewritten(self) -> None:
+        self.assert_all_told(18, KINDS, "--races", "--assert=plain")
+
+    def test_a_mark_of_the_module_counts_for_each_kind(self) -> None:
+        self.assert_all_told(18, KINDS + MARKED, *WITHOUT_CACHE)
+
+    @needs("python3-pytest-xdist", "pytest", "xdist")
+    def test_each_kind_is_traced_in_the_processes_of_xdist(self) -> None:
+        self.assert_all_told(18, KINDS, "--races", "-n", "4")
+
+    @needs("python3-pytest-asyncio", "pytest", "pytest_asyncio")
+    def test_coroutines_are_traced_with_the_plugin_of_asyncio(self) -> None:
+        self.assert_all_told(20, KINDS + ASYNCIO, "--races", *WITHOUT_CACHE)
+
+    @needs("python3-pytest-cov", "pytest", "pytest_cov")
+    def test_all_is_traced_and_covered_as_ever_beside_the_plugin_that_measures_coverage(self) -> None:
+        measured = *WITHOUT_CACHE, "--cov=.", "--cov-report=term-missing"
+        traced = self.assert_all_told(18, KINDS, "--races", *measured)
+        plain = suite("--doctest-modules", *measured, test_kinds=KINDS)
+        covered = [re.findall(r"^test_kinds.py +\d.*$", one.said, re.MULTILINE) for one in (traced, plain)]
+        self.assertTrue(covered[1], plain.said)
+        self.assertEqual(*covered)
+
+    def test_a_file_may_begin_with_anything_before_its_first_statement(self) -> None:
+        for head in HEADS:
+            with self.subTest(head=head):
+                ran = suite(*WITHOUT_CACHE, test_shop=head + BODY)
+                self.assertEqual(ran.verdicts, {"test_quiet": "PASSED", "test_own": "FAILED"}, ran.said)
+                self.assertNotIn("itc_trace: incomplete", ran.said)
+
+
+@NEEDS_PYTEST
+class Shown(unittest.TestCase):
+    """What a test shows is as untraced."""
+
+    def test_a_test_that_fails_shows_the_same_traced(self) -> None:
+        shown = []
+        for words in ((), ("--races",)):
+            ran = suite(*WITHOUT_CACHE, "--no-header", *words, test_shop=FAILING, conftest=REWRITTEN_LATE, helper=HELPER)
+            shown.append(re.sub(r"0x[0-9a-f]+|in [0-9.]+s|={5,}|/tmp/\w+", "", ran.said))
+        self.assertEqual(*shown)
+        self.assertIn("At index 1 diff: 2 != 3", shown[0])
+
+    def test_a_module_that_a_test_imports_is_watched_where_pytest_gives_it_assertions(self) -> None:
+        helper = KINDS.partition("async def")[0] + "\ndef later(): run(Shop().sell)\n"
+        text = "def test_racing():\n    import helper\n    helper.later()\n"
+        ran = suite(*WITHOUT_CACHE, "--races", conftest=REWRITTEN_LATE, helper=helper, test_shop=text)
+        self.assertIn("itc_trace: race on Shop.stock", ran.said)
+        self.assertNotIn("incomplete", ran.said)
+
+    def test_a_run_of_pytest_within_a_test_leaves_the_collector_to_the_outer_one(self) -> None:
+        ran = suite("-p", "pytester", *WITHOUT_CACHE, "--races", test_shop=WITHIN)
+        self.assertEqual(ran.verdicts, {"test_quiet_within": "PASSED"}, ran.said)
+
+    def test_a_test_that_is_to_fail_does_so_by_its_race(self) -> None:
+        ran = suite(*WITHOUT_CACHE, "--races", test_kinds=KINDS + EXPECTED)
+        told = [ran.verdicts[f"test_racing_{name}"] for name in ("expected", "strictly", "skipped")]
+        self.assertEqual(told, ["XFAIL", "XFAIL", "SKIPPED"], ran.said)
+
+
+@NEEDS_PYTEST
+class Untraced(unittest.TestCase):
+    """A marked test that was not traced fails, and says so."""
+
+    def assert_told(self, ran: Suite, why: str) -> None:
+        self.assertEqual(set(ran.verdicts.values()), {"FAILED"}, ran.said)
+        self.assertIn(f"itc_trace: the test was not traced{why}", ran.said)
+
+    def test_a_marked_test_fails_if_no_collector_can_be_started(self) -> None:
+        ran = suite(*WITHOUT_CACHE, "--races", "-k", "quiet", variables={"ITC_TRACE": "/nowhere"}, test_kinds=KINDS)
+        self.assert_told(ran, ": ITC_TRACE names /nowhere")
+
+    def test_a_marked_test_fails_if_the_process_is_traced_already(self) -> None:
+        ran = suite(*WITHOUT_CACHE, "--races", "-k", "quiet", before=("-m", "itc_trace", "run"), test_kinds=KINDS)
+        self.assert_told(ran, ": this process is being traced already")
+
+    def test_a_marked_test_fails_if_another_plugin_leaves_out_what_the_plugin_hooks(self) -> None:
+        ran = suite(*WITHOUT_CACHE, "--races", "-k", "quiet", conftest=LEAVES_OUT, test_kinds=KINDS)
+        self.assertIn("itc_trace: the test was not traced", ran.said)
+        self.assertIn("3 errors", ran.said)
 
 
 if __name__ == "__main__":

@@ -9,7 +9,6 @@ import concurrent.futures
 import functools
 import heapq
 import importlib
-import importlib.util
 import multiprocessing
 import multiprocessing.managers
 import pickle
@@ -20,7 +19,7 @@ import unittest
 import warnings
 from typing import Any
 
-from .support import ProgramCase, TracedCase, run_traced
+from .support import ProgramCase, TracedCase, needs, python_with, run_traced
 
 TRIO = """
 import threading, trio, itc_trace
@@ -60,9 +59,9 @@ trio.run(main)
 
 
 class Trio(ProgramCase):
-    @unittest.skipUnless(importlib.util.find_spec("trio"), "trio is not installed")
+    @needs("python3-trio", "trio")
     def test_trio_runs_and_its_tasks_are_one_line(self) -> None:
-        ran = run_traced(self.program(TRIO))
+        ran = run_traced(self.program(TRIO), python=python_with("trio"))
         self.assertEqual((ran.returncode, ran.stdout), (0, "done\n"), ran.stderr)
         self.assertRegex(ran.stderr, "no race in this run: .* of 5 things")
 

@@ -181,9 +181,9 @@ class Unwatched(ProgramCase):
 class Files(ProgramCase):
     """A program that reaches for the package's own files."""
 
-    def test_a_program_that_closes_all_files_is_no_all_clear(self) -> None:
+    def test_a_program_that_closes_all_files_is_seen_whole(self) -> None:
         ran = run_traced(self.program(CLOSES_FILES))
-        self.assertEqual((ran.returncode, ran.stdout), (Verdict.INCOMPLETE, "ran\n"), ran.stderr)
+        self.assertEqual((ran.returncode, ran.stdout), (Verdict.NO_RACE, "ran\n"), ran.stderr)
         self.assertNotIn("Traceback", ran.stderr)
 
     def test_a_journal_that_the_program_removed_is_no_all_clear(self) -> None:

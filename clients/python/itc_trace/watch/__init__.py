@@ -22,7 +22,7 @@ from .finder import UNWATCHED, Finder, Selection, look_around, with_hooks
 from .loaded import Prepare, folder_of_main, rewrite_loaded
 from .unwatched import files_without_hooks, touches_lost
 
-__all__ = ["Prepare", "begin", "code_of", "end", "program_of", "unwatched", "watch", "watch_loaded", "watch_main", "watch_path_runs"]
+__all__ = ["Prepare", "begin", "code_of", "end", "program_of", "selection", "unwatched", "watch", "watch_loaded", "watch_main", "watch_path_runs"]
 
 MAIN_OF_CHILD = "__mp_main__"
 """The name of the program's main module in a process that `multiprocessing` has started anew."""
@@ -134,6 +134,11 @@ def _switch_on() -> None:
 def is_on() -> bool:
     """Whether modules of the program are watched."""
     return _finder is not None
+
+
+def selection() -> Selection | None:
+    """Which modules are watched, if any are."""
+    return None if _finder is None else _finder.selection
 
 
 def unwatched() -> list[Unseen]:

@@ -1,0 +1,77 @@
+"""The descriptors of the package in the program's process. The program's own have the numbers that they would have untraced, and a
+program that closes all of its files closes none of these.
+"""
+
+from __future__ import annotations
+
+import os
+from collections.abc import Callable
+
+try:
+    import fcntl
+    import resource
+except ImportError:  # Another system, in which the numbers are not moved.
+    fcntl = resource = None  # type: ignore[assignment]
+
+MOST_NUMBER = 1024
+"""Below this number `select` takes a descriptor."""
+ROOM = 64
+"""So many numbers below the greatest one are for the package."""
+
+_close = os.close
+"""As it is before any program is traced."""
+_own: dict[int, Callable[[int], object] | None] = {}
+"""Each descriptor, and who is told of another number for it."""
+
+
+def keep(file: int, move: Callable[[int], object] | None = None) -> int:
+    """Gives a descriptor one of the last numbers. If the program puts another file there, `move` is told of a new number."""
+    kept = _with_great_number(file)
+    if kept != file:
+        _close(file)
+    _own[kept] = move
+    return kept
+
+
+def spare(file: int) -> None:
+    """Leaves a descriptor where it is. The program closes it no more."""
+    _own[file] = None
+
+
+def let_go(file: int) -> None:
+    """Whoever closes the descriptor does it by other means."""
+    _own.pop(file, None)
+
+
+def close(file: int) -> None:
+    let_go(file)
+    _close(file)
+
+
+def _with_great_number(file: int) -> int:
+    if fcntl is None:
+        return file
+    limit = resource.getrlimit(resource.RLIMIT_NOFILE)[0]
+    most = MOST_NUMBER if limit == resource.RLIM_INFINITY else min(MOST_NUMBER, limit)
+    try:
+        return int(fcntl.fcntl(file, fcntl.F_DUPFD_CLOEXEC, max(most - ROOM, 3)))
+    except (OSError, ValueError):  # There is no room among the last.
+        return file
+
+
+def is_own(file: int) -> bool:
+    return file in _own
+
+
+def between(least: int, end: int) -> list[int]:
+    """Those of the package, in their order."""
+    return sorted(one for one in list(_own) if least <= one < end)
+
+
+def make_room(file: int) -> None:
+    """The program puts another file at this number: the package's own goes on at another one."""
+    move = _own.pop(file)
+    if move is not None:
+        kept = _with_great_number(file)
+        _own[kept] = move
+        move(kept)
