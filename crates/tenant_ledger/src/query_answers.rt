@@ -10,7 +10,7 @@ ghost use Rattle.tenant_ledger.specs.Answers.{code_of, is_brief, order_answer};
 ghost use Rattle.tenant_ledger.specs.Ledger.{IsKept, history_in, of_each, tenant_of};
 
 use crate::book::Book;
-use crate::share::Keep;
+use crate::share::{Keep, KeptId};
 use event_tree::RaisedPoint;
 use stamp_codec::write_parts;
 use trace_query::{
@@ -143,7 +143,11 @@ fn stamp<S: Keep>(book: &Book<S>, event: u64) -> Reply
         return Reply::Refused(Code::NoEvent);
     };
     let tree = book.trees()[place].tree_value();
-    match write_parts(book.alloc(), book.stamp_id(event), tree) {
+    let id = match book.event_id(event).tree(book.alloc()) {
+        Ok(id) => id,
+        Err(refused) => return Reply::Refused(Code::from(refused)),
+    };
+    match write_parts(book.alloc(), id.as_tree(), tree) {
         Ok(text) => Reply::Stamp(Text::from(text)),
         Err(refused) => Reply::Refused(Code::from(refused)),
     }
