@@ -1336,7 +1336,7 @@ if quick is not None:
     QUIET.update({name: quick.first for name, one in QUIET.items() if one is _first})
     QUIET.update({name: quick.second for name, one in QUIET.items() if one is _second})
     QUIET.update({name: quick.nothing for name, one in QUIET.items() if one is _nothing})
-    HOOKS, QUIET = [{name: quick.Hook(one) for name, one in hooks.items()} for hooks in (HOOKS, QUIET)]
+    HOOKS.update({name: quick.Hook(one) for name, one in HOOKS.items() if type(one) is types.FunctionType})
 AT_THE_END = {**QUIET, "n": QUIET["o"], "N": QUIET["g"]}
 """Hooks that need nothing of any module, where all modules are about to go."""
 QUIET.update({name: HOOKS[name] for name in ALWAYS})

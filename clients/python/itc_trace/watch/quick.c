@@ -563,7 +563,7 @@ static PyTypeObject OwnersType = {
 
 static long long next_base = 1LL << 32;
 
-/* Fills an owner in. A new one of an object that may be referred to weakly is told when the object is gone. */
+/* Fills an owner in. It is told when its object is gone: by the type, if that is followed, or by a weak reference. Else it holds it. */
 static Owner *new_owner(PyObject *one, PyObject *name)
 {
     PyTypeObject *type = Py_TYPE(one);
@@ -590,8 +590,10 @@ static Owner *new_owner(PyObject *one, PyObject *name)
             owner->maker = Py_NewRef(PyTuple_GET_ITEM(made, 3));
         }
     }
-    int is_weak = PyType_SUPPORTS_WEAKREFS(type), is_held = !is_weak && !is_followed(type);
-    if (is_weak ? (owner->reference = PyWeakref_NewRef(one, (PyObject *)owner)) == NULL : let_go_of_some(LOOKED_THROUGH) < 0)
+    int is_weak = !is_followed(type) && PyType_SUPPORTS_WEAKREFS(type), is_held = !is_weak && !is_followed(type);
+    if (is_weak && (owner->reference = PyWeakref_NewRef(one, (PyObject *)owner)) == NULL)
+        goto fail;
+    if (is_held && let_go_of_some(LOOKED_THROUGH) < 0)
         goto fail;
     Owner *first = find_owner(one);  /* Another task may have come meanwhile. */
     if (first != NULL) {
@@ -1089,7 +1091,28 @@ static PyObject *touch_keyed(PyObject *one, PyObject *key, PyObject *site, Py_ss
         return NULL;                                                                   \
     }
 
+/* A program may have come to the limit of its recursion. What a hook calls takes nothing of that. */
+
+#define ROOM 200
+
+#if PY_VERSION_HEX >= 0x030C0000
+#define GIVE_ROOM(thread, more) ((thread)->py_recursion_remaining += (more), (thread)->c_recursion_remaining += (more))
+#else
+#define GIVE_ROOM(thread, more) ((thread)->recursion_remaining += (more))
+#endif
+
 #define HOOK(name, wanted, result)                                                               \
+    static PyObject *hook_##name(PyObject *self, PyObject *const *words, Py_ssize_t count)        \
+    {                                                                                             \
+        WORDS(wanted)                                                                             \
+        PyThreadState *thread = PyThreadState_Get();                                              \
+        GIVE_ROOM(thread, ROOM);                                                                  \
+        PyObject *back = result;                                                                  \
+        GIVE_ROOM(thread, -ROOM);                                                                 \
+        return back;                                                                              \
+    }
+
+#define QUIET_HOOK(name, wanted, result)                                                         \
     static PyObject *hook_##name(PyObject *self, PyObject *const *words, Py_ssize_t count)        \
     {                                                                                             \
         WORDS(wanted)                                                                             \
@@ -1109,9 +1132,9 @@ HOOK(k_local, 3, touch_keyed(words[0], words[1], words[2], OF_VARIABLE, words[0]
 HOOK(K, 3, touch_keyed(words[0], words[1], words[2], ANYBODY, words[1]))
 HOOK(K_local, 3, touch_keyed(words[0], words[1], words[2], OF_VARIABLE_IN_USE, words[1]))
 HOOK(K_kept, 3, touch_keyed(words[0], words[1], words[2], OF_VARIABLE, words[1]))
-HOOK(first, Py_MAX(count, 1), Py_NewRef(words[0]))
-HOOK(second, Py_MAX(count, 2), Py_NewRef(words[1]))
-HOOK(none, count, Py_NewRef(Py_None))
+QUIET_HOOK(first, Py_MAX(count, 1), Py_NewRef(words[0]))
+QUIET_HOOK(second, Py_MAX(count, 2), Py_NewRef(words[1]))
+QUIET_HOOK(none, count, Py_NewRef(Py_None))
 
 /* How many references there were when the constructor began, as the hook in Python counts them. */
 static Py_ssize_t begun_of(PyObject *one, PyObject *constructor)
@@ -1126,7 +1149,7 @@ static Py_ssize_t begun_of(PyObject *one, PyObject *constructor)
 
 HOOK(o_new, 3, touch_field(words[0], words[1], find_owner(words[0]) == NULL ? begun_of(words[0], words[2]) : ANYBODY, 'o'))
 
-static PyObject *hook_g(PyObject *self, PyObject *site)
+static PyObject *touch_variable(PyObject *site)
 {
     PyObject *stretch = current_stretch();
     if (stretch != NULL && PyDict_GetItemWithError(stretch, site) != NULL)
@@ -1134,18 +1157,20 @@ static PyObject *hook_g(PyObject *self, PyObject *site)
     return ended(Py_None, PyObject_CallOneArg(given.variable, site));
 }
 
-static PyObject *hook_c(PyObject *self, PyObject *const *words, Py_ssize_t count)
+static PyObject *touch_cell(PyObject *function, PyObject *site)
 {
-    WORDS(2)
-    PyObject *closure = PyFunction_Check(words[0]) ? PyFunction_GET_CLOSURE(words[0]) : NULL;
+    PyObject *closure = PyFunction_Check(function) ? PyFunction_GET_CLOSURE(function) : NULL;
     if (closure == NULL || PyTuple_GET_SIZE(closure) == 0)
         Py_RETURN_NONE;
     PyObject *cell = PyTuple_GET_ITEM(closure, 0);
     Owner *owner = find_owner(cell);
-    if (owner != NULL && is_seen(owner, words[1]))
+    if (owner != NULL && is_seen(owner, site))
         Py_RETURN_NONE;
-    return ended(Py_None, PyObject_CallFunctionObjArgs(given.cell, cell, words[1], NULL));
+    return ended(Py_None, PyObject_CallFunctionObjArgs(given.cell, cell, site, NULL));
 }
+
+HOOK(g, 1, touch_variable(words[0]))
+HOOK(c, 2, touch_cell(words[0], words[1]))
 
 /* Where things are made. */
 
@@ -1173,14 +1198,15 @@ static int keep_made(PyObject *one, PyObject *code, PyObject *place, PyObject *m
     return result;
 }
 
-static PyObject *hook_n(PyObject *self, PyObject *const *words, Py_ssize_t count)
+static PyObject *note_made(PyObject *one, PyObject *site)
 {
-    WORDS(2)
     PyObject *maker = PyObject_CallNoArgs(given.maker);
-    int result = maker == NULL ? -1 : keep_made(words[0], Py_None, words[1], maker);
+    int result = maker == NULL ? -1 : keep_made(one, Py_None, site, maker);
     Py_XDECREF(maker);
-    return end_hook(words[0], result);
+    return end_hook(one, result);
 }
+
+HOOK(n, 2, note_made(words[0], words[1]))
 
 static int is_constructor(PyCodeObject *code)
 {
@@ -1220,28 +1246,29 @@ static PyFrameObject *back_of(PyFrameObject *frame)
     return back;
 }
 
-static PyObject *hook_N(PyObject *self, PyObject *const *words, Py_ssize_t count)
+static PyObject *note_constructor(PyObject *one, PyObject *constructor)
 {
-    WORDS(2)
     PyFrameObject *own = PyThreadState_GetFrame(PyThreadState_Get());
     PyFrameObject *frame = own == NULL ? NULL : back_of(own);
     if (frame == NULL)
         Py_RETURN_NONE;
     PyCodeObject *code = PyFrame_GetCode(frame);
-    int result = keep_begun(words[0], words[1], code);
+    int result = keep_begun(one, constructor, code);
     for (PyFrameObject *back; result == 0 && is_constructor(code) && (back = PyFrame_GetBack(frame)) != NULL;) {
         Py_SETREF(frame, back);
         Py_SETREF(code, PyFrame_GetCode(frame));
     }
     if (result == 0) {
         PyObject *place = PyLong_FromLong(PyFrame_GetLasti(frame));
-        result = place == NULL ? -1 : keep_made(words[0], (PyObject *)code, place, Py_None);
+        result = place == NULL ? -1 : keep_made(one, (PyObject *)code, place, Py_None);
         Py_XDECREF(place);
     }
     Py_DECREF(code);
     Py_DECREF(frame);
     return end_hook(Py_None, result);
 }
+
+HOOK(N, 2, note_constructor(words[0], words[1]))
 
 static PyObject *hook_d(PyObject *self, PyObject *ignored)
 {
@@ -1350,7 +1377,7 @@ static PyObject *steps_through(PyObject *one, PyObject *site, Decision *decision
     return steps;
 }
 
-/* What a rewritten module calls. A program may have come to the limit of its recursion: a hook takes nothing of that. */
+/* A hook in Python, with the same room. What calls it asks for no level of the recursion either. */
 
 typedef struct {
     PyObject_HEAD
@@ -1358,14 +1385,6 @@ typedef struct {
     PyObject *function;
     PyObject *(*quick)(PyObject *, PyObject *const *, Py_ssize_t);
 } Hook;
-
-#define ROOM 200
-
-#if PY_VERSION_HEX >= 0x030C0000
-#define GIVE_ROOM(thread, more) ((thread)->py_recursion_remaining += (more), (thread)->c_recursion_remaining += (more))
-#else
-#define GIVE_ROOM(thread, more) ((thread)->recursion_remaining += (more))
-#endif
 
 static PyObject *hook_called(PyObject *self, PyObject *const *words, size_t count, PyObject *named)
 {
@@ -1455,7 +1474,7 @@ static PyMethodDef methods[] = {
     FAST("hook_o_new", hook_o_new), FAST("hook_h", hook_h), FAST("hook_h_local", hook_h_local), FAST("hook_m", hook_m),
     FAST("hook_m_local", hook_m_local), FAST("hook_f", hook_f), FAST("hook_f_local", hook_f_local), FAST("hook_k", hook_k),
     FAST("hook_k_local", hook_k_local), FAST("hook_K", hook_K), FAST("hook_K_local", hook_K_local), FAST("hook_K_kept", hook_K_kept), FAST("hook_S", hook_second), FAST("hook_c", hook_c),
-    {"hook_g", hook_g, METH_O, NULL}, FAST("hook_n", hook_n), FAST("hook_N", hook_N), {"hook_d", hook_d, METH_NOARGS, NULL},
+    FAST("hook_g", hook_g), FAST("hook_n", hook_n), FAST("hook_N", hook_N), {"hook_d", hook_d, METH_NOARGS, NULL},
     FAST("hook_v", hook_first), FAST("first", hook_first), FAST("second", hook_second), FAST("nothing", hook_none), FAST("references", references),
     FAST("owner_of", owner_of),
     {"setup", (PyCFunction)(void (*)(void))setup, METH_VARARGS | METH_KEYWORDS, NULL},
