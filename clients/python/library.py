@@ -30,8 +30,6 @@ MODULES = [
 ]
 
 LEFT_OUT = {
-    "test.test_threading.ThreadTests.test_disallow_instantiation":
-        "it wants that the type of a lock cannot be called, and threading.Lock is that type while a program is traced",
     "test.test_thread.ThreadRunningTests.test_unraisable_exception":
         "it wants the thread's own function to be named by an error, and that is called by one of the package",
 }

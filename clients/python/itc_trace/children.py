@@ -4,11 +4,10 @@ from __future__ import annotations
 
 import contextlib
 import os
-import select
 from collections.abc import Callable
 from typing import Any
 
-from . import own_files, watch
+from . import own_files, plain, watch
 from .file_names import name_of_file
 from .following import not_traced, place_of_start
 from .journal import line_of
@@ -150,7 +149,7 @@ class ForkedChildren:
         held, self._held = self._held, -1
         if held >= 0:
             own_files.close(held)
-        return not select.select([self._end], [], [], 0)[0]
+        return not plain.select([self._end], [], [], 0)[0]
 
     def close(self) -> None:
         for file in (self._end, self._held):

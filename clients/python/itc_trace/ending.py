@@ -6,13 +6,10 @@ import contextlib
 import os
 import signal
 import subprocess
-import threading
 from collections.abc import Iterator
 from pathlib import Path
 from types import FrameType
 
-GRACE = 10.0
-"""So many seconds after a signal a program that has not ended is killed."""
 SIGNALS = [getattr(signal, name) for name in ("SIGTERM", "SIGHUP") if hasattr(signal, name)]
 
 _asked: list[int] = []
@@ -53,12 +50,11 @@ def name_of(number: int) -> str:
 
 
 class Child:
-    """The process of a program that is run to its end. A signal to end this process ends that one."""
+    """The process of a program that is run to its end. A signal to end this process is handed on to that one, which takes its own time."""
 
     def __init__(self, words: list[str], environment: dict[str, str], told: str) -> None:
         self._told = Path(told)
         self._process: subprocess.Popen[bytes] | None = None
-        self._killing: threading.Timer | None = None
         before = {number: signal.signal(number, self._end) for number in SIGNALS if signal.getsignal(number) == _end_here}
         self._process = subprocess.Popen(words, env=environment)
         before[signal.SIGINT] = signal.signal(signal.SIGINT, signal.SIG_IGN)  # The program is told of it too, and decides.
@@ -67,8 +63,6 @@ class Child:
                 self._end(_asked[-1], None)
             status = self._process.wait()
         finally:
-            if self._killing is not None:
-                self._killing.cancel()
             for number, handler in before.items():
                 signal.signal(number, handler)
         self.signal_name = name_of(-status) if status < 0 else ""
@@ -81,15 +75,11 @@ class Child:
             return
         with contextlib.suppress(ProcessLookupError):
             os.kill(self._process.pid, number)
-        if self._killing is None:
-            self._killing = threading.Timer(GRACE, self._process.kill)
-            self._killing.daemon = True
-            self._killing.start()
 
     @property
     def told(self) -> str:
         """How the program's process said that it was not run to its end, if it did."""
         try:
-            return self._told.read_text()
+            return self._told.read_text(encoding="ascii")
         except OSError:
             return ""

@@ -5,6 +5,7 @@ Usage: python3 -m itc_trace.launch CONFIGURATION PROGRAM|-m MODULE [ARGS..]
 
 from __future__ import annotations
 
+import _thread
 import atexit
 import builtins
 import json
@@ -43,12 +44,14 @@ REFUSED, RAISED = "refused", "raised"
 """What `run` is told of a program that did not run to its end."""
 INTERRUPTED = 128 + signal.SIGINT
 ANOTHER_PROGRAM = Unseen(Cause.KILLED, "tracing stopped where the process was to go on as another program")
+_set_handler, _handler_of, _interrupt = signal.signal, signal.getsignal, _thread.interrupt_main
+"""As they are before any program is traced."""
 ENDING_SIGNALS = [getattr(signal, name) for name in ("SIGTERM", "SIGHUP") if hasattr(signal, name)]
 
 
 def main() -> None:
     configuration = json.loads(sys.argv[1])
-    tell = Path(configuration.pop("told")).write_text
+    tell = partial(Path(configuration.pop("told")).write_text, encoding="ascii")
     seed = configuration.pop("seed")
     child = configuration.pop("child", None)
     words = sys.argv[2:]
@@ -127,12 +130,13 @@ class Ending:
         self._process = os.getpid()
         self._waiting_signal: int | None = None
         self._masks = threading.local()
+        self._show_no_handler()
         self._before_the_end("_exit")
         for name in ("execv", "execve"):
             self._before_another_program(name)
         for number in ENDING_SIGNALS:
-            if signal.getsignal(number) == signal.SIG_DFL:
-                signal.signal(number, self._end_by)
+            if _handler_of(number) == signal.SIG_DFL:
+                _set_handler(number, self._end_by)
         if hasattr(os, "register_at_fork"):
             os.register_at_fork(before=self._hold_signals, after_in_parent=self._let_signals, after_in_child=self._in_child)
 
@@ -152,8 +156,8 @@ class Ending:
         self._traced, self._process, self._waiting_signal = traced, os.getpid(), None
         follow(traced, process.folders, process.packages, self._go_on_as, process.names)
         for number in ENDING_SIGNALS:
-            if signal.getsignal(number) == signal.SIG_DFL:
-                signal.signal(number, self._end_by)
+            if _handler_of(number) == signal.SIG_DFL:
+                _set_handler(number, self._end_by)
         self._let_signals()
 
     def finish(self) -> None:
@@ -192,6 +196,24 @@ class Ending:
 
         setattr(os, name, like(original, replace))
 
+    def _show_no_handler(self) -> None:
+        """The program sees the effect of a signal by itself where the package has a handler, and asks for that one by this effect."""
+
+        def shown(handler: Any) -> Any:
+            return signal.SIG_DFL if handler == self._end_by else handler
+
+        def set_handler(signalnum: Any, handler: Any) -> Any:
+            is_ours = handler == signal.SIG_DFL and signalnum in ENDING_SIGNALS and os.getpid() == self._process
+            return shown(_set_handler(signalnum, self._end_by if is_ours else handler))
+
+        def interrupt_main(signum: int = signal.SIGINT, /) -> None:
+            if _handler_of(signum) != self._end_by:  # A signal that the program does not handle is not simulated, either.
+                _interrupt(signum)
+
+        signal.signal = like(_set_handler, set_handler)
+        signal.getsignal = like(_handler_of, lambda signalnum: shown(_handler_of(signalnum)))
+        _thread.interrupt_main = like(_interrupt, interrupt_main)
+
     def _hold_signals(self) -> None:
         """Until the child has the signals' own effects back, none of them comes: it would be lost."""
         self._masks.before = signal.pthread_sigmask(signal.SIG_BLOCK, ENDING_SIGNALS)
@@ -201,8 +223,8 @@ class Ending:
 
     def _in_child(self) -> None:
         for number in ENDING_SIGNALS:
-            if signal.getsignal(number) == self._end_by:
-                signal.signal(number, signal.SIG_DFL)
+            if _handler_of(number) == self._end_by:
+                _set_handler(number, signal.SIG_DFL)
         if not is_beginning():
             self._let_signals()
 
@@ -218,7 +240,7 @@ class Ending:
             self._die(number)
 
     def _die(self, number: int) -> None:
-        signal.signal(number, signal.SIG_DFL)
+        _set_handler(number, signal.SIG_DFL)
         os.kill(os.getpid(), number)
 
 

@@ -16,6 +16,7 @@ from typing import Any
 from .conflicts import MAKING, READ, WRITE
 from .lines import MARK, RESULT, SPAWN, TAKE, TOUCH, Line, Note, Section, Token, What, state
 from .loop_runs import begun_here
+from .verdict import Cause, Unseen
 from .stretches import STRETCHES, TURNS, Across, Stretch, Touched, leave
 
 local = threading.local()
@@ -59,6 +60,19 @@ def is_internal(frame: FrameType | None) -> bool:
     if known is None:
         known = _internal_names[name] = isinstance(name, str) and (name.partition(".")[0] in INTERNAL or name in INTERNAL_MODULES)
     return known
+
+
+def are_replaced() -> bool:
+    """Whether another library has put tasks of its own in the place of threads, as gevent does."""
+    return getattr(threading.get_ident, "__module__", "_thread") != "_thread"
+
+
+def not_followed() -> list[Unseen]:
+    """What is not seen of tasks in the place of threads, all of which run in one."""
+    if not are_replaced():
+        return []
+    library = str(getattr(threading.get_ident, "__module__", "another library")).partition(".")[0]
+    return [Unseen(Cause.MODULE, f"{library} has put tasks in the place of threads, and what these do to each other was not seen")]
 
 
 def place(frame: FrameType | None) -> tuple[CodeType | None, int]:

@@ -7,6 +7,7 @@ import socket
 import threading
 from types import TracebackType
 
+from . import plain
 from .collector import HOST, Collector, NoCollector
 from .faults import Fault
 from .relay import Relaying
@@ -46,7 +47,7 @@ class PartCollectors:
             except OSError:
                 return  # It is closed.
             with connection, contextlib.suppress(OSError):
-                asked = connection.makefile("r").readline().strip()
+                asked = connection.makefile("r", encoding="ascii").readline().strip()
                 reply = self._next() if asked == NEXT_PART else self._shared()
                 connection.sendall(f"{reply}\n".encode())
 
@@ -90,9 +91,10 @@ class PartCollectors:
 
 def ask_for_port(asked_at: int, what: str = NEXT_PART) -> int:
     """The port of a further collector, or of a relay."""
-    with socket.create_connection((HOST, asked_at), ANSWER_SECONDS) as connection:
+    with plain.connect(HOST, asked_at) as connection:
+        connection.settimeout(ANSWER_SECONDS)
         connection.sendall(f"{what}\n".encode())
-        reply = connection.makefile("r").readline().strip()
+        reply = connection.makefile("r", encoding="ascii").readline().strip()
     if not reply.isdigit():
         raise Fault(reply or "no collector")
     return int(reply)

@@ -2,6 +2,7 @@
 
 from __future__ import annotations
 
+import _imp
 import contextlib
 import importlib.util
 import io
@@ -195,7 +196,7 @@ def _outcome(asked: Run, seed: int | None) -> Outcome | None:
     """What became of one run. None where the program could not be started, which was told."""
     with tempfile.TemporaryDirectory(prefix="itc_trace_") as work, _collectors(asked) as collectors:
         journal = asked.journal or (f"{asked.export}.journal" if asked.export else os.path.join(work, "journal"))
-        Path(journal).write_text("")
+        Path(journal).write_bytes(b"")
         child = _run_program(asked, collectors, journal, os.path.join(work, "told"), seed)
         if child.told == REFUSED:
             return None
@@ -250,9 +251,20 @@ def _run_program(asked: Run, collectors: PartCollectors | None, journal: str, to
         "told": told, "seed": seed,
         "parts": (None if collectors is None or asked.process is not None else collectors.asked_at, asked.part_events),
     }
-    flags = subprocess._args_from_interpreter_flags()  # type: ignore[attr-defined]
-    words = [sys.executable, *flags, "-m", "itc_trace.launch", json.dumps(configuration), *asked.words]
+    words = [sys.executable, *options_of_interpreter(), "-m", "itc_trace.launch", json.dumps(configuration), *asked.words]
     return Child(words, environment_of_package(), told)
+
+
+def options_of_interpreter() -> list[str]:
+    """The options with which this Python was begun. The library knows most of them, and some of those by `-X`."""
+    options: list[str] = subprocess._args_from_interpreter_flags()  # type: ignore[attr-defined]
+    known = {options[place + 1].partition("=")[0] for place, word in enumerate(options) if word == "-X"}
+    for name, value in sys._xoptions.items():
+        if name not in known:
+            options += ["-X", name if value is True else f"{name}={value}"]
+    if _imp.check_hash_based_pycs != "default":
+        options += ["--check-hash-based-pycs", _imp.check_hash_based_pycs]
+    return options
 
 
 def environment_of_package() -> dict[str, str]:
@@ -289,7 +301,7 @@ def draw(export: str, journal: str, picture: str, races: Races) -> bool:
         rows.flush()
         words = [command, "--labels", journal, "--races", rows.name]
         with open(export, "rb") as given, open(picture, "wb") as page:
-            drawn = subprocess.run(words, stdin=given, stdout=page, stderr=subprocess.PIPE, text=True, errors="replace", check=False)
+            drawn = subprocess.run(words, stdin=given, stdout=page, stderr=subprocess.PIPE, encoding="utf-8", errors="replace", check=False)
     if drawn.returncode:
         _say(f"itc_trace: no picture: {(drawn.stderr.splitlines() or [words[0]])[-1]}")
     return drawn.returncode == 0

@@ -9,11 +9,10 @@ import contextlib
 import mmap
 import os
 import tempfile
-import threading
 from collections.abc import Iterator
 from zlib import crc32
 
-from . import own_files
+from . import own_files, plain
 
 LONGEST_KEY = 32
 LONGEST_NAME = 32
@@ -34,7 +33,7 @@ class SharedNames:
             file, self.path = os.open(path, os.O_RDWR | os.O_CLOEXEC), path
         self._file = own_files.keep(file)
         self._memory = mmap.mmap(self._file, SLOT * MOST_SLOTS)
-        self._thread_lock = threading.Lock()
+        self._thread_lock = plain.allocate_lock()
 
     def slot_of(self, key: str) -> int | None:
         """The place of this key, which is taken if nobody has it. None if there is no room."""
@@ -76,7 +75,7 @@ class SharedNames:
 
     def after_fork(self) -> None:
         """In a forked child: no other thread of its parent is there to let go of the keys."""
-        self._thread_lock = threading.Lock()
+        self._thread_lock = plain.allocate_lock()
 
     def remove(self) -> None:
         """Removes the file. Who has opened it may go on with it."""

@@ -267,7 +267,7 @@ class Running:
 
     def _is_refused(self, name: str) -> bool:
         told_by = Path(self._told_by(name))
-        return told_by.is_file() and told_by.read_text() == REFUSED
+        return told_by.is_file() and told_by.read_text(encoding="ascii") == REFUSED
 
     def _lines_of(self, process: Process, path: str) -> Iterator[str]:
         with open(path, encoding="utf-8", errors="replace") as journal:

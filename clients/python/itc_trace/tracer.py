@@ -17,7 +17,7 @@ from collections.abc import Callable, Hashable
 from sys import getrefcount
 from types import CodeType
 
-from . import own_files
+from . import own_files, plain
 from .collector import HOST, MOST_TASKS
 from .dividing import Report, request
 from .faults import FULL, Fault, nobody_listens, refusal
@@ -149,7 +149,7 @@ class Waiter:
     """Lets threads wait until something is answered."""
 
     def __init__(self) -> None:
-        self._lock = _thread.allocate_lock()
+        self._lock = plain.allocate_lock()
         self._lock.acquire()
         self.is_answered = False
 
@@ -193,7 +193,7 @@ class Tracer:
         """Those of which not all is in the journal."""
         self._goes_on: list[Stretch] = []
         """Those in the middle of which their task had another event."""
-        self._writing = _thread.RLock()
+        self._writing = plain.RLock()
         self._is_over = False
         self._looked_at = 0
         """How many notes were looked at."""
@@ -203,8 +203,8 @@ class Tracer:
         self._missed: dict[str, object] = {}
         """What was not seen of the run, while tracing went on, and something of whoever told of it."""
         self._all_sent = False
-        self._switch = _thread.allocate_lock()
-        self._hurry = _thread.allocate_lock()
+        self._switch = plain.allocate_lock()
+        self._hurry = plain.allocate_lock()
         self._hurry.acquire()
         self._ended = Waiter()
         self._reader_ended = Waiter()
@@ -246,7 +246,7 @@ class Tracer:
     def _open(self, port: int) -> int:
         """Begins to report at this port. Gives how many events there are."""
         try:
-            self._keep_socket(socket.create_connection((self._host, port)).detach())
+            self._keep_socket(plain.connect(self._host, port).detach())
         except ConnectionRefusedError as refused:
             raise Fault(nobody_listens(port)) from refused
         try:
@@ -261,14 +261,12 @@ class Tracer:
         return int(count.split()[1])
 
     def _keep_socket(self, file: int) -> None:
-        self._socket = socket.socket(fileno=own_files.keep(file, self._move_socket))
-        self._socket.settimeout(None)  # The program may have set another one for all sockets.
+        self._socket = plain.of_file(own_files.keep(file, self._move_socket))
 
     def _move_socket(self, file: int) -> None:
         """The program has put another file at the number of the socket. It is not to be closed there."""
         self._socket.detach()
-        self._socket = socket.socket(fileno=file)
-        self._socket.settimeout(None)
+        self._socket = plain.of_file(file)
 
     def _close_socket(self) -> None:
         own_files.let_go(self._socket.fileno())
@@ -528,7 +526,7 @@ class Tracer:
 
     def _note_slowly(self, note: Note) -> None:
         while len(self.notes) > FEW_WAITING and not self._is_over:
-            time.sleep(0.001)
+            plain.sleep(0.001)
         self._note_now(note)
 
     def _note_shaken(self, note: Note) -> None:

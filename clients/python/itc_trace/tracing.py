@@ -2,7 +2,6 @@
 
 from __future__ import annotations
 
-import _thread
 import atexit
 import os
 import tempfile
@@ -10,7 +9,7 @@ from collections.abc import Sequence
 from types import TracebackType
 
 from .children import IN_CHILD, LEFT_CHILD, UNKNOWN_CHILDREN, Announced, ForkedChildren, Witness, tell_of_processes
-from . import watch
+from . import plain, watch
 from .benign import Looking
 from .collector import HOST, Collector
 from .environment import OWN_TENANT, PORT, reporting
@@ -18,6 +17,7 @@ from .faults import Fault
 from .following import ChildProcess
 from .journal_file import JournalFile
 from .lines import state
+from .noting import not_followed
 from .patches import put_all
 from .races import Races
 from .seeing import races_seen
@@ -59,7 +59,7 @@ class Tracing:
         self._file: JournalFile | None = None
         self._children: ForkedChildren | None = None
         self._announced: Announced | None = None
-        self._stopping = _thread.RLock()
+        self._stopping = plain.RLock()
         self.is_stopping = False
 
     def start(self) -> Tracing:
@@ -97,7 +97,7 @@ class Tracing:
         with self._stopping:
             self.is_stopping = True
             if self._file is not None:
-                for one in [*watch.unwatched(), *watch.not_looked_into()]:
+                for one in [*watch.unwatched(), *watch.not_looked_into(), *not_followed()]:
                     self.tell(one)
             tracer, self._tracer = self._tracer, None
             file, self._file = self._file, None
@@ -151,7 +151,7 @@ class Tracing:
             _witnesses.append(state.witness)
             watch.witness()
         self._tracer = self._file = self._collector = self._announced = None
-        self._stopping = _thread.RLock()
+        self._stopping = plain.RLock()
         self._is_temporary = self._has_own_collector = False
         self._found = Races(unseen=[IN_CHILD])
 

@@ -204,8 +204,8 @@ def run_python(*words: str, python: str | None = sys.executable, **variables: st
 
 PATIENT = f"""
 import sys
-from itc_trace import __main__, ending, system
-ending.GRACE = system.GRACE_SECONDS = system.READY_SECONDS = {WAIT}.0
+from itc_trace import __main__, system
+system.GRACE_SECONDS = system.READY_SECONDS = {WAIT}.0
 sys.exit(__main__.main())
 """
 """The words `-c PATIENT` do what `-m itc_trace` does, and wait for programs of a machine that is busy."""

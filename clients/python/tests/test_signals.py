@@ -34,14 +34,22 @@ print("sold", flush=True)
 WAITING = SELLING + "time.sleep(1000)\n"
 BUSY = SELLING + "while True: pass\n"
 IN_A_JOIN = SELLING + "threading.Thread(target=time.sleep, args=(1000,)).start()\n"
-DEAF = SELLING + "import signal; signal.signal(signal.SIGTERM, signal.SIG_IGN)\nprint('deaf', flush=True)\ntime.sleep(1000)\n"
+DEAF = SELLING + "import os, signal; signal.signal(signal.SIGTERM, signal.SIG_IGN)\nprint(os.getpid(), flush=True)\ntime.sleep(1000)\n"
+SLOW = SELLING + """
+import signal
+def end(*_):
+    time.sleep(12)
+    sys.exit(3)
+signal.signal(signal.SIGTERM, end)
+print("ready", flush=True)
+time.sleep(1000)
+"""
 POLITE = SELLING + """
 import signal
 signal.signal(signal.SIGTERM, lambda *_: sys.exit(0))
 print("ready", flush=True)
 time.sleep(1000)
 """
-SHORT_GRACE = PATIENT.replace(f"{WAIT}.0", "1.0")
 
 
 class Started:
@@ -117,11 +125,24 @@ time.sleep(1000)
         self.assertEqual(ran.returncode, Verdict.RACES, ran.stderr)
         self.assertIn("in what was seen: 4001 places of 4001 things", ran.stderr)
 
-    def test_a_program_that_does_not_end_is_killed(self) -> None:
-        run = Started(self.program(DEAF), command=SHORT_GRACE)
-        run.wait_for("deaf")
+    def test_a_program_that_takes_its_time_to_end_has_it(self) -> None:
+        run = Started(self.program(SLOW), "clean")
+        run.wait_for("ready")
         status, errors = run.end(signal.SIGTERM)
-        self.assertEqual(status, Verdict.RACES, errors)
+        self.assertEqual(status, 3, errors)
+        self.assertNotIn("incomplete", errors)
+
+    def test_a_program_that_does_not_heed_a_signal_goes_on(self) -> None:
+        run = Started(self.program(DEAF))
+        run.wait_for("sold")
+        assert run.process.stdout is not None
+        program = int(run.process.stdout.readline())
+        run.process.terminate()
+        with self.assertRaises(subprocess.TimeoutExpired):
+            run.process.wait(1)
+        os.kill(program, signal.SIGKILL)
+        _, errors = run.process.communicate(timeout=WAIT)
+        self.assertEqual(run.process.returncode, Verdict.RACES, errors)
         self.assertTrue(errors.startswith("itc_trace: incomplete: the program was ended by SIGKILL\n"), errors)
 
     def test_a_program_that_ends_by_itself_when_it_is_asked_to_was_seen_whole(self) -> None:

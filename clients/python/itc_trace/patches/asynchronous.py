@@ -29,7 +29,7 @@ from ..lock_identity import LockIdentity
 from ..loop_runs import BEGINS, RUNS, LoopRun, begun_here, take_step
 from ..noting import current, frame_at, is_internal, joining, mark, place, starting, take, without_own_frame
 from ..stretches import STRETCHES, TURNS, leave
-from .base import Patches, like
+from .base import Patches, like, name_as, named_like
 from .futures import is_settled_by_source, take_any
 from .locks import gave, is_of_condition, took
 from .queues import has_few_places, items_of, note_done, room_of, take_done
@@ -66,6 +66,9 @@ class _LikePlain(type):
 
     def __subclasscheck__(cls, subclass: type) -> bool:
         return issubclass(subclass, _plain_of(cls)) if _plain_of(cls) else type.__subclasscheck__(cls, subclass)
+
+
+name_as(_LikePlain, "type", "builtins")
 
 
 def _plain_of(cls: type) -> Any:
@@ -547,7 +550,7 @@ def _after_caller(callback: Any, args: tuple[Any, ...]) -> Any:
             if added is not None:
                 future._itc_called.append(mark(CALLED))
 
-    return like(callback, call)
+    return named_like(callback, call)
 
 
 def _added(future: Any, callback: Any) -> Token | None:

@@ -7,7 +7,7 @@ import weakref
 from typing import Any
 
 from ..handed_on import Place, called, handed_at
-from .base import Patches, like
+from .base import Patches, like, named_like
 
 _stack: Any = vars(contextlib)["_BaseExitStack"]
 _CREATE = "_create_cb_wrapper"
@@ -36,7 +36,7 @@ def _create(original: Any) -> Any:
             called(callback, words, place)
             return leave(*fault)
 
-        return like(leave, leave_by_method)
+        return named_like(leave, leave_by_method)
 
     return create
 

@@ -7,7 +7,7 @@ from typing import Any
 
 from ..lines import CALL, state
 from ..noting import mark, take
-from .base import Patches, like
+from .base import Patches, named_like
 from .later import once_imported
 
 
@@ -29,6 +29,6 @@ def _run_sync_soon(original: Any) -> Any:
             take(token)
             return sync_fn(*args)
 
-        return original(self, like(sync_fn, called), *args)
+        return original(self, named_like(sync_fn, called), *args)
 
     return run_sync_soon

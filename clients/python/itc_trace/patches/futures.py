@@ -16,7 +16,7 @@ from ..handed_on import called, handed_at, watched_place
 from ..lines import CALLBACK, FINISH, RESULT, SPAWN, SUBMIT, TAKE_END, WORKER, LateJob, Line, Token, state
 from ..noting import current, enter, frame_at, is_internal, joining, local, mark, place, starting, take, without_own_frame
 from ..web import incoming_at
-from .base import Patches, like
+from .base import Patches, like, named_like
 from .exits import await_at_exit
 
 _DONE = {base.CANCELLED, base.CANCELLED_AND_NOTIFIED, base.FINISHED}
@@ -28,8 +28,8 @@ def put(patches: Patches) -> None:
     patches.put(future, "_itc_token", None)
     patches.put(future, "_itc_sources", ())
     patches.put(future, "_itc_message", None)
-    for name in ("set_result", "set_exception"):
-        patches.wrap(future, name, _set)
+    patches.wrap(future, "set_result", _set_result)
+    patches.wrap(future, "set_exception", _set_exception)
     for name in ("result", "exception"):
         patches.wrap(future, name, _result)
     patches.wrap(future, "cancel", _cancel)
@@ -100,14 +100,25 @@ def _invoke_callbacks(original: Any) -> Any:
     return _invoke_callbacks
 
 
-def _set(original: Any) -> Any:
-    def set(self: Any, value: Any) -> None:
-        if state.note is None or self._itc_sources:
-            original(self, value)
-        else:
-            _settle(self, mark(RESULT), _WAITING, lambda: original(self, value))
+def _set_result(original: Any) -> Any:
+    def set_result(self: Any, result: Any) -> None:
+        _set(original, self, result)
 
-    return set
+    return set_result
+
+
+def _set_exception(original: Any) -> Any:
+    def set_exception(self: Any, exception: Any) -> None:
+        _set(original, self, exception)
+
+    return set_exception
+
+
+def _set(original: Any, future: Any, value: Any) -> None:
+    if state.note is None or future._itc_sources:
+        original(future, value)
+    else:
+        _settle(future, mark(RESULT), _WAITING, lambda: original(future, value))
 
 
 def _cancel(original: Any) -> Any:
@@ -166,7 +177,7 @@ def _called_back(callback: Any, token: Token | None) -> Any:
             called(callback, (future,), watched_place(token.code, token.instruction))
         return callback(future)
 
-    return like(callback, call)
+    return named_like(callback, call)
 
 
 def _wait(original: Any) -> Any:

@@ -8,7 +8,7 @@ from typing import Any
 from ..conflicts import WRITE
 from ..containers import is_noted, note
 from ..stand_ins import StandIn, name_of, value_of
-from .base import Patches, like
+from .base import Patches, named_like
 
 _CHANGING = ("heappush", "heappop", "heapify", "heapreplace", "heappushpop")
 
@@ -16,7 +16,7 @@ _CHANGING = ("heappush", "heappop", "heapify", "heapreplace", "heappushpop")
 def put(patches: Patches) -> None:
     for name in _CHANGING:
         original = getattr(heapq, name)
-        patches.replace(heapq, name, like(original, _changing(original)))
+        patches.replace(heapq, name, named_like(original, _changing(original)))
 
 
 def _changing(original: Any) -> Any:

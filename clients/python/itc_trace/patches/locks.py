@@ -9,6 +9,8 @@ import _thread
 import functools
 import linecache
 import re
+import sys
+import threading
 from _thread import get_ident
 from types import FrameType
 from typing import Any
@@ -17,18 +19,22 @@ from ..lines import MARK, TAKE, Line, Section, Token, state
 from ..lock_identity import LockIdentity, Signal
 from ..noting import current, frame_at, is_internal, line_of_now, place
 from ..stretches import STRETCHES, TURNS, Stretch
+from .base import name_as
 
 _WAITS = re.compile(r"\.(wait|wait_for|notify|notify_all|notifyAll)\b")
 
 _allocate = _thread.allocate_lock
+_PlainLock: Any = _thread.LockType
 _PlainRLock: Any = vars(_thread)["RLock"]
+IS_CALLED = sys.version_info >= (3, 13)
+"""Whether programs call the type of a lock to make one. Before it was a function that did."""
 
 
 class _LikeLock(type):
     """Every lock of the library is an instance of the traced type too."""
 
     def __instancecheck__(cls, instance: object) -> bool:
-        return isinstance(instance, _thread.LockType)
+        return isinstance(instance, _PlainLock)
 
 
 class _LikeRLock(type):
@@ -39,9 +45,11 @@ class _LikeRLock(type):
 
 
 class TracedLock(metaclass=_LikeLock):
-    """A lock whose last release is known to whoever acquires it next. It has all that a lock has."""
+    """A lock object is a synchronization primitive.
 
-    __module__ = "_thread"
+    The last release is known to whoever acquires it next.
+    """
+
     __slots__ = ("_lock", "_itc_token", "_itc_identity", "_itc_holder", "__weakref__")
 
     _lock: Any
@@ -50,14 +58,14 @@ class TracedLock(metaclass=_LikeLock):
     _itc_holder: Line | None
 
     def __new__(cls) -> Any:
+        if not IS_CALLED:
+            raise TypeError("cannot create '_thread.lock' instances")
         frame = frame_at(1)
-        if is_internal(frame):
-            return _allocate()
-        return traced_lock(frame)
+        return _allocate() if is_internal(frame) else traced_lock(frame)
 
     @property  # type: ignore[misc]
     def __class__(self) -> Any:
-        return _thread.LockType
+        return _thread.LockType  # It is this class while locks are traced.
 
     def acquire(self, blocking: bool = True, timeout: float = -1) -> bool:
         if not self._lock.acquire(blocking, timeout):
@@ -103,7 +111,7 @@ class TracedLock(metaclass=_LikeLock):
 class TracedRLock(_PlainRLock, metaclass=_LikeRLock):  # type: ignore[misc]
     """A lock that its owner may acquire again. Only what happens outermost is a message."""
 
-    __module__ = "_thread"  # Programs look whether it is the one that a signal handler may acquire, and it is.
+    __slots__ = ("_itc_token", "_itc_identity", "_itc_holder", "_depth")
 
     _itc_token: Token | None
     _itc_identity: LockIdentity
@@ -159,8 +167,31 @@ class TracedRLock(_PlainRLock, metaclass=_LikeRLock):  # type: ignore[misc]
         self._depth = 0
 
 
-TracedLock.__name__ = TracedLock.__qualname__ = "allocate_lock"
-TracedRLock.__name__ = TracedRLock.__qualname__ = "RLock"
+    def __repr__(self) -> str:
+        told: str = _PlainRLock.__repr__(self)
+        return told.replace(" RLock object", " _thread.RLock object", 1) if type(self) is TracedRLock else told
+
+    def __reduce_ex__(self, protocol: Any) -> Any:
+        raise TypeError(f"cannot pickle '{'_thread.' if type(self) is TracedRLock else ''}{type(self).__name__}' object")
+
+
+for _kind in (_LikeLock, _LikeRLock):
+    name_as(_kind, "type", "builtins")
+name_as(TracedLock, "lock", "_thread")
+name_as(TracedRLock, "RLock", "_thread")  # Programs look whether it is the one that a signal handler may acquire, and it is.
+
+
+def allocate_lock() -> Any:
+    frame = frame_at(1)
+    return _allocate() if is_internal(frame) else traced_lock(frame)
+
+
+def new_rlock(*words: Any, **named: Any) -> Any:
+    """What `threading` makes. A library that puts tasks in the place of threads has it make locks of its own."""
+    if vars(threading)["_CRLock"] is None:
+        return vars(threading)["_PyRLock"](*words, **named)
+    frame = frame_at(1)
+    return _PlainRLock(*words, **named) if is_internal(frame) else traced_rlock(frame, TracedRLock, *words, **named)
 
 
 def traced_lock(frame: Any, kind: Any = TracedLock, lock: Any = None) -> Any:

@@ -24,8 +24,8 @@ _MESSAGE = "_itc_message"
 
 def put(patches: Patches) -> None:
     patches.when_taken_back(_done.clear)
-    for name in ("set_result", "set_exception"):
-        patches.wrap(Future, name, _set)
+    patches.wrap(Future, "set_result", _set_result)
+    patches.wrap(Future, "set_exception", _set_exception)
     once_imported("concurrent.futures.process", lambda module: _put_pools(patches, module))
 
 
@@ -143,20 +143,29 @@ class Result:
         self.message = message
 
 
-def _set(original: Any) -> Any:
+def _set_result(original: Any) -> Any:
     """A result that brings a message is ordered by that, and not by the thread that sets it."""
     plain = original.__wrapped__
 
-    def set(self: Any, value: Any) -> None:
-        if type(value) is Result:
-            self._itc_message = value.message
-            plain(self, value.value)
-            return
-        message = value.__dict__.pop(_MESSAGE, None) if isinstance(value, BaseException) else None
+    def set_result(self: Any, result: Any) -> None:
+        if type(result) is Result:
+            self._itc_message = result.message
+            plain(self, result.value)
+        else:
+            original(self, result)
+
+    return set_result
+
+
+def _set_exception(original: Any) -> Any:
+    plain = original.__wrapped__
+
+    def set_exception(self: Any, exception: Any) -> None:
+        message = exception.__dict__.pop(_MESSAGE, None) if isinstance(exception, BaseException) else None
         if message is None:
-            original(self, value)
+            original(self, exception)
         else:
             self._itc_message = message
-            plain(self, value)
+            plain(self, exception)
 
-    return set
+    return set_exception

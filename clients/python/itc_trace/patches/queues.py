@@ -13,7 +13,7 @@ from typing import Any
 
 from ..lines import DONE_ITEM, QUEUE, ROOM, Token, state
 from ..noting import frame_at, is_internal, mark, take
-from .base import Patches
+from .base import Patches, name_as
 from .locks import TracedLock, gave, took, traced_lock
 
 _guard = vars(_thread)["RLock"]()
@@ -88,6 +88,9 @@ class _Mutex(TracedLock):
         if state.note is not None and not is_internal(frame_at(1)):
             gave(self)
         self._lock.release()
+
+
+name_as(_Mutex, "lock", "_thread")
 
 
 def _trace_lock(one: Any, frame: Any) -> None:
@@ -310,8 +313,6 @@ class _Box:
 class TracedSimpleQueue(_PlainSimpleQueue):  # type: ignore[misc]
     """A simple queue that hands the place of each `put` on with the item."""
 
-    __module__ = "queue"
-
     def __new__(cls) -> Any:
         if is_internal(frame_at(1)):
             return _PlainSimpleQueue()
@@ -337,7 +338,7 @@ def plain_simple_queue() -> Any:
     return _PlainSimpleQueue()
 
 
-TracedSimpleQueue.__name__ = TracedSimpleQueue.__qualname__ = "SimpleQueue"
+name_as(TracedSimpleQueue, "SimpleQueue", "queue")
 
 
 def _opened(item: Any) -> Any:

@@ -5,14 +5,15 @@ from __future__ import annotations
 import _thread
 import threading
 from collections import deque
+from types import FunctionType
 from typing import Any
 
 from ..handed_on import called, handed_at
 from ..lines import BARRIER, EVENT, FINISH, JOIN, NOTIFY, SEMAPHORE, SPAWN, Line, state
-from ..noting import enter, frame_at, is_internal, joining, local, mark, place, starting, take, thread_name
+from ..noting import are_replaced, enter, frame_at, is_internal, joining, local, mark, place, starting, take, thread_name
 from .base import Patches, like
 from .exits import await_at_exit
-from .locks import TracedLock, TracedRLock, is_of_condition, traced_rlock
+from .locks import IS_CALLED, TracedLock, TracedRLock, allocate_lock, is_of_condition, new_rlock, traced_rlock
 from .waiters import Waiters
 
 _PLAIN_LOCK: Any = _thread.LockType
@@ -23,16 +24,24 @@ MOST_PERMITS = 65536
 
 
 def put(patches: Patches) -> None:
-    patches.replace(threading, "Lock", TracedLock)
-    patches.replace(threading, "RLock", TracedRLock)
-    patches.replace(_thread, "allocate_lock", TracedLock)
-    patches.replace(_thread, "allocate", TracedLock)
+    for name in ("allocate_lock", "allocate"):
+        patches.replace(_thread, name, like(vars(_thread)[name], _copy_of(allocate_lock)))
+    patches.replace(threading, "Lock", TracedLock if IS_CALLED else _thread.allocate_lock)
+    patches.replace(threading, "RLock", like(threading.RLock, new_rlock))
+    patches.replace(threading, "_CRLock", TracedRLock)
     patches.replace(_thread, "RLock", TracedRLock)
+    for name in ("LockType", "lock"):
+        if name in vars(_thread):
+            patches.replace(_thread, name, TracedLock)
     _put_threads(patches)
     _put_conditions(patches)
     _put_events(patches)
     _put_semaphores(patches)
     _put_barriers(patches)
+
+
+def _copy_of(function: Any) -> Any:
+    return FunctionType(function.__code__, function.__globals__, function.__name__)
 
 
 # Threads
@@ -97,7 +106,7 @@ def _run_timer(original: Any) -> Any:
 def _start(original: Any) -> Any:
     def start(self: threading.Thread) -> None:
         note = state.note
-        if note is None or self.ident is not None:
+        if note is None or self.ident is not None or are_replaced():
             return original(self)  # type: ignore[no-any-return]
         line = Line(state.tracer, thread_name(self))
         line.must_finish = True
@@ -217,9 +226,9 @@ def _condition_begin(original: Any) -> Any:
         frame = frame_at(1)
         is_the_programs = not is_internal(frame)
         if lock is None:
-            lock = traced_rlock(frame) if is_the_programs else _PLAIN_RLOCK()
+            lock = threading.RLock() if are_replaced() else traced_rlock(frame) if is_the_programs else _PLAIN_RLOCK()
         original(self, lock)
-        if is_the_programs:
+        if is_the_programs and not are_replaced():
             self._waiters = Waiters()
             is_of_condition(lock, frame)
 

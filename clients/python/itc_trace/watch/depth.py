@@ -7,6 +7,8 @@ import sys
 from collections.abc import Callable
 from typing import TypeVar
 
+from .. import plain
+
 LIMIT = 60_000
 """Of the language's own recursion. Sources that it compiles at all are nested at most 3 times its usual limit of 1000."""
 STACK = 1 << 29
@@ -27,7 +29,7 @@ def _deeply(call: Callable[[], Given]) -> Given:
     """Calls in a thread of its own, which the program does not see, as the stack of this one is as deep as it is."""
     made: list[Given] = []
     faults: list[BaseException] = []
-    done = _thread.allocate_lock()
+    done = plain.allocate_lock()
     done.acquire()
 
     def run() -> None:
@@ -40,7 +42,7 @@ def _deeply(call: Callable[[], Given]) -> Given:
     limit, stack = sys.getrecursionlimit(), _thread.stack_size(STACK)
     sys.setrecursionlimit(max(limit, LIMIT))
     try:
-        _thread.start_new_thread(run, ())
+        plain.start_new_thread(run, ())
         done.acquire()
     finally:
         sys.setrecursionlimit(limit)
