@@ -221,6 +221,9 @@ def is_made(kind: type, name: str) -> bool:
     method = None if owner is None else _vars_of(owner)[name]
     if type(method) is not types.FunctionType:
         return False
+    inside = method.__dict__.get("__wrapped__") if method.__globals__.get("__name__") == "reprlib" else None
+    if type(inside) is types.FunctionType:
+        method = inside  # Since Python 3.13 `dataclass` has its text kept from going round in circles so.
     return method.__code__.co_filename.endswith("<string>") or method.__globals__.get("__name__") in ("dataclasses", "collections")
 
 

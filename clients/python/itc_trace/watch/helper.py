@@ -16,13 +16,14 @@ SOURCE = os.path.join(os.path.dirname(os.path.abspath(__file__)), "quick.c")
 PURE = "ITC_TRACE_PURE"
 """A variable of the environment: if it is set, the hooks are those in Python."""
 LONGEST_BUILD = 120.0
-KNOWN_VERSIONS = frozenset({(3, 11)})
+KNOWN_VERSIONS = frozenset({(3, 11), (3, 12), (3, 13)})
 """Of which the helper knows the objects."""
 
 
 def _is_known() -> bool:
-    is_debug = hasattr(sys, "gettotalrefcount")
-    return sys.implementation.name == "cpython" and sys.version_info[:2] in KNOWN_VERSIONS and not is_debug and os.name == "posix"
+    """Whether this Python has the objects that the helper knows. One for debugging has others, and one without a global lock."""
+    is_usual = not hasattr(sys, "gettotalrefcount") and not sysconfig.get_config_var("Py_GIL_DISABLED")
+    return sys.implementation.name == "cpython" and sys.version_info[:2] in KNOWN_VERSIONS and is_usual and os.name == "posix"
 
 
 def user_folder() -> str:
@@ -41,7 +42,7 @@ def _built() -> str | None:
     with open(SOURCE, "rb") as source:
         text = source.read()
     told = f"{sys.version}{sysconfig.get_config_var('SOABI')}".encode()
-    name = os.path.join(user_folder(), f"quick-{hashlib.sha256(text + told).hexdigest()[:24]}")
+    name = os.path.join(user_folder(), f"quick-{sysconfig.get_config_var('SOABI')}-{hashlib.sha256(text + told).hexdigest()[:24]}")
     if not os.path.exists(f"{name}.so") and not os.path.exists(f"{name}.failed"):
         _build(name)
     return f"{name}.so" if os.path.exists(f"{name}.so") else None

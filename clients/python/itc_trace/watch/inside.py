@@ -60,7 +60,7 @@ def _parts_of(maps: Any, way: str) -> list[Any]:
 
 OWN_STEPS: set[int] = set()
 """Types of this package whose steps are looks at a container: what goes on with them is noted already."""
-_SHARING = id(type(next(iter(get_referents(tee(())[0])))))
+_SHARING = id(type(next(one for one in get_referents(tee(())[0]) if type(one) is not type)))
 """The type of what the iterators of one `tee` have in common."""
 
 
@@ -92,7 +92,7 @@ def behind(one: Any) -> Behind:
 def _iterators_in(one: Any) -> list[Any]:
     if id(type(one)) not in COMPOSED and id(type(one)) != _SHARING:
         return []
-    parts = get_referents(one)
+    parts = [part for part in get_referents(one) if part is not type(one)]
     if id(type(one)) in ROWS_OF_ITERATORS:
         parts = [part for row in parts[:1] if type(row) is tuple for part in row]
     kinds = {id(type(part)) for part in parts}

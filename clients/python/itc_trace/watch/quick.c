@@ -9,8 +9,15 @@
 #include <stdint.h>
 #include <string.h>
 
-#if PY_VERSION_HEX < 0x030B0000 || PY_VERSION_HEX >= 0x030C0000
-#error "It is for Python 3.11 alone: others have other objects."
+#if PY_VERSION_HEX < 0x030B0000 || PY_VERSION_HEX >= 0x030E0000 || defined(Py_GIL_DISABLED)
+#error "It is for Python 3.11 to 3.13 with a global lock: others have other objects."
+#endif
+
+/* A type has a version while nothing of it or of its bases is changed. Since Python 3.13 no flag says so beside the number. */
+#if PY_VERSION_HEX >= 0x030D0000
+#define HAS_VERSION(type) ((type)->tp_version_tag != 0)
+#else
+#define HAS_VERSION(type) PyType_HasFeature(type, Py_TPFLAGS_VALID_VERSION_TAG)
 #endif
 
 /* What the Python part hands over. */
@@ -711,7 +718,7 @@ static Decision *decide(PyTypeObject *type, PyObject *site, Decision *known, cha
     _PyType_Lookup(type, text_line);  /* It gives the type a version. */
     clear_decision(known);
     known->type = type;
-    known->version = PyType_HasFeature(type, Py_TPFLAGS_VALID_VERSION_TAG) ? type->tp_version_tag : 0;
+    known->version = HAS_VERSION(type) ? type->tp_version_tag : 0;
     known->what = (enum what)what;
     known->site = Py_NewRef(site);
     known->late = Py_NewRef(late);
@@ -730,7 +737,7 @@ static inline Decision *decision_of(PyTypeObject *type, PyObject *site, char hoo
 {
     Decision *known = &decisions[slot_of_decision(type, PyLong_AsLong(site))];
     if (known->type == type && known->version == type->tp_version_tag && known->version != 0
-        && PyType_HasFeature(type, Py_TPFLAGS_VALID_VERSION_TAG) && is_same_number(known->site, site))
+        && HAS_VERSION(type) && is_same_number(known->site, site))
         return known;
     return decide(type, site, known, hook);
 }
@@ -1074,7 +1081,7 @@ static PyObject *touch_keyed(PyObject *one, PyObject *key, PyObject *site, Py_ss
             result = -1;
         else if (owner != NULL && (owner = find_owner(one)) != NULL && is_seen(owner, mark))
             result = 0;
-        else if (decision->what == OF_DICT || (decision->what == OF_LIST && Py_SIZE(key) >= 0))
+        else if (decision->what == OF_DICT || (decision->what == OF_LIST && _PyLong_Sign(key) >= 0))
             result = saw_key(one, key, site, mark, decision);
         else
             Py_CLEAR(mark);
