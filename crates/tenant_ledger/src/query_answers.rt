@@ -1,17 +1,18 @@
 //! Answers to the queries of a tenant, from what is kept of its events.
-ghost use Rattle.std.specs.Prelude.{◌≡◌, ◌<◌, All, IfErr, IfOk, IfSome, false, is_some, length, map, suc};
+ghost use Rattle.std.specs.Prelude.{◌≡◌, ◌<◌, All, IfErr, IfOk, IfSome, false, is_some, length, map, suc, true};
 ghost use Rattle.trace_query.specs.Deciding.{DecideInOrder};
 ghost use Rattle.trace_query.specs.Queries.{StandInOrder};
 ghost use Rattle.trace_types.specs.clock.Clock.{tree_clock};
 ghost use Rattle.trace_types.specs.clock.Stamps.{tree_of};
 ghost use Rattle.trace_types.specs.tenant.Rows.{is_event};
+ghost use Rattle.trace_types.specs.text.StampText.{stamp_text as text_of_parts};
 ghost use Rattle.trace_types.specs.tenant.Tenant.{Answers, reply_to_view};
 ghost use Rattle.tenant_ledger.specs.Answers.{code_of, is_brief, order_answer};
-ghost use Rattle.tenant_ledger.specs.Ledger.{IsKept, history_in, of_each, tenant_of};
+ghost use Rattle.tenant_ledger.specs.Ledger.{IsKept, history_in, id_after, of_each, tenant_of};
 
 use crate::book::Book;
 use crate::share::{Keep, KeptId};
-use event_tree::RaisedPoint;
+use event_tree::{EvTree, RaisedPoint};
 use stamp_codec::write_parts;
 use trace_query::{
     Compare, Meant, QueryFault, concurrent_by_points, cut_by_points, order_by_points,
@@ -161,14 +162,20 @@ fn stamp<S: Keep>(book: &Book<S>, event: u64) -> Reply
         return Reply::Refused(Code::NoEvent);
     };
     let tree = book.trees()[place].tree_value();
-    let id = match book.event_id(event).tree(book.alloc()) {
-        Ok(id) => id,
-        Err(refused) => return Reply::Refused(Code::from(refused)),
-    };
-    match write_parts(book.alloc(), id.as_tree(), tree) {
+    match stamp_text(book, event, tree) {
         Ok(text) => Reply::Stamp(Text::from(text)),
         Err(refused) => Reply::Refused(Code::from(refused)),
     }
+}
+
+/// The text of the stamp of the event, whose tree this is. Returns `Memory` if it runs out of memory.
+fn stamp_text<S: Keep>(book: &Book<S>, event: u64, tree: &EvTree) -> Result<Vec<u8>, Memory>
+    requires kept { IsKept book.now }
+    requires event { is_event (history_in book.now) event ≡ true }
+    ensures { IfOk result (λ text. text.items ≡ text_of_parts (id_after (history_in book.now) event) tree.now) }
+{
+    let id = book.event_id(event).tree(book.alloc())?;
+    write_parts(book.alloc(), id.as_tree(), tree)
 }
 
 /// The place of the event in the lists, if there is such an event.

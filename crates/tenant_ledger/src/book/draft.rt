@@ -254,9 +254,10 @@ impl<S: Keep> Book<S> {
         requires report { IsReport self.now report.now }
         ensures { IfOk result (IsMadeOf self.now report.now) }
     {
-        let own = self.id(report.acting.id)?;
-        let ids = self.ids_made(report, own.as_tree())?;
-        let id = ids.acting(own.as_tree());
+        let held = self.id(report.acting.id)?;
+        let own = held.as_tree();
+        let ids = self.ids_made(report, own)?;
+        let id = ids.acting(own);
         let (tree, point) = self.tree_after(report, id)?;
         let tree = self.share.keep_tree(rt, tree)?;
         let (first, second) = ids.keep(rt, &self.share)?;
