@@ -37,13 +37,13 @@ class Outcome(NamedTuple):
     status: int
 
 
-def outcome(programs: dict[str, str], hooks: str | None) -> Outcome:
-    """What the programs write: untraced, or with the hooks of a form."""
+def outcome(programs: dict[str, str], hooks: str | None, *words: str) -> Outcome:
+    """What the programs write: untraced, or with the hooks of a form, and with further words for `run`."""
     with tempfile.TemporaryDirectory() as folder:
         for name, text in {**programs, "main": MAIN}.items():
             Path(folder, f"{name}.py").write_text(text)
         main = os.path.join(folder, "main.py")
-        ran = run_python(main, *programs) if hooks is None else run_traced(main, *programs, ITC_TRACE_PURE=FORMS[hooks])
+        ran = run_python(main, *programs) if hooks is None else run_traced(*words, main, *programs, ITC_TRACE_PURE=FORMS[hooks])
     parts = re.split(r"^== (\w+)\n", ADDRESS.sub("0x", ran.stdout.replace(folder, "")), flags=re.MULTILINE)
     written = dict(zip(parts[1::2], parts[2::2]))
     written.pop("end", None)

@@ -183,6 +183,10 @@ class SameOutput(unittest.TestCase):
                     self.assertEqual(traced.written.get(name), plain.written[name], text)
             self.assertNotIn(str(PACKAGE), "".join(traced.written.values()), "a frame of the package")
 
+    def test_futures_and_frames_go_at_once_with_nothing_watched(self) -> None:
+        chosen = {"references_to_frames": PROGRAMS["references_to_frames"]}
+        self.assertEqual(outcome(chosen, "in C", "--watch-nothing").written, outcome(chosen, None).written)
+
     def test_with_hooks_in_python_the_next_collection_lets_go_of_a_shared_list(self) -> None:
         traced = outcome({"program": COLLECTED}, "in Python")
         self.assertEqual(traced.written["program"], "gone\ncollected\n", traced.said)

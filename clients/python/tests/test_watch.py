@@ -480,8 +480,9 @@ class WhatIsTouched(unittest.TestCase):
         with noting():
             _, variables = run_of(code_of(text))
             STRETCHES.pop(threading.get_ident(), None)
-            variables["work"]()
+            kept = variables["work"]()
             self.assertEqual(sorted(set(touches())), sorted(expected), body)
+            del kept
 
     def test_fields(self) -> None:
         self.assert_touches("shop.items", ("Shop.items", "read"))
@@ -612,7 +613,7 @@ class WhatIsTouched(unittest.TestCase):
         before = "total = 0\ndef change():\n    global total\n    total = 1\n"
         self.assert_touches("total", ("watched_module.total", "read"), before=before)
         self.assert_touches("change()", ("watched_module.total", "write"), before=before)
-        counter = "count = 0\ndef add():\n    nonlocal count\n    count += 1\nadd()"
+        counter = "count = 0\ndef add():\n    nonlocal count\n    count += 1\nadd()\nreturn add"
         self.assert_touches(counter, ("count", "write"), ("count", "read"))
 
     def test_library_functions(self) -> None:

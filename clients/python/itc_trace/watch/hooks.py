@@ -1284,7 +1284,8 @@ def _touch_method_inside(one: Any, site: int) -> None:
 
 _EMPTY: tuple[Any, ...] = ([], {}, set(), deque(), bytearray(), (), array("b"), {}.keys(), {}.values(), {}.items())
 FOLLOWED: tuple[type, ...] = (
-    object, bytearray, defaultdict, types.CellType, types.SimpleNamespace, enumerate, filter, map, reversed, zip, *map(type, _EMPTY[:2]), *map(type, _EMPTY[7:]),
+    object, bytearray, defaultdict, types.CellType, types.SimpleNamespace, enumerate, filter, map, reversed, zip,
+    *(type(one) for one in (*_EMPTY[:2], *_EMPTY[7:])),
     *(type(iter(one)) for one in _EMPTY), *(type(reversed(one)) for one in ([], {}, deque(), {}.keys(), {}.values(), {}.items())),
     *(one for one in vars(itertools).values() if type(one) is type and one is not itertools.tee),
     *(one for one in vars(builtins).values() if type(one) is type and issubclass(one, BaseException)),
