@@ -67,12 +67,7 @@ class JournalFile:
         self._file = file
 
     def _identity_now(self) -> tuple[int, int] | None:
-        """Which file the descriptor is of."""
-        try:
-            found = os.fstat(self._file if self._file is not None else -1)
-        except OSError:
-            return None
-        return found.st_dev, found.st_ino
+        return None if self._file is None else own_files.identity_of(self._file)
 
     def _find_again(self) -> None:
         """Opens the file once more if the program has closed it, or has another file at its number."""

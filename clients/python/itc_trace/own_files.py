@@ -6,6 +6,7 @@ from __future__ import annotations
 
 import os
 from collections.abc import Callable
+from typing import NamedTuple
 
 try:
     import fcntl
@@ -18,10 +19,20 @@ MOST_NUMBER = 1024
 ROOM = 64
 """So many numbers below the greatest one are for the package."""
 
-_close = os.close
-"""As it is before any program is traced."""
-_own: dict[int, Callable[[int], object] | None] = {}
-"""Each descriptor, and who is told of another number for it."""
+_close, _fstat = os.close, os.fstat
+"""Both as they are before any program is traced."""
+
+
+class _Kept(NamedTuple):
+    """A descriptor of the package."""
+
+    identity: tuple[int, int] | None
+    """Which file it is of. Whatever else has its number by now is the program's."""
+    move: Callable[[int], object] | None
+    """Who is told of another number for it."""
+
+
+_own: dict[int, _Kept] = {}
 
 
 def keep(file: int, move: Callable[[int], object] | None = None) -> int:
@@ -29,13 +40,22 @@ def keep(file: int, move: Callable[[int], object] | None = None) -> int:
     kept = _with_great_number(file)
     if kept != file:
         _close(file)
-    _own[kept] = move
+    _own[kept] = _Kept(identity_of(kept), move)
     return kept
+
+
+def identity_of(file: int) -> tuple[int, int] | None:
+    """Which file the descriptor is of. None if it is of none."""
+    try:
+        found = _fstat(file)
+    except OSError:
+        return None
+    return found.st_dev, found.st_ino
 
 
 def spare(file: int) -> None:
     """Leaves a descriptor where it is. The program closes it no more."""
-    _own[file] = None
+    _own[file] = _Kept(identity_of(file), None)
 
 
 def let_go(file: int) -> None:
@@ -60,18 +80,22 @@ def _with_great_number(file: int) -> int:
 
 
 def is_own(file: int) -> bool:
-    return file in _own
+    kept = _own.get(file)
+    if kept is not None and identity_of(file) != kept.identity:
+        let_go(file)
+        return False
+    return kept is not None
 
 
 def between(least: int, end: int) -> list[int]:
     """Those of the package, in their order."""
-    return sorted(one for one in list(_own) if least <= one < end)
+    return sorted(one for one in list(_own) if least <= one < end and is_own(one))
 
 
 def make_room(file: int) -> None:
     """The program puts another file at this number: the package's own goes on at another one."""
-    move = _own.pop(file)
+    identity, move = _own.pop(file)
     if move is not None:
         kept = _with_great_number(file)
-        _own[kept] = move
+        _own[kept] = _Kept(identity, move)
         move(kept)

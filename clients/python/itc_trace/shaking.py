@@ -12,6 +12,7 @@ from typing import Any
 
 from .noting import is_internal
 from .patches.base import like
+from .patches.locks import TracedLock, TracedRLock
 
 SHORTEST_TURN, LONGEST_TURN = 1e-6, 1e-4
 LONGEST_PAUSE = 0.004
@@ -41,7 +42,7 @@ class Shaking:
     def begin(self) -> None:
         """From here on threads take short turns, and pause before they synchronize."""
         sys.setswitchinterval(self._turn)
-        locks = [(kind, name) for kind in (threading.Lock, threading.RLock) for name in _LOCK_CALLS]
+        locks = [(kind, name) for kind in (TracedLock, TracedRLock) for name in _LOCK_CALLS]
         for owner, name in [*_PLACES, *locks]:
             if name in vars(owner):
                 original = vars(owner)[name]

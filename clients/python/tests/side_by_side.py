@@ -29,7 +29,7 @@ SPLIT = ("Programs", "Orders", "BothForms", "Library", "Pairs")
 """Classes with tests that take long. Each of these tests has a process of its own, and they come first."""
 LONGEST = (
     "test_watch.Runs", "test_runs", "test_ends", "test_processes", "test_children", "test_errors.Errors", "test_long_runs", "test_system",
-    "test_signals", "test_examples", "Reachability", "WrongRules", "test_speed", "test_http",
+    "test_signals", "test_examples", "Reachability", "WrongRules", "test_speed", "test_http", "test_plugin", "test_seen", "test_descriptors",
 )
 """The longest of the other classes, which come next: so none runs alone at the end."""
 RAN = re.compile(r"^Ran (\d+) tests? in .*\n\nOK(?: \(skipped=(\d+).*\))?$", re.MULTILINE)

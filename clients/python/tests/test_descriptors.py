@@ -2,11 +2,12 @@
 
 from __future__ import annotations
 
+import os
 import tempfile
 import unittest
 from pathlib import Path
 
-from itc_trace import Verdict
+from itc_trace import Verdict, own_files
 from itc_trace.journal_file import JournalFile
 
 from .support import ProgramCase, needs, python_with, run_python, run_traced
@@ -113,6 +114,18 @@ class Descriptors(ProgramCase):
         self.assertEqual(ran.stdout, run_python(program, python=python).stdout, ran.stderr)
         self.assertNotIn("tracing stops", ran.stderr)
         self.assertNotIn("Errno", ran.stderr)
+
+
+class OwnFiles(unittest.TestCase):
+    def test_a_number_that_another_file_has_by_now_is_the_programs(self) -> None:
+        first, second = os.pipe()
+        own_files.spare(first)
+        self.assertTrue(own_files.is_own(first))
+        with open(os.devnull, "rb") as other:
+            os.dup2(other.fileno(), first)  # As if it were closed, and taken anew.
+        self.assertEqual((own_files.is_own(first), own_files.between(first, first + 1)), (False, []))
+        os.close(first)
+        os.close(second)
 
 
 class Lost(ProgramCase):
