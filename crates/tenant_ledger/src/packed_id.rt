@@ -116,7 +116,9 @@ fn packed(alloc: Global, id: &IdTree) -> Result<Vec<PackedNode>, Memory>
 fn packed_len(id: &IdTree) -> usize {
     match id.parts() {
         Parts::Zero | Parts::One => 1,
-        Parts::Pair(half, other) | Parts::Pair(other, half) if other.is_zero() => packed_len(half).saturating_add(1),
+        Parts::Pair(half, other) | Parts::Pair(other, half) if other.is_zero() => {
+            packed_len(half).saturating_add(1)
+        }
         Parts::Pair(left, right) => packed_len(left)
             .saturating_add(packed_len(right))
             .saturating_add(1),

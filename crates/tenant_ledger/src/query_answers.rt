@@ -120,14 +120,7 @@ fn cut<S: Keep, C: Compare<S::Kept>>(book: &Book<S>, compare: &C, event: u64) ->
     ensures { Answers (tenant_of book.now) (Request.Cut event) result }
 {
     let (trees, points) = trees_and_points(book);
-    listed(cut_by_points(
-        compare,
-        book.alloc(),
-        trees,
-        points,
-        book.starts(),
-        event,
-    ))
+    listed(cut_by_points(compare, book.alloc(), trees, points, book.starts(), event))
 }
 
 /// What each event knows, and a point of each, as a search by points wants them.

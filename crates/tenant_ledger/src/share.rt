@@ -37,8 +37,7 @@ pub trait KeptId {
     /// Keeps the id in less memory from now on, if that can be done.
     fn pack(&mut self, _alloc: Global)
         ensures { id self.new ≡ id self.old }
-    {
-    }
+    {}
 }
 
 /// An id that is kept as a tree.
