@@ -570,7 +570,8 @@ static PyTypeObject OwnersType = {
 
 static long long next_base = 1LL << 32;
 
-/* Fills an owner in. It is told when its object is gone: by the type, if that is followed, or by a weak reference. Else it holds it. */
+/* Fills an owner in. A weak reference tells when its object is gone, and before a finalizer of garbage runs, which any thread may do. The
+   type tells of an object without weak references, if it is followed. Else the object is held. */
 static Owner *new_owner(PyObject *one, PyObject *name)
 {
     PyTypeObject *type = Py_TYPE(one);
@@ -597,7 +598,7 @@ static Owner *new_owner(PyObject *one, PyObject *name)
             owner->maker = Py_NewRef(PyTuple_GET_ITEM(made, 3));
         }
     }
-    int is_weak = !is_followed(type) && PyType_SUPPORTS_WEAKREFS(type), is_held = !is_weak && !is_followed(type);
+    int is_weak = PyType_SUPPORTS_WEAKREFS(type), is_held = !is_weak && !is_followed(type);
     if (is_weak && (owner->reference = PyWeakref_NewRef(one, (PyObject *)owner)) == NULL)
         goto fail;
     if (is_held && let_go_of_some(LOOKED_THROUGH) < 0)
