@@ -39,7 +39,8 @@ impl<S: Keep> Model for Draft<S> {
     ghost use Rattle.std.specs.Coded.{codes};
     ghost use Rattle.event_tree.specs.EventTreeCode.{event_tree_code};
     ghost use Rattle.id_tree.specs.IdCode.{id_code};
-    ghost use Rattle.tenant_ledger.specs.Ledger.{Event};
+    ghost use Rattle.std.specs.Prelude.{◌<◌};
+    ghost use Rattle.tenant_ledger.specs.Ledger.{Event, receipts_in};
 
     ghost Value = { Event };
 
@@ -55,6 +56,8 @@ impl<S: Keep> Model for Draft<S> {
       named = d.named;
       received = d.received;
     } };
+
+    ghost invariant = { λ d. receipts_in d.received < 16384 };
 }
 
 /// What is made of an event. The share keeps its tree and its ids.

@@ -71,7 +71,10 @@ impl<S: Keep> Book<S> {
         ensures sent { OnErr result (is_sent (history_in self.now) name.now ≡ true) }
     {
         match self.known_message(name) {
-            Ok((message, _)) => Ok(Some((message.sent, self.receipts(message.last)?))),
+            Ok((message, _)) => Ok(Some((
+                message.sent,
+                self.receipts(message.last, message.receipts)?,
+            ))),
             Err(_) => Ok(None),
         }
     }
