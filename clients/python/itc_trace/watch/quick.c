@@ -912,6 +912,16 @@ static PyObject *see(PyObject *one, PyObject *site, Decision *decision, PyObject
     return end_hook(back, result);
 }
 
+/* The owner of an object, which it has no more once its finalizer runs: any thread may do that, and nobody else has the object. */
+static Owner *owner_in_use(PyObject *one)
+{
+    Owner *owner = find_owner(one);
+    if (owner == NULL || owner->reference != NULL || !PyObject_IS_GC(one) || !PyObject_GC_IsFinalized(one))
+        return owner;
+    Py_XDECREF((PyObject *)take_owner(one));
+    return NULL;
+}
+
 static PyObject *touch_field(PyObject *one, PyObject *site, Py_ssize_t limit, char hook)
 {
     Decision *decision = decision_of(Py_TYPE(one), site, hook);
@@ -920,7 +930,7 @@ static PyObject *touch_field(PyObject *one, PyObject *site, Py_ssize_t limit, ch
     enum what what = decision->what;
     if (what == NONE)
         return Py_NewRef(one);
-    Owner *owner = find_owner(one);
+    Owner *owner = owner_in_use(one);
     if (owner == NULL ? Py_REFCNT(one) <= limit : is_seen(owner, site))
         return Py_NewRef(one);
     if (what == OWN_FIELD || what == OF_CLASS) {
