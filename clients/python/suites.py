@@ -51,7 +51,6 @@ SUITES = (
     Suite("python3-oslo.concurrency", "oslo_concurrency", ("oslo_concurrency/tests/unit/test_lockutils.py",), needs="python3-oslotest"),
     Suite("python3-dask", "dask", ("dask/tests/test_threaded.py", "dask/tests/test_callbacks.py", "dask/tests/test_order.py")),
     Suite("python3-trio", "trio", ("trio/_core/tests/test_thread_cache.py", "trio/tests/test_sync.py")),
-    Suite("python3-greenlet", "greenlet", ("greenlet/tests/test_greenlet.py",), needs="python3-objgraph"),
 )
 FORMS = {"plain": [], "traced": ["--watch-nothing"], "watched": ["--watch"]}
 Outcomes = dict[str, str]

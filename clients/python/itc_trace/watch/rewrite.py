@@ -311,7 +311,7 @@ class Rewriter:
         return self._hook("c", node, ast.copy_location(looked, node), site)
 
     def _bindings(self, target: Any) -> Iterator[ast.Name]:
-        for one in ast.walk(target):
+        for one in [target] if isinstance(target, ast.Name) else ast.walk(target):
             if isinstance(one, ast.Name) and not isinstance(one.ctx, ast.Load) and self._is_shared(one.id):
                 yield one
 

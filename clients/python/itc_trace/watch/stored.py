@@ -32,7 +32,8 @@ _DELEGATING = re.compile(rb"def[ \t]+(__getattr__|__getattribute__)\b")
 _NAME_BEFORE = re.compile(rb"([^\W\d]\w*)[ \t]*\Z")
 LONGEST_NAME = 80
 _METHODS = frozenset(name.encode() for name in METHODS)
-_IMPORT = re.compile(rb"^[ \t]*(?:from[^\n]*)?import\b(?:[^\n(]*\([^)]*\)|[^\n]*)", re.MULTILINE)
+_IMPORT = re.compile(rb"import\b(?:[^\n(]*\([^)]*\)|[^\n]*)")
+_BEFORE_IMPORT = re.compile(rb"[ \t]*(?:from[^\n]*)?\Z")
 _WORD = re.compile(rb"\w+")
 
 _seen: set[str] = set()
@@ -124,7 +125,12 @@ def _name_before(text: bytes, place: int) -> bytes | None:
 
 def imported_by(text: bytes) -> set[str]:
     """The words behind `import`: names of what is imported, and of where that is."""
-    return {_text(word) for one in _IMPORT.findall(text) for word in _WORD.findall(one)}
+    found: set[bytes] = set()
+    for one in _IMPORT.finditer(text):
+        line = text.rfind(b"\n", 0, one.start()) + 1
+        if _BEFORE_IMPORT.match(text, line, one.start()):
+            found.update(_WORD.findall(text[line:one.end()]))
+    return {_text(word) for word in found}
 
 
 def _text(name: bytes) -> str:
