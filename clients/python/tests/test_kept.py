@@ -169,15 +169,17 @@ class Kept(Case):
             self.assertIn("by_name=(('left', 10", str(placing.CASES))
 
     def test_numbers_of_the_source_stay(self) -> None:
-        numbers = [learned.FIRST_MARK, learned.FIRST_MARK + 1, learned.FIRST_MARK + 5, 1 << 70]
-        text = f"def work(one):\n    one.size = {numbers}\n    return one.left, one.right\n"
+        """They are the ones that places have until they are known, those behind them, and those that the compiler works out."""
+        numbers = [learned.FIRST_MARK, learned.FIRST_MARK + 1, learned.FIRST_MARK + 5, 1 << 70, 1 << 80]
+        told = [*map(str, numbers[:-1]), "1 << 80"]
+        text = "def work(one):\n" + "".join(f"    one.keep({number})\n" for number in told) + "    return one.left\n"
         for made in (self.new(text), self.kept(text)):
             assert made is not None
-            variables: dict[str, Any] = {"_itc_on": True}
-            exec(made, {**variables, **{f"_itc_{name}": lambda one, *_: one for name in ("o", "o_local", "n", "n_local", "h")}}, variables)
+            variables: dict[str, Any] = {"_itc_on": False}
+            exec(made, variables)
             one = mock.Mock()
             variables["work"](one)
-            self.assertEqual(one.size, numbers)
+            self.assertEqual([call.args[0] for call in one.keep.call_args_list], numbers)
 
     def test_nothing_is_rewritten_twice(self) -> None:
         self.new(COUNTER)
