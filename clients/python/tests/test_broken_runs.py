@@ -79,6 +79,7 @@ print(__annotations__)
 
 GOES_ON = {
     "its folder is another": "os.chdir('/')",
+    "it closes all files": "os.closerange(3, 256)",
     "few files may be open": "import resource; resource.setrlimit(resource.RLIMIT_NOFILE, (6, 6))",
     "its output is closed": "os.close(1); os.close(2)",
     "its streams are gone": "sys.stdout = sys.stderr = None",
@@ -96,7 +97,6 @@ BREAKS_OFF = {
     "it aborts": "import resource; resource.setrlimit(resource.RLIMIT_CORE, (0, 0)); os.abort()",
     "a signal ends it": "os.kill(os.getpid(), signal.SIGUSR1); time.sleep(60)",
     "it goes on as another program": "os.execv('/bin/true', ['true'])",
-    "it closes all files": "os.closerange(3, 256)",
     "files may not grow": "import resource; resource.setrlimit(resource.RLIMIT_FSIZE, (100, 100))",
 }
 """What a program does before its race, which is seen no more."""
