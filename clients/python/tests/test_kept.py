@@ -371,7 +371,8 @@ class Runs(Case):
         main.write_text(text)
         words = [sys.executable, "-m", "itc_trace", "run", str(main)]
         environment = {**os.environ, "PYTHONPATH": str(PACKAGE), **variables}
-        environment.pop("PYTHONDONTWRITEBYTECODE", None)
+        for name in ("PYTHONDONTWRITEBYTECODE", "PYTHONPYCACHEPREFIX"):
+            environment.pop(name, None)
         done = subprocess.run(words, capture_output=True, text=True, env=environment, timeout=300, check=False)
         return done.returncode, done.stdout, done.stderr
 

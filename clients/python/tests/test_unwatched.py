@@ -61,7 +61,7 @@ NOT_REWRITTEN = """
 from itc_trace.watch import finder
 def fail(*words):
     raise ValueError("planted")
-finder.rewritten = fail
+finder.kept_code = fail
 from stock import sell
 """
 TERMS = " + ".join(["'a'"] * 2500)
