@@ -296,9 +296,9 @@ func fullChannel() {
 // closedChannel: who sees the end comes after the first closing, and not after one that fails.
 func closedChannel() {
 	channel := itctrace.MakeChan[int](1)
-	isClosed := make(chan bool) // It gives no order that is reported.
+	isClosed, isOver := make(chan bool), make(chan bool) // They give no order that is reported.
 	taker := start(func() {
-		<-isClosed
+		<-isOver
 		for _, isThere := channel.Receive(); isThere; _, isThere = channel.Receive() {
 			fmt.Println("received")
 		}
@@ -312,7 +312,7 @@ func closedChannel() {
 	})
 	<-isClosed
 	closeAgain(channel)
-	isClosed <- true
+	isOver <- true
 	taker.Wait()
 }
 
