@@ -11,6 +11,6 @@ pub mod WritingLemmas
 pub mod GatherLemmas
 pub mod PatienceLemmas
 mod CallLemmas
-mod PatientTexts
+pub mod PatientTexts
 pub mod TextsInTurn
 pub mod NextLineLemmas

@@ -51,6 +51,7 @@ pub use into_writer::IntoWriter;
 pub use line::Line;
 pub use line_buffer::Buffer;
 pub use line_reader::{LineReader, ReadFault};
+pub use pieces::write_piece;
 pub use reply::{
     WriteFault, flush, write_answer, write_bytes, write_count, write_order, write_prefix,
     write_reply,

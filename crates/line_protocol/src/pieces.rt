@@ -22,9 +22,12 @@ pub(crate) fn write_pieces<W: Sink>(
     write_piece(writer, patience, second)
 }
 
-/// Writes a text. An interrupted write is made again as long as there is patience.
+/// Writes a text. An interrupted write is made again as long as there is patience: each takes one off, and at 0 the text is
+/// given up. A caller that writes a line in several texts hands the same patience to each.
+///
+/// Returns `WriteFault` at the first failure, at a write that takes nothing, or when the patience is used up.
 #[inline(always)]
-pub(crate) fn write_piece<W: Sink>(
+pub fn write_piece<W: Sink>(
     writer: &mut W,
     patience: &mut u64,
     piece: &[u8],

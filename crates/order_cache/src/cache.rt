@@ -169,6 +169,12 @@ impl OrderCache {
         self.order_watched(forest, first, second)
     }
 
+    /// Whether the next ask is one of the first, which are all looked up but those that the greatest values decide.
+    #[inline(always)]
+    pub fn is_at_first_asks(&self) -> bool {
+        self.watch.load(Ordering::Relaxed) > FEW_ASKS
+    }
+
     /// How often a remembered comparison was the answer, for the operator. It stays at 2^64 - 1.
     ///
     /// No clause says how often, since threads count at once and no contract tells what an atomic has.

@@ -14,7 +14,7 @@ seed = record { id = One; tree = Leaf 0 }
 abbrev pub fork : Stamp → Stamp × Stamp
 fork s = (record s { id = (ids.split s.id).0 }, record s { id = (ids.split s.id).1 })
 
--- the stamp after an stamp_event
+-- the stamp after an event
 abbrev pub stamp_event : Stamp → Stamp
 stamp_event s = record s { tree = trees.event s.id s.tree }
 

@@ -7,7 +7,7 @@ use Rattle.line_protocol.specs.Patience.{waits_since_bytes}
 use Rattle.line_protocol.specs.Writing.{TriesToWrite, Writes, WritesFront, WritesText}
 use Rattle.line_protocol.specs.declared.reply.WriteFault.{WriteFault}
 use Rattle.line_protocol.proofs.PatienceLemmas.{TriesToWrite-ok, TriesToWrite-err}
-use Rattle.stamp_reply.proofs.PatientTexts.{Writes-patiently}
+use Rattle.line_protocol.proofs.PatientTexts.{Writes-patiently}
 use Rattle.stamp_reply.specs.Chunks.{GathersOn, StopsGathering}
 use Rattle.stamp_reply.specs.Chunking.{GathersOn-both, StopsGathering-others}
 use Rattle.stamp_reply.specs.declared.chunk_writer.ChunkWriter.{ChunkWriter}

@@ -1,2 +1,1 @@
-mod PatientTexts
 mod ChunkLines

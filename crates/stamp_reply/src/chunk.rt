@@ -1,5 +1,5 @@
 //! Texts on the stack that are written in one piece.
-ghost use Rattle.std.specs.Prelude.{◌≡◌, ◌+◌, ◌≤◌, [], ◌++◌, IsTrue, length};
+ghost use Rattle.std.specs.Prelude.{◌≡◌, ◌↔◌, ◌+◌, ◌≤◌, [], ◌++◌, IsTrue, length};
 
 use std::marker::Model;
 
@@ -39,7 +39,7 @@ impl Chunk {
     /// Whether so many bytes can be added.
     #[inline(always)]
     pub(crate) fn has_room(&self, count: usize) -> bool
-        ensures room { IsTrue result → length self.now + count ≤ 1024 }
+        ensures { IsTrue result ↔ (length self.now + count ≤ 1024) }
     {
         count <= Chunk::ROOM - self.len
     }

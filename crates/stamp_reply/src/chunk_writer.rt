@@ -1,11 +1,10 @@
 //! Texts that are taken piece by piece and written in chunks.
-ghost use Rattle.std.specs.Prelude.{◌≡◌, ◌+◌, ◌<◌, ◌≤◌, [], ◌∷◌, ◌++◌, IfOk, IfSome, MatchOption, OnErr, OnOk, length, take};
+ghost use Rattle.std.specs.Prelude.{◌≡◌, ◌+◌, ◌<◌, ◌≤◌, [], ◌∷◌, IfSome, MatchOption, length};
 ghost use Rattle.line_protocol.specs.Patience.{waits_since_bytes};
-ghost use Rattle.line_protocol.specs.Writing.{TriesToWrite, WritesText};
 ghost use Rattle.stamp_reply.specs.Chunks.{GathersOn, StopsGathering};
 
 use crate::chunk::Chunk;
-use line_protocol::{Sink, Stop, WriteFault};
+use line_protocol::{Sink, write_piece};
 use stamp_codec::TakeBytes;
 
 /// How many interruptions end the writing of one text.
@@ -47,12 +46,13 @@ impl<'a, W: Sink> ChunkWriter<'a, W> {
         self.write_held()
     }
 
-    /// Holds these bytes. It makes room for them first if they have none.
+    /// Holds these bytes. It makes room for them first if they have none, and else it writes nothing.
     #[inline(always)]
     fn hold(&mut self, bytes: &[u8]) -> Option<()>
         requires { length bytes.now ≤ 1024 }
         ensures gathers { MatchOption result (StopsGathering W.seen self.old self.new bytes.now) (λ _. GathersOn W.seen self.old self.new bytes.now) }
         ensures held { IfSome result (λ _. length bytes.now ≤ length self.new.chunk) }
+        ensures no_write { length self.old.chunk + length bytes.now ≤ 1024 → W.seen self.new.writer.now ≡ W.seen self.old.writer.now }
     {
         if !self.chunk.has_room(bytes.len()) {
             self.write_held()?;
@@ -72,7 +72,7 @@ impl<'a, W: Sink> ChunkWriter<'a, W> {
         if self.patience == 0 {
             return None;
         }
-        write_text(self.writer, &mut self.patience, self.chunk.as_bytes()).ok()?;
+        write_piece(self.writer, &mut self.patience, self.chunk.as_bytes()).ok()?;
         self.chunk.clear();
         Some(())
     }
@@ -101,7 +101,7 @@ impl<'a, W: Sink> TakeBytes for ChunkWriter<'a, W> {
             return self.hold(bytes);
         }
         self.write_held()?;
-        write_text(self.writer, &mut self.patience, bytes).ok()
+        write_piece(self.writer, &mut self.patience, bytes).ok()
     }
 
     ghost takes_both = { λ before between after first others taken more. GathersOn-both first others taken more };
@@ -109,49 +109,4 @@ impl<'a, W: Sink> TakeBytes for ChunkWriter<'a, W> {
     ghost refuses_front = { λ before after first others stops. StopsGathering-front first others stops };
 
     ghost refuses_others = { λ before between after first others taken stops. StopsGathering-others first others taken stops };
-}
-
-/// Writes a text. An interrupted write is made again as long as there is patience.
-fn write_text<W: Sink>(writer: &mut W, patience: &mut u64, text: &[u8]) -> Result<(), WriteFault>
-    requires { 0 < patience.old }
-    ensures written { WritesText (W.seen writer.old) (W.seen writer.new) result text.now }
-    ensures tries { TriesToWrite (W.seen writer.old) (W.seen writer.new) patience.old patience.new result }
-    ensures no_wait { OnOk result (0 < length text.now → waits_since_bytes (W.seen writer.new).calls ≡ 0) }
-{
-    let mut rest = text;
-    while !rest.is_empty() {
-        let count = write_once(writer, patience, rest)?;
-        rest = &rest[count..];
-    }
-    Ok(())
-}
-
-/// Writes once, and gives how many bytes were taken, or 0 if the write was interrupted.
-#[inline(always)]
-fn write_once<W: Sink>(
-    writer: &mut W,
-    patience: &mut u64,
-    piece: &[u8],
-) -> Result<usize, WriteFault>
-    requires { 0 < patience.old }
-    ensures bound { IfOk result (λ n. n ≤ length piece.now) }
-    ensures ok { IfOk result (λ n. (W.seen writer.new).bytes ≡ (W.seen writer.old).bytes ++ take n piece.now) }
-    ensures err { OnErr result ((W.seen writer.new).bytes ≡ (W.seen writer.old).bytes) }
-    ensures progress { IfOk result (λ n. 0 < length piece.now → patience.new < patience.old + n) }
-    ensures tries { TriesToWrite (W.seen writer.old) (W.seen writer.new) patience.old patience.new result }
-    ensures no_wait { IfOk result (λ n. 0 < n → waits_since_bytes (W.seen writer.new).calls ≡ 0) }
-{
-    match writer.write_some(piece) {
-        Ok(0) if !piece.is_empty() => Err(WriteFault),
-        Ok(count) => Ok(count),
-        Err(Stop::Failed) => Err(WriteFault),
-        Err(Stop::Interrupted) => {
-            *patience -= 1;
-            if *patience == 0 {
-                Err(WriteFault)
-            } else {
-                Ok(0)
-            }
-        }
-    }
 }

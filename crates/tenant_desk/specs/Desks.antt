@@ -4,7 +4,7 @@ use Rattle.trace_types.specs.tenant.Tenant.{Tenant}
 use Rattle.trace_types.specs.declared.row.Row.{Row}
 use Rattle.tenant_desk.specs.Histories.{Log}
 
--- the tenant, the rows that its views see, and the log in which they stand
+-- the tenant, the rows of its log that are published, and that log
 pub record Desk : Type 0 where
   pub tenant : Tenant
   pub published : List Row

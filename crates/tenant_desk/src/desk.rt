@@ -2,6 +2,7 @@
 ghost use Rattle.std.specs.Prelude.{◌≡◌, [], true, false, IfOk, MatchOption};
 ghost use Rattle.std.specs.Arc.{arc_value};
 ghost use Rattle.trace_types.specs.tenant.Tenant.{AreLegal, Steps, fresh, is_report};
+ghost use Rattle.trace_types.specs.text.Name.{root};
 ghost use Rattle.trace_types.specs.text.StampText.{stamp_text};
 
 use crate::Told;
@@ -34,7 +35,7 @@ impl Model for Desk {
 
     ghost Value = { Seen };
 
-    ghost view = { λ d. record { tenant = tenant_of d.publisher.events; published = d.publisher.events.rows; book = d.publisher.front.book; home = d.publisher.events.home } };
+    ghost view = { λ d. record { tenant = tenant_of d.publisher.events; published = d.publisher.front.rows; book = d.publisher.front.book; home = d.publisher.events.home } };
 }
 
 impl Desk {
@@ -103,7 +104,7 @@ impl Desk {
         ensures home { self.new.home ≡ self.old.home }
     {
         self.publisher.report(rt, &mut self.stack, request, reply);
-        // For the proof: it says that the rows are legal.
+        // For the proof: it says that the rows are legal, and that all of them are shown.
         let _ = self.publisher.events();
     }
 
@@ -151,6 +152,7 @@ pub fn desk_and_views<R: Wait>(
     ensures published { IfOk result (λ made. made.0.published ≡ []) }
     ensures home { IfOk result (λ made. made.0.home ≡ ⟦<Shared as Keep>⟧.home (arc_value shared)) }
     ensures views { IfOk result (λ made. made.1 ≡ record { left = 8; limits = limits; book = made.0.book }) }
+    ensures log { IfOk result (λ made. made.0.book.tenant ≡ root) }
 {
     named_desk_and_views(rt, alloc, &Name::root(), limits, shared)
 }

@@ -3,9 +3,10 @@
 //! Use it if other threads are to ask about events while reports come in. A view waits for nobody.
 //!
 //! The contract that carries it: [`Desk::call`] is one step of the tenant alone, or it runs out of memory and changes
-//! nothing. When it returns, the views see all accepted rows. [`View::ask`] answers as the tenant is due at a legal list
-//! of rows. A view never goes back: that list begins with every list that the view saw or was told of. `specs/Views.antt`
-//! and `specs/Desks.antt` define what contracts see of both.
+//! nothing. When it returns, all accepted rows are published. [`View::ask`] answers as the tenant is due at a legal list
+//! of rows. A view never goes back: that list begins with every list that the view saw or was told of. A view that
+//! learned what the desk tells ([`Desk::tell`]) answers at all rows that were accepted by then. `specs/Views.antt` and
+//! `specs/Desks.antt` define what contracts see of both.
 //!
 //! ```
 //! use std::sync::Arc;

@@ -160,6 +160,7 @@ impl Publisher {
         ensures events { roomless result.now ≡ self.now.events }
         ensures kept { IsKept result.now }
         ensures seeded { 0 < result.now.kept_ids }
+        ensures rows { self.now.front.rows ≡ self.now.events.rows }
     {
         self.writer.published().events()
     }

@@ -1,4 +1,5 @@
 pub mod Crossing
+pub mod Packing
 pub mod Words
 pub mod clock
 pub mod keeping

@@ -10,7 +10,7 @@ pub use Rattle.event_tree.specs.Comparison.{IsBelow, StandsAs}
 pub use Rattle.tenant_ledger.specs.Answers.{code_of}
 pub use Rattle.tenant_ledger.specs.ClockLaws.{ClockLaws, OwnsSome, Raises}
 pub use Rattle.tenant_ledger.specs.Invariant.{EventsHavePrivatePoints, HasPrivatePoint, HolderIsAhead, holds, Invariant, IsPrivate, OneHolder, TreesRise, value_of}
-pub use Rattle.tenant_ledger.specs.Ledger.{acting_after, ArePoints, Contents, count_with, count_with_some, Decides, earlier_of, Event, event_of, HasRoom, history_in, id_after, id_for, id_left, ids_made, IsKept, IsKeptWith, IsMessage, IsReady, IsReport, IsTask, joined_by, last_in, last_receipt, made_ids, MayHavePoint, MayRaise, message_count_with, message_in, messages_with, named_after, noted_after, of_each, Prepares, receipt_before, received_by, refusals_of_named, refusals_of_received, refusals_of_report, refusals_of_room, row_of_report, start_of, task_count_with, task_in, tasks_with, tenant_of, value_with, value_with_some, with_event, with_seed}
+pub use Rattle.tenant_ledger.specs.Ledger.{acting_after, ArePoints, Contents, count_with, count_with_some, Decides, earlier_of, Event, event_of, HasReceipts, HasRoom, history_in, id_after, id_for, id_left, ids_made, IsKept, IsKeptWith, IsMessage, IsReady, IsReport, IsTask, joined_by, last_in, last_receipt, made_ids, MayHavePoint, MayRaise, message_count_with, message_in, messages_with, named_after, noted_after, of_each, Prepares, receipt_before, receipts_in, received_by, refusals_of_named, refusals_of_received, refusals_of_report, refusals_of_room, row_of_report, start_of, task_count_with, task_in, tasks_with, tenant_of, value_with, value_with_some, with_event, with_seed}
 pub use Rattle.tenant_ledger.specs.Legal.{Allows, AllowsNamed, IsLegal, IsLive}
 pub use Rattle.tenant_ledger.specs.declared.book.message.Message.{Message}
 pub use Rattle.tenant_ledger.specs.declared.book.report.Report.{Report}

@@ -6,7 +6,7 @@ use Rattle.indexmap.specs.IndexMap.{insert_entry}
 use Rattle.indexmap.specs.IndexSet.{insert_key}
 use Rattle.trace_types.specs.text.Name.{Text, is_same, root}
 use Rattle.trace_types.specs.tenant.Limits.{Limits}
-use Rattle.trace_types.specs.tenant.Rows.{History, history_of, is_known, is_ended, is_joined, state_of, last_event, start_event, is_sent, has_received, newest, receives, send_event, task_count, message_count}
+use Rattle.trace_types.specs.tenant.Rows.{History, history_of, is_known, is_ended, is_joined, state_of, last_event, start_event, is_sent, has_received, newest, receives, send_event, receipts, task_count, message_count}
 use Rattle.trace_types.specs.tenant.Reachability.{second_event}
 use Rattle.trace_types.specs.tenant.Refusal.{first_code, refusals, has_all_events, has_all_tasks, has_all_messages}
 use Rattle.trace_types.specs.clock.Clock.{tree_clock}
@@ -99,6 +99,12 @@ abbrev pub IsMessage : History → Text → Option Message → Type 0
 IsMessage history name None = is_sent history name ≡ false
 IsMessage history name (Some message) =
     (is_sent history name ≡ true) × (message.sent ≡ send_event history name) × (message.last ≡ last_receipt history name)
+    × (message.receipts ≡ length (receipts history name))
+
+-- some message has this last receipt, or 0, and so many receipts
+abbrev pub HasReceipts : Contents → ℕ → ℕ → Type 0
+HasReceipts book last count =
+    (message : Text) × (last ≡ last_receipt (history_in book) message) × (count ≡ length (receipts (history_in book) message))
 
 -- the last receipt of the message that such a report receives, or 0
 abbrev pub receipt_before : History → Kind → Option Text → ℕ
@@ -312,14 +318,19 @@ named_after kind event place joined = None
 
 -- what is to be kept of the message that it sends, or that it receives
 abbrev pub noted_after : Kind → ℕ → Option Message → Option Message
-noted_after Send event received = Some (record { sent = event; last = 0 })
+noted_after Send event received = Some (record { sent = event; last = 0; receipts = 0 })
 noted_after kind event None = None
-noted_after kind event (Some message) = Some (record message { last = event })
+noted_after kind event (Some message) = Some (record message { last = event; receipts = message.receipts + 1 })
 
 -- the last receipt of a message that is received, or 0
 abbrev pub last_in : Option Message → ℕ
 last_in None = 0
 last_in (Some message) = message.last
+
+-- and how many it has, or 0
+abbrev pub receipts_in : Option Message → ℕ
+receipts_in None = 0
+receipts_in (Some message) = message.receipts
 
 -- the receipt of a message that is received, by the task that this event started, or by root if it is 0
 abbrev pub key_by : ℕ → Option Message → Option ReceiptKey

@@ -1,8 +1,10 @@
 pub mod Answers
 pub mod ClockLaws
-pub mod Legal
+pub mod IdValues
 pub mod Invariant
-pub mod Ledger
 pub mod Laws
+pub mod Ledger
+pub mod Legal
+pub mod Packing
 pub mod Size
 pub mod Upcoming

@@ -2,6 +2,7 @@
 ghost use Rattle.std.specs.Prelude.{◌≡◌, ◌-◌, ◌<◌, ◌≤◌, ◌==◌, if◌then◌else◌, true, IsTrue, IfOk, IfErr, OnOk, MatchBool, Some, None, length, slice_get};
 ghost use Rattle.trace_types.specs.tenant.Limits.{are_limits};
 ghost use Rattle.trace_types.specs.tenant.Rows.{is_event};
+ghost use Rattle.tenant_ledger.specs.IdValues.{id_of};
 ghost use Rattle.tenant_ledger.specs.Ledger.{HasAllRoom, HasRoom, HasRoomFor, IsKept, history_in, id_after, message_in, new_book, roomless, task_in};
 
 mod commit;
@@ -9,12 +10,13 @@ mod draft;
 mod ids;
 mod kept;
 mod message;
+mod packing;
 mod receipts;
 mod report;
 mod room;
 mod task;
 
-use crate::share::{Keep, MeantId, Share};
+use crate::share::{IdValue, Keep, KeptId, Share};
 pub use draft::Draft;
 use event_tree::RaisedPoint;
 use id_tree::IdTree;
@@ -58,6 +60,8 @@ pub struct Book<S: Keep> {
     room: Room,
     /// Each id that some task has or had, that of `root` first.
     ids: Vec<S::Id>,
+    /// How many nodes of these ids could be given back, or fewer. It is there for less memory alone.
+    loose: u64,
     tasks: IndexMap<Name, Task>,
     messages: IndexMap<Name, Message>,
 }
@@ -133,6 +137,7 @@ impl<S: Keep> Book<S> {
             received,
             room,
             ids,
+            loose: 0,
             tasks,
             messages,
         })
@@ -281,13 +286,14 @@ impl<S: Keep> Book<S> {
         &self.ids[place]
     }
 
-    /// The id that is kept at the place.
-    fn id(&self, place: usize) -> &IdTree
+    /// The id that is kept at the place. Returns `Memory` if it is not kept as a tree, and memory runs out.
+    #[inline(always)]
+    fn id(&self, place: usize) -> Result<IdValue<'_>, Memory>
         requires place { place < length self.now.ids }
         requires seeded { 0 < self.now.kept_ids }
-        ensures { slice_get self.now.ids place ≡ Some result.now }
+        ensures { IfOk result (λ id. slice_get self.now.ids place ≡ Some (id_of id)) }
     {
-        self.id_at(place).id_value()
+        self.id_at(place).tree(self.alloc)
     }
 
     /// How many ids are kept.

@@ -12,7 +12,7 @@ ghost use Rattle.tenant_ledger.specs.Size.{AreShort, AreSized, HaveShortParts, I
 
 use crate::book::Book;
 use crate::query_answers::{answer, counts_of, order_of, place_of};
-use crate::share::{Keep, MeantId, Share};
+use crate::share::{Keep, KeptId, Share};
 use crate::{PlainShare, Prepared, Stack, laws};
 use std::alloc::Global;
 use std::marker::Model;

@@ -29,6 +29,8 @@
 mod book;
 pub mod laws;
 mod ledger;
+mod packed_id;
+mod packed_share;
 mod plain_share;
 mod prepared;
 mod query_answers;
@@ -38,9 +40,11 @@ mod stack;
 
 pub use book::{Book, Draft};
 pub use ledger::Ledger;
+pub use packed_id::PackedId;
+pub use packed_share::PackedShare;
 pub use plain_share::PlainShare;
 pub use prepared::Prepared;
 pub use query_answers::{answer, counts_of, order_of};
-pub use share::{Keep, MeantId, Share};
+pub use share::{IdValue, Keep, KeptId, MeantId, Share};
 pub use shared::Shared;
 pub use stack::Stack;

@@ -9,7 +9,7 @@ ghost use Rattle.trace_types.specs.declared.reply.Reply.TheVariants as reply;
 ghost use Rattle.tenant_ledger.specs.Ledger.{MayHavePoint, start_of};
 
 use crate::book::{Book, Draft};
-use crate::share::{Keep, MeantId, Share};
+use crate::share::{Keep, KeptId, Share};
 use crate::{Ledger, PlainShare, Stack};
 use event_tree::RaisedPoint;
 use std::marker::Model;

@@ -1,20 +1,22 @@
 //! Answers to the queries of a tenant, from what is kept of its events.
-ghost use Rattle.std.specs.Prelude.{◌≡◌, ◌<◌, IfErr, IfOk, IfSome, false, is_some, length, map, suc};
+ghost use Rattle.std.specs.Prelude.{◌≡◌, ◌<◌, All, IfErr, IfOk, IfSome, false, is_some, length, map, suc, true};
 ghost use Rattle.trace_query.specs.Deciding.{DecideInOrder};
 ghost use Rattle.trace_query.specs.Queries.{StandInOrder};
 ghost use Rattle.trace_types.specs.clock.Clock.{tree_clock};
 ghost use Rattle.trace_types.specs.clock.Stamps.{tree_of};
 ghost use Rattle.trace_types.specs.tenant.Rows.{is_event};
+ghost use Rattle.trace_types.specs.text.StampText.{stamp_text as text_of_parts};
 ghost use Rattle.trace_types.specs.tenant.Tenant.{Answers, reply_to_view};
 ghost use Rattle.tenant_ledger.specs.Answers.{code_of, is_brief, order_answer};
-ghost use Rattle.tenant_ledger.specs.Ledger.{IsKept, history_in, of_each, tenant_of};
+ghost use Rattle.tenant_ledger.specs.Ledger.{IsKept, history_in, id_after, of_each, tenant_of};
 
 use crate::book::Book;
-use crate::share::Keep;
-use event_tree::RaisedPoint;
+use crate::share::{Keep, KeptId};
+use event_tree::{EvTree, RaisedPoint};
 use stamp_codec::write_parts;
 use trace_query::{
-    Compare, Meant, QueryFault, concurrent_by_points, cut_by_points, past_by_points,
+    Compare, Meant, QueryFault, concurrent_by_points, cut_by_points, order_by_points,
+    past_by_points,
 };
 use trace_types::{Code, Memory, Name, Numbers, Order, Reply, Request, Text};
 
@@ -38,14 +40,19 @@ pub fn answer<S: Keep, C: Compare<S::Kept>>(book: &Book<S>, compare: &C, request
             let (events, tasks, messages) = counts_of(book);
             Reply::Count(events, tasks, messages)
         }
-        _ => answer_at_length(book, request),
+        _ => answer_at_length(book, compare, request),
     }
 }
 
 /// Answers any other request.
 #[inline(never)]
-fn answer_at_length<S: Keep>(book: &Book<S>, request: &Request) -> Reply
+fn answer_at_length<S: Keep, C: Compare<S::Kept>>(
+    book: &Book<S>,
+    compare: &C,
+    request: &Request,
+) -> Reply
     requires sound { IsKept book.now }
+    requires admitted { (kept : S.Kept) → S.home_of kept ≡ book.now.home → C.admits compare.now kept }
     requires long { is_brief request.now ≡ false }
     ensures { Answers (tenant_of book.now) request.now result }
 {
@@ -57,9 +64,9 @@ fn answer_at_length<S: Keep>(book: &Book<S>, request: &Request) -> Reply
         | Request::End(_)
         | Request::Join(..) => Reply::Refused(Code::ViewOnly),
         Request::Order(..) | Request::Count => unreachable!(),
-        Request::Past(event) => past(book, event),
-        Request::Concurrent(event) => concurrent_with(book, event),
-        Request::Cut(event) => cut(book, event),
+        Request::Past(event) => past(book, compare, event),
+        Request::Concurrent(event) => concurrent_with(book, compare, event),
+        Request::Cut(event) => cut(book, compare, event),
         Request::Event(event) => row(book, event),
         Request::Stamp(event) => stamp(book, event),
         Request::Task(name) => task(book, &name),
@@ -79,43 +86,48 @@ pub fn order_of<S: Keep, C: Compare<S::Kept>>(
     requires admitted { (kept : S.Kept) → S.home_of kept ≡ book.now.home → C.admits compare.now kept }
     ensures { order_answer result ≡ reply_to_view (tenant_of book.now) (Request.Order first second) }
 {
-    match trace_query::order(compare, book.trees(), first, second) {
+    let (trees, points) = trees_and_points(book);
+    match order_by_points(compare, trees, points, first, second) {
         Ok(order) => Ok(order),
         Err(fault) => Err(code_of(fault)),
     }
 }
 
 /// The other events that reach the event.
-fn past<S: Keep>(book: &Book<S>, event: u64) -> Reply
-    requires { IsKept book.now }
+fn past<S: Keep, C: Compare<S::Kept>>(book: &Book<S>, compare: &C, event: u64) -> Reply
+    requires sound { IsKept book.now }
+    requires admitted { (kept : S.Kept) → S.home_of kept ≡ book.now.home → C.admits compare.now kept }
     ensures { Answers (tenant_of book.now) (Request.Past event) result }
 {
     let (trees, points) = trees_and_points(book);
-    listed(past_by_points(book.alloc(), trees, points, event))
+    listed(past_by_points(compare, book.alloc(), trees, points, event))
 }
 
 /// The events that neither reach the event nor are reached from it.
-fn concurrent_with<S: Keep>(book: &Book<S>, event: u64) -> Reply
-    requires { IsKept book.now }
+fn concurrent_with<S: Keep, C: Compare<S::Kept>>(book: &Book<S>, compare: &C, event: u64) -> Reply
+    requires sound { IsKept book.now }
+    requires admitted { (kept : S.Kept) → S.home_of kept ≡ book.now.home → C.admits compare.now kept }
     ensures { Answers (tenant_of book.now) (Request.Concurrent event) result }
 {
     let (trees, points) = trees_and_points(book);
-    listed(concurrent_by_points(book.alloc(), trees, points, event))
+    listed(concurrent_by_points(compare, book.alloc(), trees, points, event))
 }
 
 /// The last event of each task that reaches the event.
-fn cut<S: Keep>(book: &Book<S>, event: u64) -> Reply
-    requires { IsKept book.now }
+fn cut<S: Keep, C: Compare<S::Kept>>(book: &Book<S>, compare: &C, event: u64) -> Reply
+    requires sound { IsKept book.now }
+    requires admitted { (kept : S.Kept) → S.home_of kept ≡ book.now.home → C.admits compare.now kept }
     ensures { Answers (tenant_of book.now) (Request.Cut event) result }
 {
     let (trees, points) = trees_and_points(book);
-    listed(cut_by_points(book.alloc(), trees, points, book.starts(), event))
+    listed(cut_by_points(compare, book.alloc(), trees, points, book.starts(), event))
 }
 
 /// What each event knows, and a point of each, as a search by points wants them.
 #[inline(always)]
 fn trees_and_points<S: Keep>(book: &Book<S>) -> (&[S::Kept], &[Option<RaisedPoint>])
     requires { IsKept book.now }
+    ensures kept { All (λ kept. S.home_of kept ≡ book.now.home) result.0.now }
     ensures trees { map S.Kept.tree result.0.now ≡ of_each (tree_of tree_clock) (history_in book.now) }
     ensures in_order { StandInOrder (map S.Kept.tree result.0.now) }
     ensures decided { DecideInOrder (map S.Kept.tree result.0.now) result.1.now }
@@ -143,10 +155,20 @@ fn stamp<S: Keep>(book: &Book<S>, event: u64) -> Reply
         return Reply::Refused(Code::NoEvent);
     };
     let tree = book.trees()[place].tree_value();
-    match write_parts(book.alloc(), book.stamp_id(event), tree) {
+    match stamp_text(book, event, tree) {
         Ok(text) => Reply::Stamp(Text::from(text)),
         Err(refused) => Reply::Refused(Code::from(refused)),
     }
+}
+
+/// The text of the stamp of the event, whose tree this is. Returns `Memory` if it runs out of memory.
+fn stamp_text<S: Keep>(book: &Book<S>, event: u64, tree: &EvTree) -> Result<Vec<u8>, Memory>
+    requires kept { IsKept book.now }
+    requires event { is_event (history_in book.now) event ≡ true }
+    ensures { IfOk result (λ text. text.items ≡ text_of_parts (id_after (history_in book.now) event) tree.now) }
+{
+    let id = book.event_id(event).tree(book.alloc())?;
+    write_parts(book.alloc(), id.as_tree(), tree)
 }
 
 /// The place of the event in the lists, if there is such an event.

@@ -1,35 +1,98 @@
 //! What ledgers keep their ids and trees by.
 ghost use Rattle.std.specs.Prelude.{◌≡◌, ℕ, List, IfOk};
 ghost use Rattle.trace_types.specs.clock.Id.{Id};
+ghost use Rattle.tenant_ledger.specs.IdValues.{id_of};
 
 use event_tree::EvTree;
 use id_tree::IdTree;
+use std::alloc::Global;
 use std::sync::Arc;
 use trace_query::{Compare, Meant};
 use trace_types::Memory;
 use tree_forest::Tree;
 
 /// A value that stands for an id, in whatever form it is kept.
-pub trait MeantId {
+///
+/// What is asked of it takes memory only if the id is not kept as a tree.
+pub trait KeptId {
     // the id for which it stands
     ghost id: { Self → Id };
 
+    /// The id for which it stands. Returns `Memory` if the tree has to be made and memory runs out.
+    fn tree(&self, alloc: Global) -> Result<IdValue<'_>, Memory>
+        ensures { IfOk result (λ value. id_of value ≡ id self.now) };
+
+    /// How many inner nodes of a tree may be given back by [`KeptId::pack`].
+    fn loose_nodes(&self) -> u64 {
+        0
+    }
+
+    /// Keeps the id as a tree from now on, if there is memory for it. It gives how many inner nodes were made.
+    fn unpack(&mut self, _alloc: Global) -> u64
+        ensures { id self.new ≡ id self.old }
+    {
+        0
+    }
+
+    /// Keeps the id in less memory from now on, if that can be done.
+    fn pack(&mut self, _alloc: Global)
+        ensures { id self.new ≡ id self.old }
+    {}
+}
+
+/// An id that is kept as a tree.
+pub trait MeantId: KeptId {
     /// The id for which it stands. It takes no memory.
     fn id_value(&self) -> &IdTree
-        ensures { result.now ≡ id self.now };
+        ensures { result.now ≡ Self.KeptId.id self.now };
+}
+
+/// The tree of a kept id.
+#[derive(Drop)]
+pub enum IdValue<'a> {
+    /// The tree as it is kept.
+    Lent(&'a IdTree),
+    /// A tree that was made of what is kept.
+    Made(IdTree),
+}
+
+impl IdValue<'_> {
+    #[inline(always)]
+    pub fn as_tree(&self) -> &IdTree
+        ensures { result.now ≡ id_of self.now }
+    {
+        match self {
+            IdValue::Lent(id) => id,
+            IdValue::Made(id) => id,
+        }
+    }
+}
+
+impl KeptId for IdTree {
+    ghost id = { λ id. id };
+
+    #[inline(always)]
+    fn tree(&self, _alloc: Global) -> Result<IdValue<'_>, Memory> {
+        Ok(IdValue::Lent(self))
+    }
 }
 
 impl MeantId for IdTree {
-    ghost id = { λ id. id };
-
     fn id_value(&self) -> &IdTree {
         self
     }
 }
 
-impl MeantId for Tree<IdTree> {
+impl KeptId for Tree<IdTree> {
     ghost id = { λ tree. tree.value };
 
+    #[inline(always)]
+    fn tree(&self, _alloc: Global) -> Result<IdValue<'_>, Memory> {
+        Ok(IdValue::Lent(self.value()))
+    }
+}
+
+impl MeantId for Tree<IdTree> {
     fn id_value(&self) -> &IdTree {
         self.value()
     }
@@ -45,7 +108,7 @@ pub trait Keep: Drop + Compare<<Self as Keep>::Kept> {
     type Kept: Meant + Drop;
 
     /// What is kept of an id.
-    type Id: MeantId + Drop;
+    type Id: KeptId + Drop;
 
     // where the trees are that it keeps
     ghost home: { Self → List ℕ };

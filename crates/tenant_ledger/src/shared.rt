@@ -1,14 +1,15 @@
 //! A share that keeps the ids and trees of all tenants together.
-ghost use Rattle.std.specs.Prelude.{◌≡◌, ◌≢◌, ◌↔◌, IfErr, IfOk, IsErrOf};
+ghost use Rattle.std.specs.Prelude.{◌≡◌, ◌≢◌, ◌↔◌, ◌≤◌, IfErr, IfOk, IfSome, IsErrOf, IsTrue};
+ghost use Rattle.trace_types.specs.clock.EventTree.{value};
 ghost use Rattle.order_cache.specs.Capacity.{IsCapacity};
 
 use crate::{Keep, Share};
-use event_tree::EvTree;
+use event_tree::{EvTree, RaisedPoint};
 use id_tree::IdTree;
 use order_cache::{CacheFault, OrderCache};
 use std::alloc::Global;
 use std::sync::{Arc, Wait};
-use trace_query::Compare;
+use trace_query::{Compare, Earlier};
 use trace_types::{Memory, Order, WorldFault};
 use tree_forest::{Forest, Home, Tree};
 
@@ -93,6 +94,41 @@ impl Compare<Tree<EvTree>> for Shared {
     fn order(&self, first: &Tree<EvTree>, second: &Tree<EvTree>) -> Order {
         self.orders.order(&self.trees, first, second)
     }
+
+    /// By the cache for the first questions, and where the point does not tell it within few levels.
+    #[inline(always)]
+    fn order_at(
+        &self,
+        deciding: &RaisedPoint,
+        earlier: Earlier,
+        first: &Tree<EvTree>,
+        second: &Tree<EvTree>,
+    ) -> Order {
+        if self.orders.is_at_first_asks() {
+            return self.order(first, second);
+        }
+        let (later, standing) = match earlier {
+            Earlier::First => (second, Order::Before),
+            Earlier::Second => (first, Order::After),
+        };
+        match is_below_within(deciding, later) {
+            Some(true) => standing,
+            Some(false) => Order::Concurrent,
+            None => self.order(first, second),
+        }
+    }
+}
+
+/// A walk of so many levels takes less time than a look-up.
+const FEW_LEVELS: u64 = 16;
+
+/// Whether the tree has the value at the point, if few levels tell it.
+#[inline(always)]
+fn is_below_within(deciding: &RaisedPoint, tree: &Tree<EvTree>) -> Option<bool>
+    ensures { IfSome result (λ is. IsTrue is ↔ (deciding.now.value ≤ value tree.now.value deciding.now.point)) }
+{
+    tree.value()
+        .is_at_least_within(&deciding.point, deciding.value, FEW_LEVELS)
 }
 
 impl<R: Wait> Share<R> for Shared {

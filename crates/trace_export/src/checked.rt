@@ -93,7 +93,7 @@ fn follow(
     ensures faulty { IfOk result (λ taken. IfSome taken.1
         (λ reason. IsRefused reason follower.header (placing_of (history_of follower.ledger.rows)) line.now)) }
 {
-    let (follower, is_due) = follow_with_room(follower, &mut graph, line);
+    let (follower, is_due) = follow_with_room(alloc, follower, &mut graph, line);
     if is_due {
         return Ok((Checked::Due(follower, graph), None));
     }
@@ -104,7 +104,12 @@ fn follow(
 
 /// Takes the line if it is the one that is due, and says whether it is. Before that it makes room in the graph for what the
 /// line lists. If there is none, the line is compared, since the tenant's memory is given back for that.
-fn follow_with_room(follower: Follower, graph: &mut Graph, line: &[u8]) -> (Follower, bool)
+fn follow_with_room(
+    alloc: Global,
+    follower: Follower,
+    graph: &mut Graph,
+    line: &[u8],
+) -> (Follower, bool)
     requires following { IsFollowing follower graph.old }
     requires short { length line.now ≤ 65536 }
     ensures due { IsTrue result.1 → IsEventMade follower result.0 line.now }
@@ -115,7 +120,7 @@ fn follow_with_room(follower: Follower, graph: &mut Graph, line: &[u8]) -> (Foll
     if graph.make_room_for(follower.events() + 1).is_err() {
         return (follower, false);
     }
-    follower.follow(&(), line)
+    follower.follow(&(), alloc, line)
 }
 
 /// Nothing yet behind this header, or without one. It is followed if there is memory for it.

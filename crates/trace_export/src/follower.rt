@@ -10,10 +10,13 @@ use crate::Header;
 use crate::header::limits_under;
 use crate::line_text::{hinted_report, is_due_line};
 use std::alloc::Global;
-use tenant_ledger::{Ledger, Prepared};
+use tenant_ledger::{KeptId, Ledger, PackedShare, Prepared};
 use trace_types::{Limits, Memory};
 
 mod making;
+
+/// A ledger that packs the ids that were not used lately. An id of a deep tree else takes as much as the tree.
+pub(crate) type PackedLedger = Ledger<PackedShare>;
 
 /// What the lines so far lead to, which are right.
 #[derive(Drop)]
@@ -21,7 +24,7 @@ pub(crate) struct Follower {
     /// The first of the lines, if it is a header.
     pub(crate) header: Option<Header>,
     /// What the requests of the others leave.
-    pub(crate) ledger: Ledger,
+    pub(crate) ledger: PackedLedger,
 }
 
 impl Follower {
@@ -30,7 +33,7 @@ impl Follower {
         ensures header { IfOk result (λ follower. follower.header ≡ header.now) }
         ensures fresh { IfOk result (λ follower. follower.ledger ≡ fresh (limits_under header.now)) }
     {
-        let ledger = Ledger::new(alloc, limits_under(header))?;
+        let ledger = Ledger::with_share(alloc, limits_under(header), PackedShare)?;
         Ok(Follower {
             header: *header,
             ledger,
@@ -64,7 +67,7 @@ impl Follower {
 
     /// Takes the line if it is the one that an export has of the next event, and says whether it is. Else all is as it was,
     /// also if it runs out of memory. No such line is a header.
-    pub(crate) fn follow<T>(self, rt: &T, line: &[u8]) -> (Follower, bool)
+    pub(crate) fn follow<T>(self, rt: &T, alloc: Global, line: &[u8]) -> (Follower, bool)
         requires limits { self.ledger.limits ≡ limits_under self.header }
         requires short { length line.now ≤ 65536 }
         ensures due { IsTrue result.1 → IsEventMade self result.0 line.now }
@@ -73,14 +76,20 @@ impl Follower {
     {
         let Follower { header, ledger } = self;
         let limits = limits_under(&header);
-        let (ledger, is_due) = report_if_due(rt, ledger, &limits, line);
+        let (ledger, is_due) = report_if_due(rt, alloc, ledger, &limits, line);
         (Follower { header, ledger }, is_due)
     }
 }
 
 /// Takes the report of the next event, if the line is the one that an export has of it, and says whether it did. The ledger
 /// is as it was if the line is another one, or if it runs out of memory.
-fn report_if_due<T>(rt: &T, ledger: Ledger, limits: &Limits, line: &[u8]) -> (Ledger, bool)
+fn report_if_due<T>(
+    rt: &T,
+    alloc: Global,
+    ledger: PackedLedger,
+    limits: &Limits,
+    line: &[u8],
+) -> (PackedLedger, bool)
     requires limits { ledger.limits ≡ limits.now }
     requires short { length line.now ≤ 65536 }
     ensures due { IsTrue result.1 → IsFollowed ledger result.0 line.now }
@@ -93,20 +102,29 @@ fn report_if_due<T>(rt: &T, ledger: Ledger, limits: &Limits, line: &[u8]) -> (Le
     };
     let number = ledger.rows().len() as u64 + 1;
     match ledger.prepare(rt, &report) {
-        Ok(prepared) => commit_if_due(prepared, number, line),
+        Ok(prepared) => commit_if_due(alloc, prepared, number, line),
         Err((ledger, _)) => (ledger, false),
     }
 }
 
 /// Commits the report if the line is the one that an export has of its event, which has this number. It says whether it is.
-fn commit_if_due(prepared: Prepared, number: u64, line: &[u8]) -> (Ledger, bool)
+fn commit_if_due(
+    alloc: Global,
+    prepared: Prepared<PackedShare>,
+    number: u64,
+    line: &[u8],
+) -> (PackedLedger, bool)
     requires { number ≡ suc (length prepared.tenant.rows) }
     ensures due { IsTrue result.1 → line.now ≡ line_of_next number prepared.tenant.rows prepared.row }
     ensures committed { IsTrue result.1 → result.0 ≡ with_row prepared.tenant (Some prepared.row) }
     ensures legal { IsTrue result.1 → AreLegal result.0.limits result.0.rows }
     ensures left { result.1 ≡ false → result.0 ≡ prepared.tenant }
 {
-    if !is_due_line(line, number, prepared.row(), prepared.id(), prepared.tree()) {
+    let is_due = match prepared.id().tree(alloc) {
+        Ok(id) => is_due_line(line, number, prepared.row(), id.as_tree(), prepared.tree()),
+        Err(_) => false,
+    };
+    if !is_due {
         return (prepared.abandon(), false);
     }
     let (ledger, _) = prepared.commit();

@@ -10,13 +10,13 @@ ghost use Rattle.trace_export.specs.Verdict.{IsOrderedNext};
 
 use crate::bits::{add_bit, add_bits, no_bits};
 use crate::chains::Chains;
+use crate::follower::PackedLedger;
 use crate::hints::Hints;
 use crate::placed::{Placed, place_all};
 use crate::sides::Sides;
 use event_tree::{EvTree, RaisedPoint};
 use std::alloc::{AllocError, Global};
 use std::mem;
-use tenant_ledger::Ledger;
 use trace_types::{Memory, Preds};
 
 mod listed;
@@ -109,7 +109,7 @@ impl Graph {
 
     /// Lists all events of the tenant, whose trees compare as its edges say, and gives the rest of the tenant back. No more than
     /// what is listed of them is kept before another event has to be compared.
-    pub(crate) fn list(&mut self, alloc: Global, ledger: Ledger) -> Result<(), Memory>
+    pub(crate) fn list(&mut self, alloc: Global, ledger: PackedLedger) -> Result<(), Memory>
         requires graph { IsKeptGraph self.old }
         requires none { self.old.placed.items ≡ [] }
         requires few { length ledger.rows ≤ 16384 }

@@ -98,7 +98,7 @@ fn take<T>(
     ensures { IfOk result (λ taken. IsTaken found line.now taken.1 follower taken.0) }
 {
     let (mut follower, is_due) = match found {
-        Line::Whole if *follows => follower.follow(rt, line),
+        Line::Whole if *follows => follower.follow(rt, alloc, line),
         Line::Whole | Line::End | Line::TooLong => (follower, false),
     };
     if is_due {

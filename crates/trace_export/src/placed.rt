@@ -9,10 +9,10 @@ ghost use Rattle.trace_export.specs.Verdict.{AreIncreasingBefore, IsPlacedAs, Is
 
 use crate::Reason;
 use crate::event_line::EventLine;
+use crate::follower::PackedLedger;
 use event_tree::EvTree;
 use stamp_codec::{StampFault, read_stamp_beside};
 use std::alloc::Global;
-use tenant_ledger::Ledger;
 use trace_types::{Limits, Memory, Preds, Row};
 
 /// The events that an event follows, and its tree.
@@ -77,7 +77,7 @@ fn read_tree(alloc: Global, stamp: &str, like: &EvTree) -> Result<Option<EvTree>
 pub(crate) fn place_all(
     placed: &mut Vec<Placed>,
     alloc: Global,
-    ledger: &Ledger,
+    ledger: &PackedLedger,
 ) -> Result<(), Memory>
     requires { placed.old.items ≡ [] }
     ensures { OnOk result (placed.new.items ≡ placing_of (history_of ledger.now.rows)) }
@@ -90,7 +90,7 @@ pub(crate) fn place_all(
 }
 
 /// What an export lists of the tenant's event at this place.
-fn placed_in(alloc: Global, ledger: &Ledger, place: usize) -> Result<Placed, Memory>
+fn placed_in(alloc: Global, ledger: &PackedLedger, place: usize) -> Result<Placed, Memory>
     requires { place < length ledger.now.rows }
     ensures { IfOk result (λ placed. placed ≡ placed_at (placing_of (history_of ledger.now.rows)) (suc place)) }
 {

@@ -1,5 +1,5 @@
 -- Trees that stand in the order of their events need one look at each pair.
-use Rattle.std.proofs.Common.{◌≡◌, ◌↔◌, ℕ, zero, suc, ◌+◌, ◌-◌, ◌<◌, Bool, true, not, ◌&&◌, IsTrue, Option, List, [], ◌∷◌, length, get_or, take, map, Ok, sym, ◌∙◌, arith, length-take-le, get_or-take}
+use Rattle.std.proofs.Common.{◌≡◌, ◌↔◌, ℕ, zero, suc, ◌+◌, ◌-◌, ◌<◌, Bool, true, not, ◌&&◌, IsTrue, Option, Some, None, List, [], ◌∷◌, length, get_or, take, map, Ok, sym, ◌∙◌, arith, length-take-le, get_or-take}
 use Rattle.std.specs.Global.{Vec}
 use Rattle.std.proofs.lemmas.Bool.{false≢true, and_parts, not-true, not_from_false}
 use Rattle.std.proofs.lemmas.List.{length-map}
@@ -8,7 +8,9 @@ use Rattle.trace_types.specs.declared.order.Order.TheVariants.{Before, Concurren
 use Rattle.trace_types.specs.clock.EventTree.{EventTree, Leaf}
 use Rattle.event_tree.specs.Comparison.{IsBelow}
 use Rattle.trace_query.specs.Compared.{is_below}
-use Rattle.trace_query.specs.Deciding.{IsDecidedBy, DecideInOrder, point_in}
+use Rattle.trace_query.specs.declared.compare.Earlier.{Earlier}
+use Rattle.trace_query.specs.declared.compare.Earlier.TheVariants.{First, Second}
+use Rattle.trace_query.specs.Deciding.{IsDecidedBy, IsToldBy, DecideInOrder, point_in}
 use Rattle.trace_query.specs.Queries.{has_tree, tree_at, StandInOrder, trees_before, ListsExactly}
 use Rattle.event_tree.specs.declared.point.RaisedPoint.{RaisedPoint}
 use Rattle.trace_query.proofs.ComparedTrees.{is_below_iff}
@@ -24,6 +26,27 @@ found_earlier trees event place events in_order is last =
     (λ later above within.
     unlisted Before trees event later
     (λ differ stands. in_order event later is (event_from_bounds trees later (omega (arith, above)) within) (omega (arith, bounds.0, above, last, differ)) stands.0))
+
+-- the point of the earlier of two events tells how their trees stand
+told_first : (point : Option RaisedPoint) (e f : EventTree) → IsDecidedBy point e f → ¬ IsBelow f e → IsToldBy First point e f
+told_first None e f decided apart = tt
+told_first (Some deciding) e f decided apart = (decided, apart)
+
+told_second : (point : Option RaisedPoint) (e f : EventTree) → IsDecidedBy point f e → ¬ IsBelow e f → IsToldBy Second point e f
+told_second None e f decided apart = tt
+told_second (Some deciding) e f decided apart = (decided, apart)
+
+module _ (trees : List EventTree) (points : List (Option RaisedPoint)) (in_order : StandInOrder trees) (decided : DecideInOrder trees points)
+    (first second : ℕ) (is_first : IsTrue (has_tree trees first)) (is_second : IsTrue (has_tree trees second)) where
+  pub told_by_first : first < second → IsToldBy First (point_in points (first - 1)) (tree_at trees first) (tree_at trees second)
+  told_by_first before =
+      told_first (point_in points (first - 1)) (tree_at trees first) (tree_at trees second) (decided first second is_first is_second before)
+      (in_order first second is_first is_second before)
+
+  pub told_by_second : second < first → IsToldBy Second (point_in points (second - 1)) (tree_at trees first) (tree_at trees second)
+  told_by_second before =
+      told_second (point_in points (second - 1)) (tree_at trees first) (tree_at trees second) (decided second first is_second is_first before)
+      (in_order second first is_second is_first before)
 
 -- what is kept for the earlier events
 module _ {K : Type 0} (tree : K → EventTree) (kept : List K) (event : ℕ) (event_is : IsTrue (has_tree (map tree kept) event)) where

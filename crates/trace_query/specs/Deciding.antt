@@ -5,6 +5,8 @@ use Rattle.trace_types.specs.clock.Points.{Point}
 use Rattle.trace_types.specs.clock.EventTree.{EventTree, value}
 use Rattle.event_tree.specs.Comparison.{IsBelow}
 use Rattle.trace_query.specs.Queries.{has_tree, tree_at}
+use Rattle.trace_query.specs.declared.compare.Earlier.{Earlier}
+use Rattle.trace_query.specs.declared.compare.Earlier.TheVariants.{First, Second}
 use Rattle.event_tree.specs.declared.point.RaisedPoint.{RaisedPoint}
 
 -- the first tree is below the second where it is no greater at the point
@@ -15,6 +17,17 @@ DecidesBelow point e f = value e point ≤ value f point → IsBelow e f
 pub record IsDeciding (deciding : RaisedPoint) (e f : EventTree) : Type 0 where
   pub own : deciding.value ≡ value e deciding.point
   pub decides : DecidesBelow deciding.point e f
+
+-- The point tells how the trees of two events stand: it decides whether that of the earlier one is below that of the later one, which is
+-- not below it.
+abbrev pub IsToldAt : Earlier → RaisedPoint → EventTree → EventTree → Type 0
+IsToldAt First deciding e f = IsDeciding deciding e f × ¬ IsBelow f e
+IsToldAt Second deciding e f = IsDeciding deciding f e × ¬ IsBelow e f
+
+-- so it is where there is a point
+abbrev pub IsToldBy : Earlier → Option RaisedPoint → EventTree → EventTree → Type 0
+IsToldBy earlier None e f = Unit {0}
+IsToldBy earlier (Some deciding) e f = IsToldAt earlier deciding e f
 
 -- a point, where there is one, decides whether the first tree is below the second
 abbrev pub IsDecidedBy : Option RaisedPoint → EventTree → EventTree → Type 0

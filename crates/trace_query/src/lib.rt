@@ -7,8 +7,9 @@
 //! `specs/Queries.antt` defines over the list of trees, whatever trees they are. A [`Compare`] orders kept trees for
 //! them: [`Plain`] does so by their values.
 //!
-//! [`past_by_points`], [`concurrent_by_points`] and [`cut_by_points`] give the same, if no later event's tree is below an
-//! earlier one's. They look at one value for each pair, if events have points that decide (`specs/Deciding.antt`).
+//! [`order_by_points`], [`past_by_points`], [`concurrent_by_points`] and [`cut_by_points`] give the same, if no later
+//! event's tree is below an earlier one's. They look at one value for each pair, if events have points that decide
+//! (`specs/Deciding.antt`). Each comparison is a call of the [`Compare`].
 //! [`laws`] says what the definitions mean.
 //!
 //! ```
@@ -34,8 +35,8 @@ mod plain;
 mod queries;
 mod queries_by_points;
 
-pub use compare::Compare;
+pub use compare::{Compare, Earlier};
 pub use kept_tree::Meant;
 pub use plain::Plain;
 pub use queries::{QueryFault, concurrent_with, cut, order, past};
-pub use queries_by_points::{concurrent_by_points, cut_by_points, past_by_points};
+pub use queries_by_points::{concurrent_by_points, cut_by_points, order_by_points, past_by_points};

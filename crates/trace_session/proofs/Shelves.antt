@@ -1,5 +1,5 @@
 -- Each step of a shelf keeps its rule.
-use Rattle.std.proofs.Common.{◌≡◌, ℕ, List, [], ◌∷◌, get_or, sym, refl, ◌∙◌, subst, ap, arith, Option, Some, None, length-set, get_or-set_same}
+use Rattle.std.proofs.Common.{◌≡◌, ℕ, ◌<◌, List, [], ◌∷◌, get_or, sym, refl, ◌∙◌, subst, ap, arith, Option, Some, None, length-set, get_or-set_same}
 use mathlib.Core.Logic.{dite}
 use mathlib.Core.Option.{some}
 use native.Mathlib.Decide.{ℕ_discrete}
@@ -14,14 +14,14 @@ use Rattle.trace_session.specs.Shelves.{HasEmpty, HasTaken, KeepsFor, Takes}
 pub begins : (owner : Owner) (rests : Rests) → RestOf owner rests → KeepsFor owner (opening (0 ∷ []) (Some rests ∷ []) owner)
 begins owner rests belongs = (refl, λ there. (rests, refl, belongs))
 
--- A seat that finds 0 takes what rests, and another one takes nothing.
-pub taken : (owner : Owner) (slots : ℕ) → Arrives (KeepsFor owner) slots 0 (λ found. 1) (Takes owner)
-taken owner slots state kept sized bounded =
-    let becomes_1 = get_or-set_same state.words 0 1 0 (omega (arith, kept.0)) in
-    let still_one = length-set state.words 0 1 ∙ kept.0 in
+-- A seat that finds 0 takes what rests, and another one takes nothing. The word is not 0 then.
+pub taken : (owner : Owner) (slots word : ℕ) → 0 < word → Arrives (KeepsFor owner) slots 0 (λ found. word) (Takes owner)
+taken owner slots word nonzero state kept sized bounded =
+    let becomes_it = get_or-set_same state.words 0 word 0 (omega (arith, kept.0)) in
+    let still_one = length-set state.words 0 word ∙ kept.0 in
     dite (ℕ_discrete (get_or state.words 0 0) 0)
-    (λ there. let lies = kept.1 there in (owner, takes 0 (Some lies.0), lies.1, (still_one, λ is_0. absurd (omega (arith, becomes_1, is_0))), (λ found. (lies.0, refl, lies.2), λ other. absurd (other there))))
-    (λ gone. (owner, keeps, tt, (still_one, λ is_0. absurd (omega (arith, becomes_1, is_0))), (λ found. absurd (gone found), λ other. refl)))
+    (λ there. let lies = kept.1 there in (owner, takes 0 (Some lies.0), lies.1, (still_one, λ is_0. absurd (omega (arith, becomes_it, is_0, nonzero))), (λ found. (lies.0, refl, lies.2), λ other. absurd (other there))))
+    (λ gone. (owner, keeps, tt, (still_one, λ is_0. absurd (omega (arith, becomes_it, is_0, nonzero))), (λ found. absurd (gone found), λ other. refl)))
 
 -- what a seat knows and has
 abbrev knowing : Owner → List (ℕ × Option Rests) → Me (Option Rests) Owner

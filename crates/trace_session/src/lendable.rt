@@ -6,7 +6,6 @@ ghost use Rattle.trace_session.specs.Hubs.{Owner};
 
 use crate::desk_or_view::Lent;
 use crate::shelf_contents::Resting;
-use std::sync::Wait;
 use tenant_desk::{Desk, View};
 
 /// What a tenant lends while it rests, and takes back.
@@ -36,9 +35,6 @@ pub(crate) trait Lendable: Lent {
         ensures put { length (those resting.old) < most → (those resting.new ≡ those resting.old ++ self ∷ []) × (result ≡ None) }
         ensures beside { beside resting.new ≡ beside resting.old }
         ensures owner { (owner : Owner) → RestOf owner resting.old → Belongs Self.is_sound Self.tenant_of Self.book_of owner self → RestOf owner resting.new };
-
-    /// Ends it.
-    fn end<R: Wait>(self, rt: &R);
 }
 
 impl Lendable for Desk {
@@ -58,10 +54,6 @@ impl Lendable for Desk {
     fn put(self, resting: &mut Resting) -> Option<Desk> {
         resting.put_desk(self)
     }
-
-    fn end<R: Wait>(self, rt: &R) {
-        self.close(rt);
-    }
 }
 
 impl Lendable for View {
@@ -80,9 +72,5 @@ impl Lendable for View {
     fn put(self, resting: &mut Resting) -> Option<Desk> {
         resting.put_view(self);
         None
-    }
-
-    fn end<R: Wait>(self, _rt: &R) {
-        drop(self);
     }
 }

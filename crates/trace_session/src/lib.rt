@@ -37,6 +37,7 @@ pub mod laws;
 mod lendable;
 mod output;
 mod owner;
+mod queue;
 mod serving;
 mod session_end;
 mod session_lines;

@@ -2,6 +2,7 @@
 ghost use Rattle.std.specs.Prelude.{◌≡◌, ◌↔◌, ◌+◌, ◌<◌, ◌≤◌, ◌^◌, ◌⊎◌, IfOk, IsErrOf};
 ghost use Rattle.trace_session.specs.Serving.{Accepts, IsWorkers};
 
+use crate::queue::Queue;
 use crate::{Connection, Door, DoorFault, Gate, Hub, session};
 use crossbeam_channel::{Receiver, Sender, unbounded};
 use line_protocol::{Sink, Source};
@@ -20,7 +21,7 @@ const MOST_CONNECTIONS: u64 = 1 << 32;
 /// What was served.
 #[derive(Clone, Copy, Debug, PartialEq, Eq)]
 pub struct ServeCounts {
-    /// The connections that were taken.
+    /// The connections that were handed to the workers.
     pub sessions: u64,
     /// The sessions that ended in a fault.
     pub faults: u64,
@@ -111,30 +112,25 @@ impl<'x, T: Wait, H: Hall<T>, G: Gate, A: Source + Drop, B: Sink + Drop> Shop<'x
     }
 }
 
-/// Hands on what the door gives, numbered from 1, until it closes, and counts it.
+/// Hands what the door gives to the workers, numbered from 1, until it closes, and tells how many connections that were.
 fn accept_all<T: Wait, D: Door>(
     rt: &T,
     door: &mut D,
-    to: Sender<Connection<D::Reader, D::Writer>>,
+    queue: &mut Queue<D::Reader, D::Writer>,
 ) -> Result<u64, ServeFault>
-    ensures { Accepts D.given D.failures D.most door.old door.new result }
+    requires { queue.old ≡ 0 }
+    ensures accepts { Accepts D.given D.failures D.most door.old door.new result }
+    ensures handed { IfOk result (λ count. queue.new ≡ count) }
 {
-    let mut count = 0u64;
-    for turn in 0..MOST_CONNECTIONS {
+    for _turn in 0..MOST_CONNECTIONS {
         let Some((reader, writer)) = door.accept(rt)? else {
             break;
         };
-        count = turn + 1;
-        let connection = Connection {
-            reader,
-            writer,
-            number: count,
-        };
-        if to.send(rt, connection).is_err() {
+        if !queue.hand_on(rt, reader, writer) {
             return Err(ServeFault::Memory);
         }
     }
-    Ok(count)
+    Ok(queue.handed())
 }
 
 /// Starts the workers, and accepts until the door closes. If a worker cannot be started, it takes no connection and returns
@@ -161,7 +157,7 @@ fn start_and_accept<
             return Err(AllocError::from(refused).into());
         }
     }
-    accept_all(shop.rt, door, to)
+    accept_all(shop.rt, door, &mut Queue::new(to))
 }
 
 /// What came of serving at a door. It has the door, since a scope does not tell what became of what it borrows.

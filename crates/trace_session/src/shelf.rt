@@ -1,5 +1,5 @@
 //! Shelves, on which lies what no session has.
-ghost use Rattle.std.specs.Prelude.{◌≡◌, IfErr, IfOk, IfSome};
+ghost use Rattle.std.specs.Prelude.{◌≡◌, ◌<◌, IfErr, IfOk, IfSome};
 ghost use Rattle.trace_session.specs.Belonging.{Belongs, RestOf};
 ghost use Rattle.trace_session.specs.Resting.{IsWhole};
 ghost use Rattle.trace_session.specs.Shelves.{HasEmpty};
@@ -9,8 +9,7 @@ use crate::owner::Owner;
 use crate::shelf_contents::Resting;
 use atomic_table::{Play, Refused, Seat, Table, TableRule};
 use std::alloc::Global;
-use std::sync::{Mutex, MutexGuard, Wait};
-use tenant_desk::Desk;
+use std::sync::Wait;
 
 /// The rule of a shelf: what lies there belongs to the tenant whose shelf it is.
 pub(crate) struct Keeping;
@@ -41,15 +40,15 @@ impl Play<Option<Resting>, Owner> for Putting {
     ghost then = { λ step before found after. after.1 ≡ [] };
 }
 
-/// The right to the slot of a shelf, in which nothing lies.
-type Gap = Seat<Option<Resting>, Owner>;
+/// The turn of a thread: the right to the slot of a shelf, in which nothing lies. Only with it can something be put down.
+type Turn = Seat<Option<Resting>, Owner>;
 
 /// Where what rests of one tenant lies, and where it is taken by one thread at a time. The key of its table says whose it is.
 ///
-/// What lies under a lock is known by its type alone. So it lies in a table, whose key is fixed when it is made. The lock
-/// beside it has threads wait for each other. A shelf cannot be dropped: end it by [`Shelf::into_resting`].
+/// What lies under a lock is known by its type alone. So it lies in a table, whose key is fixed when it is made. The word of
+/// the table is the lock: a thread has its turn from when it takes what lies there until it puts it down, and others wait.
+/// A shelf cannot be dropped: end it by [`Shelf::into_resting`].
 pub(crate) struct Shelf {
-    turn: Mutex<()>,
     table: Table<Option<Resting>, Owner, Owner, Keeping, Global>,
     ghost words: { table.shared.table_id.words ≡ 1 },
     ghost slots: { table.shared.table_id.slots ≡ 1 },
@@ -63,6 +62,9 @@ const THERE: u64 = 0;
 
 /// The word while a thread has it.
 const TAKEN: u64 = 1;
+
+/// The word while a thread has it, and others may sleep until it is put down.
+const AWAITED: u32 = 2;
 
 impl Shelf {
     /// The shelf of this tenant, whose desk and views lie there. It gives them back if it runs out of memory.
@@ -79,8 +81,7 @@ impl Shelf {
             Ok((table, seat)) => {
                 // As a badge it can be dropped.
                 let _ = seat.into_badge();
-                let turn = Mutex::new(());
-                Ok(Shelf { turn, table })
+                Ok(Shelf { table })
             }
             Err(Refused { mut slots }) => {
                 let Some(Some(resting)) = slots.pop() else {
@@ -96,19 +97,9 @@ impl Shelf {
     pub(crate) fn lend<L: Lendable, R: Wait>(&self, rt: &R) -> Option<L>
         ensures { IfSome result (Belongs L.is_sound L.tenant_of L.book_of self.now.table.shared.key) }
     {
-        let turn = self.turn.lock(rt);
-        let lent = self.lend_in_turn();
-        MutexGuard::unlock(turn);
-        lent
-    }
-
-    /// Lends a desk or a view, if one lies there. It is this thread's turn.
-    fn lend_in_turn<L: Lendable>(&self) -> Option<L>
-        ensures { IfSome result (Belongs L.is_sound L.tenant_of L.book_of self.now.table.shared.key) }
-    {
-        let (mut resting, gap) = self.take()?;
+        let (mut resting, turn) = self.take(rt);
         let lent = L::take(&mut resting);
-        self.put(resting, gap);
+        self.put(resting, turn);
         lent
     }
 
@@ -116,64 +107,71 @@ impl Shelf {
     pub(crate) fn take_back<L: Lendable, R: Wait>(&self, rt: &R, lent: L)
         requires { Belongs L.is_sound L.tenant_of L.book_of self.now.table.shared.key lent }
     {
-        let turn = self.turn.lock(rt);
-        let other = self.take_back_in_turn(rt, lent);
-        MutexGuard::unlock(turn);
+        let (mut resting, turn) = self.take(rt);
+        let other = lent.put(&mut resting);
+        self.put(resting, turn);
         if let Some(other) = other {
             other.close(rt);
         }
     }
 
-    /// Takes back what was lent, and gives out a desk that has to be ended. It is this thread's turn.
-    fn take_back_in_turn<L: Lendable, R: Wait>(&self, rt: &R, lent: L) -> Option<Desk>
-        requires { Belongs L.is_sound L.tenant_of L.book_of self.now.table.shared.key lent }
+    /// Takes what lies there. It waits as long as another thread has it.
+    fn take<R: Wait>(&self, rt: &R) -> (Resting, Turn)
+        ensures rests { RestOf self.now.table.shared.key result.0 }
+        ensures turn { (result.1.table_id ≡ self.now.table.shared.table_id) × HasEmpty result.1.me }
     {
-        let Some((mut resting, gap)) = self.take() else {
-            // Another thread would have to have its turn now.
-            lent.end(rt);
-            return None;
-        };
-        let other = lent.put(&mut resting);
-        self.put(resting, gap);
-        other
+        if let Some(taken) = self.take_at_once(TAKEN) {
+            return taken;
+        }
+        for _ in rt.forever() {
+            if let Some(taken) = self.take_at_once(AWAITED as u64) {
+                return taken;
+            }
+            self.table.shared.park(rt, SLOT, AWAITED);
+        }
+        unreachable!()
     }
 
-    /// Takes what lies there, if no other thread has it.
+    /// Takes what lies there, if no other thread has it. The word is then this one, whether it was taken or not.
     #[tactic(auto, using(crate::proofs::Shelves::found_there, crate::proofs::Shelves::left_empty))]
-    fn take(&self) -> Option<(Resting, Gap)>
+    fn take_at_once(&self, word: u64) -> Option<(Resting, Turn)>
+        requires { 0 < word }
         ensures rests { IfSome result (λ taken. RestOf self.now.table.shared.key taken.0) }
-        ensures gap { IfSome result (λ taken. (taken.1.table_id ≡ self.now.table.shared.table_id) × HasEmpty taken.1.me) }
+        ensures turn { IfSome result (λ taken. (taken.1.table_id ≡ self.now.table.shared.table_id) × HasEmpty taken.1.me) }
     {
         let shared = &self.table.shared;
-        let (found, mut gap) = shared.swap_new_seat::<Taking>(SLOT, TAKEN);
+        let (found, mut turn) = shared.swap_new_seat::<Taking>(SLOT, word);
         if found != THERE {
             // As a badge it can be dropped.
-            let _ = gap.into_badge();
+            let _ = turn.into_badge();
             return None;
         }
-        let Some(resting) = shared.exchange(&mut gap, SLOT, None) else {
+        let Some(resting) = shared.exchange(&mut turn, SLOT, None) else {
             unreachable!()
         };
-        Some((resting, gap))
+        Some((resting, turn))
     }
 
-    /// Puts this down where what was taken lay.
+    /// Puts this down where what was taken lay. It ends the turn, and wakes a thread that sleeps until then.
     #[tactic(auto, using(crate::proofs::Shelves::found_none))]
-    fn put(&self, resting: Resting, mut gap: Gap)
+    fn put(&self, resting: Resting, mut turn: Turn)
         requires rests { RestOf self.now.table.shared.key resting }
-        requires gap { (gap.table_id ≡ self.now.table.shared.table_id) × HasEmpty gap.me }
+        requires turn { (turn.table_id ≡ self.now.table.shared.table_id) × HasEmpty turn.me }
     {
         let shared = &self.table.shared;
-        let before = shared.exchange(&mut gap, SLOT, Some(resting));
+        let before = shared.exchange(&mut turn, SLOT, Some(resting));
         let None = before else { unreachable!() };
-        shared.store::<Putting>(&mut gap, SLOT, THERE);
+        let found = shared.swap::<Putting>(&mut turn, SLOT, THERE);
         // As a badge it can be dropped.
-        let _ = gap.into_badge();
+        let _ = turn.into_badge();
+        if found != TAKEN {
+            shared.wake_one(SLOT);
+        }
     }
 
     /// What lies there, when no thread shares the shelf any more.
     pub(crate) fn into_resting(self) -> Option<Resting> {
-        let Shelf { turn: _, table } = self;
+        let Shelf { table } = self;
         let mut closed = table.close();
         let resting = closed.take(SLOT);
         closed.free();

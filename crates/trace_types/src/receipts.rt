@@ -36,6 +36,14 @@ impl Receipts {
         Receipts { events }
     }
 
+    /// One receipt. It takes no memory.
+    pub fn one(alloc: Global, event: u64) -> Receipts
+        ensures { result ≡ event ∷ [] }
+    {
+        let events = SmallVec::from_buf(alloc, [event]);
+        Receipts { events }
+    }
+
     /// The events that received the message, the first one first.
     pub fn as_slice(&self) -> &[u64]
         ensures { result.now ≡ self.now }
@@ -75,6 +83,15 @@ impl Receipts {
     {
         let events = SmallVec::from_slice(*self.events.allocator(), self.as_slice())?;
         Ok(Receipts { events })
+    }
+}
+
+impl From<Vec<u64>> for Receipts {
+    ghost from_gives = { λ events receipts. receipts ≡ events.items };
+
+    fn from(events: Vec<u64>) -> Receipts {
+        let events = SmallVec::from_vec(events);
+        Receipts { events }
     }
 }
 

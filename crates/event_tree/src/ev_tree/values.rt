@@ -1,5 +1,5 @@
 //! Values of a tree.
-ghost use Rattle.std.specs.Prelude.{◌≡◌, ◌≤◌, ◌↔◌, IsTrue};
+ghost use Rattle.std.specs.Prelude.{◌≡◌, ◌≤◌, ◌↔◌, IfSome, IsTrue};
 ghost use Rattle.trace_types.specs.clock.EventTree.{value, minimum, maximum};
 
 use super::{EvTree, Node};
@@ -66,6 +66,43 @@ impl EvTree {
             if lift + tree.max() < least {
                 return false;
             }
+            match &tree.node {
+                // A leaf has one value, so the range has decided.
+                Node::Leaf(_) => unreachable!(),
+                Node::Fork { base, children, .. } => {
+                    lift += *base;
+                    tree = if rest % 2 == 0 {
+                        &children.left
+                    } else {
+                        &children.right
+                    };
+                    rest /= 2;
+                }
+            }
+        }
+    }
+
+    /// Whether the value at the point is at least `least`, if the ranges of values decide it within so many levels. It takes no
+    /// memory.
+    pub fn is_at_least_within(&self, point: &Point, least: u64, levels: u64) -> Option<bool>
+        ensures { IfSome result (λ is. IsTrue is ↔ (least ≤ value self.now point.now)) }
+    {
+        self.normal();
+        let mut tree = self;
+        let mut rest = point.halves();
+        let mut lift: u64 = 0;
+        let mut left = levels;
+        loop {
+            if least <= lift + tree.min() {
+                return Some(true);
+            }
+            if lift + tree.max() < least {
+                return Some(false);
+            }
+            if left == 0 {
+                return None;
+            }
+            left -= 1;
             match &tree.node {
                 // A leaf has one value, so the range has decided.
                 Node::Leaf(_) => unreachable!(),

@@ -1,6 +1,6 @@
 -- What is to be kept of each message after a report is right.
-use Rattle.std.proofs.Common.{◌≡◌, ◌≢◌, ℕ, suc, ◌+◌, true, false, cond, eqb, [], ◌∷◌, length, Option, Some, None, is_some, refl, sym, ap, ◌∙◌, subst, inl, inr, arith}
-use Rattle.tenant_ledger.proofs.Words.{false≢true, cases_Bool, cond_both, cond-true, cond-false, and_right, or_left, eq-eqb, nat_tests, sum_by-append, is_same-itself, is_same_iff, Text, is_same, History, sends, sends_message, receives, receives_message, is_sent, receipts, message_count, row_after, Row, Kind, Send, Recv, AllowsNamed, IsLegal, Contents, IsKept, IsMessage, Message, history_in, message_in, received_by, noted_after, last_in, last_receipt, receipt_before, earlier_of, value_with, value_with_some, count_with_some}
+use Rattle.std.proofs.Common.{◌≡◌, ◌≢◌, ℕ, suc, ◌+◌, ◌≤◌, true, false, cond, eqb, [], ◌∷◌, ◌++◌, length, Option, Some, None, is_some, refl, sym, ap, ◌∙◌, subst, inl, inr, arith}
+use Rattle.tenant_ledger.proofs.Words.{false≢true, cases_Bool, cond_both, cond-true, cond-false, and_right, or_left, eq-eqb, nat_tests, sum_by-append, length-append, is_same-itself, is_same_iff, Text, is_same, History, sends, sends_message, receives, receives_message, is_sent, receipts, message_count, row_after, Row, Kind, Send, Recv, AllowsNamed, IsLegal, Contents, IsKept, IsMessage, Message, history_in, message_in, received_by, noted_after, last_in, receipts_in, last_receipt, receipt_before, earlier_of, value_with, value_with_some, count_with_some}
 use Rattle.tenant_ledger.proofs.keeping.Known.{legal_history}
 
 -- one message more, if the row sends one
@@ -38,6 +38,14 @@ no_receipts (row ∷ earlier) message none = elim (cases_Bool (receives message 
 pub unsent_has_no_events : (history : History) (name : Text) → IsLegal history → is_sent history name ≡ false → receipts history name ≡ []
 unsent_has_no_events history name legal unsent = no_receipts history name (unsent_has_no_receipt history name legal unsent)
 
+-- a message has no more receipts than there are events
+pub receipts-le : (history : History) (name : Text) → length (receipts history name) ≤ length history
+receipts-le [] name = omega arith
+receipts-le (row ∷ earlier) name = elim (cases_Bool (receives name row)) [
+  | inl is ↦ rw is (omega (arith, receipts-le earlier name, length-append (receipts earlier name) (suc (length earlier) ∷ [])))
+  | inr not ↦ rw not (omega (arith, receipts-le earlier name))
+]
+
 module _ (book : Contents) (kept : IsKept book) where
   -- the book has the messages that were sent
   pub has_message : (name : Text) → is_some (message_in book name) ≡ is_sent (history_in book) name
@@ -50,6 +58,16 @@ module _ (book : Contents) (kept : IsKept book) where
   -- what is kept of a message that the book has
   pub message_kept : (name : Text) {message : Message} → message_in book name ≡ Some message → IsMessage (history_in book) name (Some message)
   message_kept name found = subst (IsMessage (history_in book) name) found (kept.messages_are name)
+
+  -- what a report receives has no more receipts than there are events
+  pub received-le : (kind : Kind) (name : Option Text) → receipts_in (received_by (message_in book) kind name) ≤ length (history_in book)
+  received-le Recv None = omega arith
+  received-le Recv (Some name) = by (message_in book name) refl
+    where
+      by : (had : Option Message) → message_in book name ≡ had → receipts_in had ≤ length (history_in book)
+      by None none = omega arith
+      by (Some message) had = omega (arith, (message_kept name had).3, receipts-le (history_in book) name)
+  received-le kind name = omega arith
 
   module _ (task : Text) where
     abbrev history : History
@@ -66,16 +84,26 @@ module _ (book : Contents) (kept : IsKept book) where
     IsRight kind name other found = IsMessage (row kind name ∷ history) other found
 
     -- of a message that the report sends
-    sent_is_message : (name : Text) → is_sent history name ≡ false → IsRight Send (Some name) name (Some (record { sent = event; last = 0 }))
+    sent_is_message : (name : Text) → is_sent history name ≡ false → IsRight Send (Some name) name (Some (record { sent = event; last = 0; receipts = 0 }))
     sent_is_message name new =
         let itself = is_same-itself name in
-        (or_left (is_same name name) _ itself, sym (cond-true (is_same name name) _ _ itself), sym (unsent_has_no_receipt history name (legal_history book kept) new))
+        let legal = legal_history book kept in (
+          or_left (is_same name name) _ itself,
+          sym (cond-true (is_same name name) _ _ itself),
+          sym (unsent_has_no_receipt history name legal new),
+          sym (ap length (unsent_has_no_events history name legal new)),
+        )
 
     -- of a message that it receives
-    received_is_message : (name : Text) (message : Message) → message_in book name ≡ Some message → IsRight Recv (Some name) name (Some (record message { last = event }))
+    received_is_message : (name : Text) (message : Message) → message_in book name ≡ Some message → IsRight Recv (Some name) name (Some (record message { last = event; receipts = message.receipts + 1 }))
     received_is_message name message found =
         let right = message_kept name found in
-        (right.0, right.1, sym (cond-true (is_same name name) _ _ (is_same-itself name)))
+        let itself = is_same-itself name in (
+          right.0,
+          right.1,
+          sym (cond-true (is_same name name) _ _ itself),
+          omega (arith, right.3, length-append (receipts history name) (event ∷ [])) ∙ sym (ap length (cond-true (is_same name name) (receipts history name ++ event ∷ []) _ itself)),
+        )
 
     -- the message that is named, once it is kept, and every other one
     named_or_not : (kind : Kind) (name : Text) (kept_of : Message) → IsRight kind (Some name) name (Some kept_of)

@@ -1,9 +1,12 @@
 -- The receipts of a message are found from the last one back.
-use Rattle.std.proofs.Common.{◌≡◌, ◌≢◌, ℕ, suc, ◌-◌, ◌<◌, ◌≤◌, true, eqb, List, [], ◌∷◌, ◌++◌, length, reverse, slice_get, Option, Some, None, refl, sym, ap, ◌∙◌, inl, inr, arith}
-use Rattle.tenant_ledger.proofs.Words.{false≢true, cases_Bool, cond-true, cond-false, eq-eqb, is_same_iff, append_assoc, length-append, length-reverse, reverse-append, Text, History, receives, receipts, newest, Row, Kind, Recv, Contents, IsKept, history_in, last_receipt, receipt_before, earlier_of}
+use Rattle.std.proofs.Common.{◌≡◌, ◌≢◌, ℕ, suc, ◌+◌, ◌-◌, ◌<◌, ◌≤◌, true, eqb, List, [], ◌∷◌, ◌++◌, length, drop, set, slice_get, Option, Some, None, refl, sym, ap, ◌∙◌, subst, inl, inr, arith}
+use Rattle.std.proofs.lemmas.List.{append-nil, drop-set, length-drop, length-set}
+use Rattle.std.proofs.lemmas.Option.{slice_get-get_or}
+use Rattle.std.proofs.Math.Seq.{drop-length}
+use Rattle.tenant_ledger.proofs.Words.{false≢true, cases_Bool, cases_eq, cond-true, cond-false, eq-eqb, is_same_iff, append_assoc, length-append, length-reverse, Text, History, receives, receipts, newest, Row, Kind, Recv, Contents, IsKept, HasReceipts, history_in, last_receipt, receipt_before, earlier_of}
 use Rattle.tenant_ledger.proofs.keeping.Lists.{length-of_each}
 use Rattle.tenant_ledger.proofs.keeping.Messages.{earlier_of-older, no_receipts}
-use Rattle.tenant_ledger.proofs.keeping.Walks.{IsAt, falls_to, goes_on, here, in_rows, number_is, Newest}
+use Rattle.tenant_ledger.proofs.keeping.Walks.{IsAt, begins, falls_to, goes_on, here, in_rows, number_is, Newest}
 
 -- the receipts of a message by its last one
 receipts_by_last : (rows : History) (message : Text) (last : Newest rows (receives message))
@@ -50,28 +53,110 @@ module _ (book : Contents) (kept : IsKept book) (message : Text) {event : ℕ} {
   unfolding receipt
   receipt_falls there = falls_to book (receives message) at some earlier_of earlier_of-older book.earlier kept.earlier (earlier_is_last receipt.row receipt.older message receipt.passes) there
 
--- The list has come to this event: it has the receipts of the message from the last one back, but for those that are left.
+-- The list has come to this event: it has the receipts of the message but for those that are left.
 abbrev pub IsListed : Contents → ℕ → ℕ → List ℕ → Type 0
-IsListed book last event backward = (message : Text) → last ≡ last_receipt (history_in book) message
-    → (rest : History) × IsAt book (receives message) event rest × (receipts (history_in book) message ≡ receipts rest message ++ reverse backward)
+IsListed book last event listed = (message : Text) → last ≡ last_receipt (history_in book) message
+    → (rest : History) × IsAt book (receives message) event rest × (receipts (history_in book) message ≡ receipts rest message ++ listed)
 
-module _ (book : Contents) (kept : IsKept book) {last event : ℕ} (backward : List ℕ) (listed : IsListed book last event backward) where
+-- it begins with none
+pub lists_none : (book : Contents) (last : ℕ) → IsListed book last last []
+lists_none book last message number =
+    (history_in book, begins book (receives message) last number, sym (append-nil (receipts (history_in book) message)))
+
+module _ (book : Contents) (kept : IsKept book) {last event : ℕ} (listed : List ℕ) (come : IsListed book last event listed) where
   -- it goes on with this event
-  pub lists_on : event ≢ 0 → {before : ℕ} → slice_get book.earlier (event - 1) ≡ Some before → IsListed book last before (backward ++ event ∷ [])
+  pub lists_on : event ≢ 0 → {before : ℕ} → slice_get book.earlier (event - 1) ≡ Some before → IsListed book last before (event ∷ listed)
   lists_on some {before} is message number =
-      let (rest, at, same) = listed message number in
-      let receipt = here book (receives message) at some in
-      let more : event ∷ reverse backward ≡ reverse (backward ++ event ∷ []) = sym (reverse-append backward (event ∷ [])) in (
+      let (rest, at, same) = come message number in
+      let receipt = here book (receives message) at some in (
         receipt.older,
         next_receipt book kept message at some is,
         same
-            ∙ ap (λ list. list ++ reverse backward)
+            ∙ ap (λ list. list ++ listed)
             (receipts_by_last rest message receipt ∙ ap (λ e. receipts receipt.older message ++ e ∷ []) (sym (number_is book (receives message) at some)))
-            ∙ append_assoc (receipts receipt.older message) (event ∷ []) (reverse backward) ∙ ap (λ list. receipts receipt.older message ++ list) more,
+            ∙ append_assoc (receipts receipt.older message) (event ∷ []) listed,
+      )
+
+  -- until it has all, it has fewer
+  pub lists_fewer : event ≢ 0 → {count : ℕ} → HasReceipts book last count → length listed < count
+  lists_fewer some of =
+      let (rest, at, same) = come of.0 of.1 in
+      let receipt = here book (receives of.0) at some in
+      omega (
+        arith,
+        of.2,
+        ap length same,
+        length-append (receipts rest of.0) listed,
+        ap length (receipts_by_last rest of.0 receipt),
+        length-append (receipts receipt.older of.0) (suc (length receipt.older) ∷ []),
       )
 
   -- and has all where none is left
-  pub lists_all : event ≡ 0 → (message : Text) → last ≡ last_receipt (history_in book) message → reverse backward ≡ receipts (history_in book) message
+  pub lists_all : event ≡ 0 → (message : Text) → last ≡ last_receipt (history_in book) message → listed ≡ receipts (history_in book) message
   lists_all none message number =
-      let (rest, at, same) = listed message number in
-      sym (same ∙ ap (λ list. list ++ reverse backward) (no_receipts rest message (sym at.number ∙ none)))
+      let (rest, at, same) = come message number in
+      sym (same ∙ ap (λ list. list ++ listed) (no_receipts rest message (sym at.number ∙ none)))
+
+  -- so many as they are
+  pub lists_as_many : event ≡ 0 → {count : ℕ} → HasReceipts book last count → length listed ≡ count
+  lists_as_many none of = ap length (lists_all none of.0 of.1) ∙ sym of.2
+
+  -- so it has all where it has so many
+  pub lists_counted : HasReceipts book last (length listed) → (message : Text) → last ≡ last_receipt (history_in book) message → listed ≡ receipts (history_in book) message
+  lists_counted of = elim (cases_eq event 0) [
+    | inl none ↦ lists_all none
+    | inr some ↦ absurd (omega (arith, lists_fewer some of))
+  ]
+
+module _ (book : Contents) (kept : IsKept book) {last : ℕ} where
+  -- a message may have none
+  pub no_receipt : HasReceipts book last 0 → (message : Text) → last ≡ last_receipt (history_in book) message → [] ≡ receipts (history_in book) message
+  no_receipt of = lists_counted book kept [] (lists_none book last) of
+
+  -- or only the last
+  pub one_receipt : HasReceipts book last 1 → (message : Text) → last ≡ last_receipt (history_in book) message → last ∷ [] ≡ receipts (history_in book) message
+  one_receipt of =
+      let some : last ≢ 0 = λ none. omega (arith, lists_as_many book kept [] (lists_none book last) none of) in
+      let inside = in_earlier book kept of.0 (begins book (receives of.0) last of.1) some in
+      let there = slice_get-get_or book.earlier (last - 1) 0 (omega (arith, inside)) in
+      lists_counted book kept (last ∷ []) (lists_on book kept [] (lists_none book last) some there) of
+
+-- The list stands at the end of these places, from this one on, and has come to this event.
+pub record IsFilled (book : Contents) (last event place : ℕ) (places : List ℕ) (count : ℕ) : Type 0 where
+  pub counted : length places ≡ count
+  pub within : place ≤ length places
+  pub come : IsListed book last event (drop place places)
+
+module _ (book : Contents) (kept : IsKept book) {last event place : ℕ} {places : List ℕ} {count : ℕ} (filled : IsFilled book last event place places count) (of : HasReceipts book last count) where
+  -- a place is left for an event that is left
+  pub is_left : event ≢ 0 → 0 < place
+  is_left some = omega (arith, lists_fewer book kept (drop place places) filled.come some of, filled.counted, filled.within, length-drop place places)
+
+  -- which is written there
+  pub fills_on : event ≢ 0 → {before : ℕ} → slice_get book.earlier (event - 1) ≡ Some before
+      → IsFilled book last before (place - 1) (set places (place - 1) event) count
+  fills_on some {before} is =
+      let left = is_left some in
+      let next : place - 1 + 1 ≡ place = omega (arith, left) in
+      let behind : drop (place - 1) (set places (place - 1) event) ≡ event ∷ drop place places =
+      drop-set places (place - 1) event (omega (arith, left, filled.within)) ∙ ap (λ n. event ∷ drop n places) next in
+      record {
+        counted = length-set places (place - 1) event ∙ filled.counted;
+        within = omega (arith, length-set places (place - 1) event, filled.within);
+        come = subst (IsListed book last before) (sym behind) (lists_on book kept (drop place places) filled.come some is);
+      }
+
+  -- and all places are filled where none is left
+  pub fills_all : event ≡ 0 → (message : Text) → last ≡ last_receipt (history_in book) message → places ≡ receipts (history_in book) message
+  fills_all none message number =
+      let many = lists_as_many book kept (drop place places) filled.come none of in
+      let first : place ≡ 0 = omega (arith, many, filled.counted, filled.within, length-drop place places) in
+      ap (λ n. drop n places) (sym first) ∙ lists_all book kept (drop place places) filled.come none message number
+
+-- no place is filled before the first
+pub fills_none : (book : Contents) (last : ℕ) (places : List ℕ) → IsFilled book last last (length places) places (length places)
+fills_none book last places = record {
+  counted = refl;
+  within = omega arith;
+  come = subst (IsListed book last last) (sym (drop-length places)) (lists_none book last);
+}

@@ -1,12 +1,13 @@
 -- What a report that is not refused says of the ids and of the trees that its event is made of.
 use Rattle.std.proofs.Common.{◌≡◌, ◌≢◌, ◌+◌, ◌<◌, ◌≤◌, true, false, length, slice_get, Option, Some, None, is_some, refl, sym, ap, ◌∙◌, subst, inl, inr, arith}
-use Rattle.tenant_ledger.proofs.Words.{false≢true, cond-false, nat_tests, length-reverse, same_Some, slice_get_within, differ_by_test, Text, second_event, History, last_event, is_ended, is_joined, tree_clock, id_of, tree_of, acting_id, id_at, of_named, takes_in, Id, Zero, AreDisjoint, owns, EventTree, maximum, Row, Kind, Join, AllowsNamed, Contents, IsKept, IsReport, history_in, task_in, row_of_report, ids_made, id_for, joined_by, Report, Task}
+use Rattle.tenant_ledger.proofs.Words.{false≢true, cond-false, nat_tests, length-reverse, same_Some, slice_get_within, differ_by_test, Text, second_event, History, last_event, is_ended, is_joined, tree_clock, id_of, tree_of, acting_id, id_at, of_named, takes_in, Id, Zero, AreDisjoint, owns, EventTree, maximum, Row, Kind, Join, AllowsNamed, Contents, IsKept, IsReport, history_in, task_in, row_of_report, ids_made, id_for, joined_by, receipts_in, Report, Task}
 use Rattle.tenant_ledger.proofs.clock.Consequences.{ids_are_disjoint, acting_id_is_not_Zero, known_before_maximum-le}
 use Rattle.tenant_ledger.proofs.clock.Events.{known_before_new}
 use Rattle.tenant_ledger.proofs.clock.Reaching.{followed-le}
 use Rattle.tenant_ledger.proofs.clock.Tasks.{live_is_not_ended}
 use Rattle.tenant_ledger.proofs.keeping.Kept.{legal_with_row}
 use Rattle.tenant_ledger.proofs.keeping.Known.{legal_history, task_kept, IsAt, is_at, has_known}
+use Rattle.tenant_ledger.proofs.keeping.Messages.{received-le}
 use Rattle.tenant_ledger.proofs.keeping.Tasks.{own_id}
 
 -- the id with which an event is made
@@ -53,6 +54,10 @@ module _ {book : Contents} {report : Report} (kept : IsKept book) (is : IsReport
 
   pub second-le : report.named.second ≤ length book.rows
   second-le = omega (arith, is.second, followed-le row history (second_event history report.kind report.name) (inr refl), length-reverse book.rows)
+
+  -- what it receives has fewer receipts than there may be
+  pub few_receipts : receipts_in report.named.received < 16384
+  few_receipts = omega (arith, ap receipts_in is.received, received-le book kept report.kind report.name, length-reverse book.rows, is.few)
 
   -- an event may be made of what is known before it
   pub id_some : {id : Id} → id ≡ acting_id tree_clock history row → id ≢ Zero

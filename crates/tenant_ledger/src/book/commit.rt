@@ -10,7 +10,7 @@ ghost use Rattle.tenant_ledger.specs.Ledger.{HasRoom, IsReady, UsesRoomOfOne, en
 use super::draft::Made;
 use super::message::{key_by, last_in, noted_after};
 use super::{Book, Draft};
-use crate::share::Keep;
+use crate::share::{Keep, KeptId};
 use indexmap::{IndexMap, IndexSet};
 use trace_types::Name;
 
@@ -53,6 +53,10 @@ impl<S: Keep> Book<S> {
         } = made;
         let (room, name) = (&mut self.room, &row.name);
         let event = self.rows.len() as u64 + 1;
+        self.loose = self
+            .loose
+            .saturating_add(loose_nodes(&first))
+            .saturating_add(loose_nodes(&second));
         add_some(&mut self.ids, &mut room.ids, first);
         add_some(&mut self.ids, &mut room.ids, second);
         put_some(&mut self.tasks, &mut room.tasks, place, name, named);
@@ -69,6 +73,15 @@ impl<S: Keep> Book<S> {
         self.places.push_reserved(acting.id);
         self.earlier.push_reserved(last_in(received));
         event
+    }
+}
+
+/// How many inner nodes of the id may be given back, if there is one.
+#[inline(always)]
+fn loose_nodes<I: KeptId>(id: &Option<I>) -> u64 {
+    match id {
+        Some(id) => id.loose_nodes(),
+        None => 0,
     }
 }
 

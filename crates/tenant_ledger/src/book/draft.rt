@@ -8,8 +8,8 @@ ghost use Rattle.trace_types.specs.clock.EventTree.{Leaf};
 ghost use Rattle.tenant_ledger.specs.Ledger.{IsKept, HasRoom, history_in, IsReport, row_of_report, tree_of_report, MayRaise, event_of, Drafts, IsMadeOf, Prepares, Takes};
 
 use super::{Book, Message, Report, Room, Task};
-use crate::share::{Keep, Share};
-use crate::{MeantId, Shared, Stack};
+use crate::share::{Keep, KeptId, Share};
+use crate::{Shared, Stack};
 use event_tree::{EvTree, RaisedPoint};
 use id_tree::IdTree;
 use std::alloc::Global;
@@ -39,7 +39,8 @@ impl<S: Keep> Model for Draft<S> {
     ghost use Rattle.std.specs.Coded.{codes};
     ghost use Rattle.event_tree.specs.EventTreeCode.{event_tree_code};
     ghost use Rattle.id_tree.specs.IdCode.{id_code};
-    ghost use Rattle.tenant_ledger.specs.Ledger.{Event};
+    ghost use Rattle.std.specs.Prelude.{◌<◌};
+    ghost use Rattle.tenant_ledger.specs.Ledger.{Event, receipts_in};
 
     ghost Value = { Event };
 
@@ -55,6 +56,8 @@ impl<S: Keep> Model for Draft<S> {
       named = d.named;
       received = d.received;
     } };
+
+    ghost invariant = { λ d. receipts_in d.received < 16384 };
 }
 
 /// What is made of an event. The share keeps its tree and its ids.
@@ -239,6 +242,7 @@ impl<S: Keep> Book<S> {
         ensures made { IfOk result (IsMadeOf self.old report.now) }
     {
         self.make_room(rt)?;
+        self.unpack_ids(report);
         self.make_stack_room(stack, report)?;
         self.made(rt, report)
     }
@@ -253,8 +257,10 @@ impl<S: Keep> Book<S> {
         requires report { IsReport self.now report.now }
         ensures { IfOk result (IsMadeOf self.now report.now) }
     {
-        let ids = self.ids_made(report)?;
-        let id = ids.acting(self.id(report.acting.id));
+        let held = self.id(report.acting.id)?;
+        let own = held.as_tree();
+        let ids = self.ids_made(report, own)?;
+        let id = ids.acting(own);
         let (tree, point) = self.tree_after(report, id)?;
         let tree = self.share.keep_tree(rt, tree)?;
         let (first, second) = ids.keep(rt, &self.share)?;
@@ -385,8 +391,9 @@ impl<S: Keep> Book<S> {
             && self.tasks.len() >= Stack::LEVELS
             && let Some(id) = self.ids.get(report.acting.id)
         {
+            let id = id.tree(self.alloc)?;
             // There are as many inner nodes as levels at least.
-            stack.make_room(self.alloc, id.id_value().inner() as usize)?;
+            stack.make_room(self.alloc, id.as_tree().inner() as usize)?;
         }
         Ok(())
     }

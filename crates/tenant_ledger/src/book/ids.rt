@@ -52,8 +52,9 @@ impl Ids {
 }
 
 impl<S: Keep> Book<S> {
-    /// The ids that the report makes.
-    pub(super) fn ids_made(&self, report: &Report) -> Result<Ids, Memory>
+    /// The ids that the report makes, whose task has this one.
+    pub(super) fn ids_made(&self, report: &Report, own: &IdTree) -> Result<Ids, Memory>
+        requires own { own.now ≡ id_of tree_clock (history_in self.now) report.now.task }
         requires book { IsKept self.now }
         requires seeded { 0 < self.now.kept_ids }
         requires report { IsReport self.now report.now }
@@ -63,13 +64,13 @@ impl<S: Keep> Book<S> {
         match report.kind {
             Kind::Local | Kind::Send | Kind::Recv | Kind::End => Ok(Ids::Same),
             Kind::Spawn => {
-                let (kept, given) = self.id(report.acting.id).split(self.alloc)?;
+                let (kept, given) = own.split(self.alloc)?;
                 Ok(Ids::Split(kept, given))
             }
             Kind::Join => match report.named.joined {
                 Some(joined) => {
-                    let own = self.id(report.acting.id);
-                    Ok(Ids::Sum(own.sum(self.alloc, self.id(joined.id))?))
+                    let joined = self.id(joined.id)?;
+                    Ok(Ids::Sum(own.sum(self.alloc, joined.as_tree())?))
                 }
                 None => Ok(Ids::Same),
             },

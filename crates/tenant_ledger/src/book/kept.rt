@@ -51,15 +51,6 @@ impl<S: Keep> Book<S> {
         &self.starts
     }
 
-    /// The id that the event's task has after it.
-    pub fn stamp_id(&self, event: u64) -> &IdTree
-        requires kept { IsKept self.now }
-        requires event { is_event (history_in self.now) event ≡ true }
-        ensures { result.now ≡ id_after (history_in self.now) event }
-    {
-        self.event_id(event).id_value()
-    }
-
     /// How far the task has come, and its last event, else the event that started it, else 0. It is `None` if there is no
     /// such task.
     pub fn task(&self, name: &Name) -> Option<(TaskState, u64)>
@@ -80,7 +71,10 @@ impl<S: Keep> Book<S> {
         ensures sent { OnErr result (is_sent (history_in self.now) name.now ≡ true) }
     {
         match self.known_message(name) {
-            Ok((message, _)) => Ok(Some((message.sent, self.receipts(message.last)?))),
+            Ok((message, _)) => Ok(Some((
+                message.sent,
+                self.receipts(message.last, message.receipts)?,
+            ))),
             Err(_) => Ok(None),
         }
     }
@@ -99,5 +93,19 @@ impl<S: Keep> Book<S> {
         ensures { result ≡ message_count (history_in self.now) }
     {
         self.messages.len() as u64
+    }
+}
+
+impl<S: Keep> Book<S>
+where
+    S::Id: MeantId,
+{
+    /// The id that the event's task has after it.
+    pub fn stamp_id(&self, event: u64) -> &IdTree
+        requires kept { IsKept self.now }
+        requires event { is_event (history_in self.now) event ≡ true }
+        ensures { result.now ≡ id_after (history_in self.now) event }
+    {
+        self.event_id(event).id_value()
     }
 }

@@ -1,6 +1,6 @@
 //! Messages of a book.
-ghost use Rattle.std.specs.Prelude.{◌≡◌};
-ghost use Rattle.tenant_ledger.specs.Ledger.{key_by, last_in, noted_after};
+ghost use Rattle.std.specs.Prelude.{◌≡◌, ◌<◌};
+ghost use Rattle.tenant_ledger.specs.Ledger.{key_by, last_in, noted_after, receipts_in};
 
 use trace_types::Kind;
 
@@ -11,21 +11,26 @@ pub(crate) struct Message {
     pub(crate) sent: u64,
     /// The last event that received the message, or 0.
     pub(crate) last: u64,
+    /// How many events received the message.
+    pub(crate) receipts: usize,
 }
 
 /// What is to be kept of the message that an event of this kind sends, or that it receives.
 #[inline(always)]
 pub(super) fn noted_after(kind: Kind, event: u64, received: Option<Message>) -> Option<Message>
+    requires { receipts_in received < 16384 }
     ensures { result ≡ noted_after kind event received }
 {
     match (kind, received) {
         (Kind::Send, _) => Some(Message {
             sent: event,
             last: 0,
+            receipts: 0,
         }),
         (_, None) => None,
         (_, Some(message)) => Some(Message {
             last: event,
+            receipts: message.receipts + 1,
             ..message
         }),
     }

@@ -2,7 +2,7 @@
 ghost use Rattle.std.specs.Prelude.{◌≡◌, ◌-◌, ◌<◌, ◌≤◌, IfOk, Some, length, slice_get};
 ghost use Rattle.trace_types.specs.text.Name.{Text as Characters};
 ghost use Rattle.trace_types.specs.tenant.Rows.{has_received, receipts};
-ghost use Rattle.tenant_ledger.specs.Ledger.{IsKept, history_in, last_receipt, message_in, task_in};
+ghost use Rattle.tenant_ledger.specs.Ledger.{HasReceipts, IsKept, history_in, last_receipt, message_in, task_in};
 
 use super::{Book, Message, Task};
 use crate::share::Keep;
@@ -18,21 +18,44 @@ impl<S: Keep> Book<S> {
         sent.last != 0 && self.received.contains(&(acting.start, sent.sent))
     }
 
-    /// The events that received the message whose last receipt is this event, or 0. Returns `Memory` if it runs out of memory.
-    /// One receipt takes none.
-    pub(super) fn receipts(&self, last: u64) -> Result<Receipts, Memory>
+    /// The events that received the message whose last receipt is this event, or 0, and which has so many receipts. Returns
+    /// `Memory` if it runs out of memory. One receipt takes none.
+    pub(super) fn receipts(&self, last: u64, count: usize) -> Result<Receipts, Memory>
         requires book { IsKept self.now }
-        requires last { (message : Characters) × (last ≡ last_receipt (history_in self.now) message) }
+        requires last { HasReceipts self.now last count }
         ensures { IfOk result (λ found. (message : Characters) → last ≡ last_receipt (history_in self.now) message → found ≡ receipts (history_in self.now) message) }
     {
-        let mut found = Receipts::none(self.alloc);
-        let mut event = last;
+        match count {
+            0 => Ok(Receipts::none(self.alloc)),
+            1 => Ok(Receipts::one(self.alloc, last)),
+            _ => self.many_receipts(last, count),
+        }
+    }
+
+    /// The same, of a message that has more than one receipt.
+    fn many_receipts(&self, last: u64, count: usize) -> Result<Receipts, Memory>
+        requires book { IsKept self.now }
+        requires last { HasReceipts self.now last count }
+        ensures { IfOk result (λ found. (message : Characters) → last ≡ last_receipt (history_in self.now) message → found ≡ receipts (history_in self.now) message) }
+    {
+        let mut events = Vec::new(self.alloc);
+        events.resize(count, 0)?;
+        self.fill_receipts(events.as_mut_slice(), last);
+        Ok(Receipts::from(events))
+    }
+
+    /// Writes the receipts of the message whose last receipt is this event, from the last place back to the first.
+    fn fill_receipts(&self, places: &mut [u64], last: u64)
+        requires book { IsKept self.now }
+        requires last { HasReceipts self.now last (length places.old) }
+        ensures { (message : Characters) → last ≡ last_receipt (history_in self.now) message → places.new ≡ receipts (history_in self.now) message }
+    {
+        let (mut event, mut place) = (last, places.len());
         while event != 0 {
-            found.add(event)?;
+            place -= 1;
+            places[place] = event;
             event = self.receipt_before(event);
         }
-        found.reverse();
-        Ok(found)
     }
 
     /// The receipt before the event, of the message that it receives, or 0.

@@ -2,7 +2,7 @@ use Rattle.std.proofs.Common.{◌++◌, codes}
 use Rattle.trace_types.specs.text.StampText.{stamp_text}
 use Rattle.trace_types.specs.text.Text.{reply_text}
 use Rattle.trace_types.specs.declared.reply.Reply.TheVariants.{Stamp}
-use Rattle.stamp_reply.proofs.PatientTexts.{WritesBoth-second}
+use Rattle.line_protocol.proofs.PatientTexts.{WritesBoth-second}
 use Rattle.stamp_reply.proofs.reply.write_stamp_answer.Goals as goal
 
 pub returns : goal.returns

@@ -38,14 +38,14 @@ returns g c =
     found_all g.K.Meant.tree c.args.kept.now Concurrent c.args.event c.loop-place.place c.loop-place.events c.in_ok-tree.ensures.known
     (omega (arith, c.loop-place-test.false, c.loop-place.auto.place-end)) c.loop-place.invariant
 
-pub is_below_later-requires : goal.is_below_later-requires
-is_below_later-requires g c =
-    decided_earlier (placed g (goal.at.is_below_later-requires g c).After-index-kept-place) c.args.points.now c.requires.decided
+pub is_below_later-requires-clause-decided : goal.is_below_later-requires-clause-decided
+is_below_later-requires-clause-decided g c =
+    decided_earlier (placed g (goal.at.is_below_later-requires-clause-decided g c).After-index-kept-place) c.args.points.now c.requires.decided
     (ranked (c.loop-place.place + 1) c.args.event Less c.in-Less.ensures)
 
-pub is_below_later-requires-in-Greater : goal.is_below_later-requires-in-Greater
-is_below_later-requires-in-Greater g c =
-    decided_later (placed g (goal.at.is_below_later-requires-in-Greater g c).After-index-kept-place) c.args.points.now c.requires.decided
+pub is_below_later-requires-in-Greater-clause-decided : goal.is_below_later-requires-in-Greater-clause-decided
+is_below_later-requires-in-Greater-clause-decided g c =
+    decided_later (placed g (goal.at.is_below_later-requires-in-Greater-clause-decided g c).After-index-kept-place) c.args.points.now c.requires.decided
     (ranked (c.loop-place.place + 1) c.args.event Greater c.in-Greater.ensures)
 
 pub returns-in_err-map_err : goal.returns-in_err-map_err

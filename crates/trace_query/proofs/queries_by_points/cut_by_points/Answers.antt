@@ -56,9 +56,9 @@ loop-place-init g c =
           c.in_ok-is_listed.is_listed.items c.in_ok-is_listed.ensures.none c.new-events.result.items c.push.new.self.items c.new-events.ensures.items (rw ok at c.push.ensures.items),
     )
 
-pub is_below_later-requires : goal.is_below_later-requires
-is_below_later-requires g c =
-    let at = goal.at.is_below_later-requires g c in
+pub is_below_later-requires-clause-decided : goal.is_below_later-requires-clause-decided
+is_below_later-requires-clause-decided g c =
+    let at = goal.at.is_below_later-requires-clause-decided g c in
     decided_earlier (placed g at.After-index-kept-place) c.args.points.now c.requires.decided (omega (arith, (seen g at.After-index).0))
 
 pub loop-place-preserved-then-is_below_later : goal.loop-place-preserved-then-is_below_later

@@ -36,9 +36,9 @@ returns g c =
     let last : c.loop-place.place ≡ c.args.event - 1 = omega (arith, many, c.loop-place-test.false, c.loop-place.auto.place-end) in
     found_earlier trees c.args.event c.loop-place.place c.loop-place.events c.requires.in_order c.in_ok-tree.ensures.known last c.loop-place.invariant
 
-pub is_below_later-requires : goal.is_below_later-requires
-is_below_later-requires g c =
-    let seen = placed g (goal.at.is_below_later-requires g c).After-index-earlier-place in
+pub is_below_later-requires-clause-decided : goal.is_below_later-requires-clause-decided
+is_below_later-requires-clause-decided g c =
+    let seen = placed g (goal.at.is_below_later-requires-clause-decided g c).After-index-earlier-place in
     decided_earlier seen.1 c.args.points.now c.requires.decided seen.0
 
 pub returns-in_err-map_err : goal.returns-in_err-map_err

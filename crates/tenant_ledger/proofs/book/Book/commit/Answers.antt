@@ -10,7 +10,7 @@ pub returns-clause-book : goal.returns-clause-book
 returns-clause-book g c =
     let tree = g.S.Kept.Meant.tree in
     let home = g.S.Keep.home_of in
-    let id = g.S.Id.MeantId.id in
+    let id = g.S.Id.KeptId.id in
     let book = c.self.inside in
     let draft = c.draft.inside in
     let of_made : Made → Event =

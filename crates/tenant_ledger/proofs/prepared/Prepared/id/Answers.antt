@@ -10,5 +10,5 @@ pub returns-clause-size : goal.returns-clause-size
 returns-clause-size g c =
     let event = c.self.inside.draft in
     let id = c.id_after.ensures ∙ ap (λ (book : Contents). id_of tree_clock (event.row ∷ history_in book) event.row.task) c.deref.ensures in
-    subst (λ (upcoming : Upcoming). inner_of_id (g.S.Id.MeantId.id c.id_after.result.now) ≤ spawn_count (upcoming.row ∷ history_of upcoming.tenant.rows)) c.self.view_is
+    subst (λ (upcoming : Upcoming). inner_of_id (g.S.Id.KeptId.id c.id_after.result.now) ≤ spawn_count (upcoming.row ∷ history_of upcoming.tenant.rows)) c.self.view_is
     (omega (arith, ap inner_of_id id, id_is_within (event.row ∷ history_in c.self.inside.book.value) event.row.task))

@@ -5,14 +5,14 @@ use Rattle.trace_session.specs.Shelves.{KeepsFor}
 use Rattle.trace_session.proofs.shelf.Shelf.put.Goals as goal
 
 pub exchange-before-requires : goal.exchange-before-requires
-exchange-before-requires c = (c.requires.gap.0, (None, has_slot c.args.gap.me None c.requires.gap.1))
+exchange-before-requires c = (c.requires.turn.0, (None, has_slot c.args.turn.me None c.requires.turn.1))
 
-pub store-requires : goal.store-requires
-store-requires c =
+pub swap-found-requires : goal.swap-found-requires
+swap-found-requires c =
     let key = c.args.self.now.table.shared.key in
     let seat = c.exchange-before.new.seat in (
-      c.exchange-before.ensures.0 ∙ c.requires.gap.0,
+      c.exchange-before.ensures.0 ∙ c.requires.turn.0,
       omega (arith, c.args.self.now.words),
       subst (λ slots. Allows (KeepsFor key) slots seat.id seat.me 0 (λ found. 0) (λ found after. after.1 ≡ [])) (sym c.args.self.now.slots)
-          (put_down key c.args.gap.me.0 seat.id c.args.gap.me seat.me c.args.resting c.requires.gap.1 c.exchange-before.ensures.3 c.requires.rests),
+          (put_down key c.args.turn.me.0 seat.id c.args.turn.me seat.me c.args.resting c.requires.turn.1 c.exchange-before.ensures.3 c.requires.rests),
     )

@@ -1,0 +1,90 @@
+//! Ids of a book are packed, where its share can do that.
+ghost use Rattle.std.specs.Prelude.{◌≡◌, map, vec_capacity, vec_len};
+
+use super::{Book, Report};
+use crate::share::{Keep, KeptId};
+use std::alloc::Global;
+
+/// The most nodes of ids that a book keeps loose, however few events it has.
+const LEAST: u64 = 256;
+
+/// It keeps one more for so many events.
+const EVENTS: u64 = 4;
+
+impl<S: Keep> Book<S> {
+    /// Has the ids of the report's tasks be there as trees, if there is memory for them. Before that it packs all others, if too
+    /// many of their nodes could be given back.
+    #[inline(always)]
+    pub(super) fn unpack_ids(&mut self, report: &Report)
+        ensures { self.new ≡ self.old }
+    {
+        if self.loose > LEAST + self.rows.len() as u64 / EVENTS {
+            self.pack_others(report);
+        }
+        self.unpack_at(report.acting.id);
+        if let Some(joined) = report.named.joined {
+            self.unpack_at(joined.id);
+        }
+    }
+
+    /// Has the id at the place be there as a tree, if there is memory for it.
+    #[inline(always)]
+    fn unpack_at(&mut self, place: usize)
+        ensures { self.new ≡ self.old }
+    {
+        let made = unpack_in(self.alloc, &mut self.ids, place);
+        self.loose = self.loose.saturating_add(made);
+    }
+
+    /// Packs all ids but those of the report's tasks.
+    #[inline(never)]
+    fn pack_others(&mut self, report: &Report)
+        ensures { self.new ≡ self.old }
+    {
+        let acting = report.acting.id;
+        let joined = match report.named.joined {
+            Some(joined) => joined.id,
+            None => acting,
+        };
+        self.loose = 0;
+        pack_all_but(self.alloc, &mut self.ids, acting, joined);
+    }
+}
+
+/// Packs all ids but those at these two places.
+fn pack_all_but<I: KeptId>(alloc: Global, ids: &mut Vec<I>, one: usize, other: usize)
+    ensures ids { map I.id ids.new.items ≡ map I.id ids.old.items }
+    ensures len { vec_len ids.new ≡ vec_len ids.old }
+    ensures capacity { vec_capacity ids.new ≡ vec_capacity ids.old }
+{
+    for place in 0..ids.len() {
+        if place != one && place != other {
+            pack_in(alloc, ids, place);
+        }
+    }
+}
+
+/// Packs the id at the place, if there is one.
+#[inline(always)]
+fn pack_in<I: KeptId>(alloc: Global, ids: &mut Vec<I>, place: usize)
+    ensures ids { map I.id ids.new.items ≡ map I.id ids.old.items }
+    ensures len { vec_len ids.new ≡ vec_len ids.old }
+    ensures capacity { vec_capacity ids.new ≡ vec_capacity ids.old }
+{
+    if let Some(id) = ids.get_mut(place) {
+        id.pack(alloc);
+    }
+}
+
+/// Has the id at the place be there as a tree, if there is one, and memory for it. It gives how many inner nodes were made.
+#[inline(always)]
+fn unpack_in<I: KeptId>(alloc: Global, ids: &mut Vec<I>, place: usize) -> u64
+    ensures ids { map I.id ids.new.items ≡ map I.id ids.old.items }
+    ensures len { vec_len ids.new ≡ vec_len ids.old }
+    ensures capacity { vec_capacity ids.new ≡ vec_capacity ids.old }
+{
+    match ids.get_mut(place) {
+        Some(id) => id.unpack(alloc),
+        None => 0,
+    }
+}
