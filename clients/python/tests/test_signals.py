@@ -50,6 +50,16 @@ signal.signal(signal.SIGTERM, lambda *_: sys.exit(0))
 print("ready", flush=True)
 time.sleep(1000)
 """
+COUNTING = """
+import signal, sys, time
+came = []
+signal.signal(signal.SIGTERM, lambda *_: came.append(1))
+print("ready", flush=True)
+while not came:
+    time.sleep(0.01)
+time.sleep(1)
+sys.exit(len(came))
+"""
 
 
 class Started:
@@ -131,6 +141,14 @@ time.sleep(1000)
         status, errors = run.end(signal.SIGTERM)
         self.assertEqual(status, 3, errors)
         self.assertNotIn("incomplete", errors)
+
+    def test_a_signal_comes_to_the_program_once(self) -> None:
+        """Also if it was sent to the whole group, as a supervisor and a terminal do."""
+        for is_for_all in (True, False):
+            run = Started(self.program(COUNTING))
+            run.wait_for("ready")
+            status, errors = run.end(signal.SIGTERM, is_for_all)
+            self.assertEqual(status, 1, (is_for_all, errors))
 
     def test_a_program_that_does_not_heed_a_signal_goes_on(self) -> None:
         run = Started(self.program(DEAF))
