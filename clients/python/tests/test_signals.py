@@ -53,11 +53,14 @@ time.sleep(1000)
 COUNTING = """
 import signal, sys, time
 came = []
-signal.signal(signal.SIGTERM, lambda *_: came.append(1))
+def end(*_):
+    came.append(1)
+    print("came", flush=True)
+signal.signal(signal.SIGTERM, end)
 print("ready", flush=True)
 while not came:
     time.sleep(0.01)
-time.sleep(1)
+time.sleep(3)
 sys.exit(len(came))
 """
 
@@ -142,13 +145,21 @@ time.sleep(1000)
         self.assertEqual(status, 3, errors)
         self.assertNotIn("incomplete", errors)
 
-    def test_a_signal_comes_to_the_program_once(self) -> None:
-        """Also if it was sent to the whole group, as a supervisor and a terminal do."""
-        for is_for_all in (True, False):
-            run = Started(self.program(COUNTING))
-            run.wait_for("ready")
-            status, errors = run.end(signal.SIGTERM, is_for_all)
-            self.assertEqual(status, 1, (is_for_all, errors))
+    def test_a_signal_to_the_run_alone_comes_to_the_program_once(self) -> None:
+        run = Started(self.program(COUNTING))
+        run.wait_for("ready")
+        status, errors = run.end(signal.SIGTERM)
+        self.assertEqual(status, 1, errors)
+
+    def test_a_signal_to_the_whole_group_comes_to_the_program_once(self) -> None:
+        """As supervisors and terminals send it. What hands it on looks at it later than the program, which could not count two at once."""
+        run = Started(self.program(COUNTING))
+        run.wait_for("ready")
+        run.process.send_signal(signal.SIGSTOP)
+        os.killpg(run.process.pid, signal.SIGTERM)
+        run.wait_for("came")
+        status, errors = run.end(signal.SIGCONT)
+        self.assertEqual(status, 1, errors)
 
     def test_a_program_that_does_not_heed_a_signal_goes_on(self) -> None:
         run = Started(self.program(DEAF))
