@@ -189,6 +189,19 @@ class ByValue(unittest.TestCase):
             os.symlink(DEBIAN, os.path.join(folder, "cloudpickle"))
             self.assert_same(folder)
 
+    @unittest.skipUnless(os.path.isdir(DEBIAN), "python3-cloudpickle is not there")
+    def test_functions_and_classes_of_many_kinds_work_elsewhere(self) -> None:
+        text = Path(__file__).with_name("leaving_by_value.py").read_text()
+        with tempfile.TemporaryDirectory() as folder, tempfile.TemporaryDirectory() as own:
+            os.symlink(DEBIAN, os.path.join(folder, "cloudpickle"))
+            program, path = Path(own, "program.py"), os.pathsep.join((str(PACKAGE), folder))
+            program.write_text(text)
+            plain = run_python(str(program), PYTHONPATH=path)
+            self.assertEqual((plain.returncode, plain.stdout.count("\n"), plain.stdout.count("fails")), (0, 34, 0), plain.stdout + plain.stderr)
+            for form, pure in FORMS.items():
+                with self.subTest(hooks=form):
+                    self.assertEqual(run_traced(str(program), PYTHONPATH=path, ITC_TRACE_PURE=pure).stdout, plain.stdout)
+
     @unittest.skipUnless(os.path.isdir(OTHER), "python3-dill is not there")
     def test_what_dill_takes_works_without_hooks(self) -> None:
         with tempfile.TemporaryDirectory() as folder:
