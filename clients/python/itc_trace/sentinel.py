@@ -20,6 +20,8 @@ class Sentinel:
 
     def __init__(self) -> None:
         self._process: subprocess.Popen[bytes] | None = None
+        if not hasattr(signal, "pthread_sigmask"):
+            return
         before = signal.pthread_sigmask(signal.SIG_BLOCK, signal.valid_signals())
         with contextlib.suppress(OSError):  # Without it nothing is known of a signal.
             self._process = subprocess.Popen(COMMAND, stdin=subprocess.PIPE, stdout=subprocess.DEVNULL, stderr=subprocess.DEVNULL)
