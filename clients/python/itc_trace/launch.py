@@ -34,6 +34,7 @@ from .own_path import leave_to_program
 from .part_collectors import SHARED, ask_for_port
 from .patches.base import like
 from .patches.process_pools import take_done
+from .patches.tracebacks import leave_out_of
 from .shaking import Shaking
 from .tracer_parts import Parts
 from .tracing import Tracing
@@ -294,6 +295,7 @@ def _run_file(words: list[str]) -> None:
 
 def _show(error: BaseException) -> None:
     """Shows an error of the program, without the frames of this package. If the program's own hook fails, both errors are shown."""
+    leave_out_of(error)
     trace = _own_trace(error)
     try:
         sys.excepthook(type(error), error.with_traceback(trace), trace)

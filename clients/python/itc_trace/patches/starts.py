@@ -11,6 +11,7 @@ from .. import following
 from ..lines import Line
 from ..noting import frame_at, is_internal
 from .base import Patches
+from .fork_warnings import forked
 from .later import once_imported
 
 _own = threading.local()
@@ -52,7 +53,7 @@ def _fork(original: Any) -> Any:
         begun = following.begin(name, "fork", 2)
         following.forks(begun)
         try:
-            number = int(original())
+            number = int(forked(original))
         except BaseException:
             following.did_not_start(begun)
             raise

@@ -44,6 +44,7 @@ def watch(folders: Sequence[str], packages: Sequence[str] = ()) -> None:
     _finder = Finder(Selection(folders, [name for name in packages if not _is_traced_as_a_whole(name)]))
     hooks.put(False)
     sys.meta_path.insert(0, _finder)  # type: ignore[arg-type]
+    leaving.stand_first()
     if importlib.util.spec_from_file_location is _plain_spec:
         importlib.util.spec_from_file_location = like(_plain_spec, _spec_from_file_location)
 
@@ -143,7 +144,7 @@ def selection() -> Selection | None:
 
 def unwatched() -> list[Unseen]:
     """What of the program was to be watched, and was not."""
-    return [] if _finder is None else [*UNWATCHED, *files_without_hooks(_finder.selection), *touches_lost()]
+    return [] if _finder is None else [*UNWATCHED, *files_without_hooks(_finder.selection), *touches_lost(), *leaving.unseen()]
 
 
 def not_looked_into() -> list[PassedOver]:
@@ -171,4 +172,5 @@ def end() -> None:
         Line.__init__ = _plain_line_begin  # type: ignore[method-assign]
         _plain_line_begin = None
     hooks.put(False)
+    leaving.end()
     things.let_go()
