@@ -5,8 +5,8 @@ from __future__ import annotations
 import os
 import sys
 
-from . import __main__
-from .collector import NoCollector, find_in_repository, find_program
+from .cli.commands import main as of_the_package
+from .record.collector import NoCollector, find_in_repository, find_program
 
 OF_THE_PROGRAM = ("replay", "serve", "check", "load", "--version", "-V")
 PICTURE = "picture"
@@ -40,7 +40,7 @@ def main() -> int:
     if word == PICTURE and picture is not None:
         environment = {**os.environ, "ITC_TRACE": program}
         os.execve(sys.executable, [sys.executable, picture, *sys.argv[2:]], environment)
-    return __main__.main()
+    return of_the_package()
 
 
 if __name__ == "__main__":

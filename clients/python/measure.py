@@ -292,7 +292,7 @@ def measure_races() -> None:
 
 def measure_races_of(what: str, rows: list[tuple[str, str, str | None]]) -> None:
     try:
-        from itc_trace.verdict import END_ROW
+        from itc_trace.model.verdict import END_ROW
     except ImportError:  # A package that is measured beside this one may have none.
         END_ROW = ""
     with Collector("trace") as collector:

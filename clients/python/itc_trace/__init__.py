@@ -5,15 +5,15 @@ queues, pools and asyncio do; `shared` and `touch` say what is shared; `races` f
 """
 
 from . import own_path  # Before anything else is imported.
-from .children import watch_as_child
-from .collector import Collector, NoCollector
-from .noting import touch
-from .races import Race, Races, find_races
+from .processes.children import watch_as_child
+from .record.collector import Collector, NoCollector
+from .record.noting import touch
+from .analyse.races import Race, Races, find_races
 from .session import Refused, Session
-from .shared import shared
-from .tracing import Tracing, install, tracing, uninstall
-from .verdict import Cause, Unseen, Verdict
-from .web import AsgiMiddleware, Middleware, Opener, incoming, opener, outgoing
+from .marked.shared import shared
+from .api.tracing import Tracing, install, tracing, uninstall
+from .model.verdict import Cause, Unseen, Verdict
+from .api.web import AsgiMiddleware, Middleware, Opener, incoming, opener, outgoing
 
 __all__ = [
     "AsgiMiddleware", "Cause", "Collector", "Middleware", "NoCollector", "Opener", "Race", "Races", "Refused", "Session", "Tracing",

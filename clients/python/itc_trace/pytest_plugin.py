@@ -20,11 +20,11 @@ from _pytest.assertion.rewrite import AssertionRewritingHook, rewrite_asserts
 from _pytest.runner import runtestprotocol
 
 from . import watch
-from .benign import Looking, read_patterns
-from .collector import Collector
-from .patches import put_all
-from .run import told
-from .tracing import Tracing
+from .analyse.benign import Looking, read_patterns
+from .record.collector import Collector
+from .sync import put_all
+from .cli.run import told
+from .api.tracing import Tracing
 from .watch import doctests
 
 MARK = "races"

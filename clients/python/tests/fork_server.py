@@ -18,13 +18,13 @@ sys.argv[:], sys.path[0] = ["-m"], os.getcwd()  # As `python3 -m` begins, and be
 
 import runpy  # noqa: E402
 
-import itc_trace.launch  # noqa: E402
+import itc_trace.cli.launch  # noqa: E402
 
-OF_PROGRAM = frozenset(sys.modules) - {"itc_trace.launch"}
+OF_PROGRAM = frozenset(sys.modules) - {"itc_trace.cli.launch"}
 """The modules that the program's process begins with. It runs the last one as `__main__`."""
 
 import itc_trace.__main__  # noqa: E402
-import itc_trace.ending  # noqa: E402
+import itc_trace.cli.ending  # noqa: E402
 
 del sys.modules["itc_trace.__main__"], itc_trace.__main__  # The command's process runs this one as `__main__`.
 
@@ -74,7 +74,7 @@ def run(words: list[str]) -> None:
         launch(**json.loads(text))
         return
     os.close(told)
-    ending: Any = itc_trace.ending
+    ending: Any = itc_trace.cli.ending
     ending.subprocess = types.SimpleNamespace(Popen=lambda words, env: Waiting(process, telling, words, env))
     try:
         begin("itc_trace", "run", *words)
@@ -86,7 +86,7 @@ def launch(words: list[str], environment: dict[str, str]) -> None:
     os.environ.clear()
     os.environ.update(environment)
     forgotten = [forget(name) for name in list(sys.modules) if name not in OF_PROGRAM]
-    begin("itc_trace.launch", *words[len(words_of("itc_trace.launch")):])
+    begin("itc_trace.cli.launch", *words[len(words_of("itc_trace.cli.launch")):])
     del forgotten
 
 
@@ -125,7 +125,7 @@ class Waiting:
     """The program's process, which begins now. The command sees it as one that it has started."""
 
     def __init__(self, process: int, telling: int, words: list[str], environment: dict[str, str]) -> None:
-        if words[:len(words_of("itc_trace.launch"))] != words_of("itc_trace.launch"):
+        if words[:len(words_of("itc_trace.cli.launch"))] != words_of("itc_trace.cli.launch"):
             raise ValueError(f"the command begins another process: {words}")
         self.pid = process
         with open(telling, "w", encoding="utf-8") as request:

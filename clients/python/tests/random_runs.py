@@ -7,8 +7,8 @@ import random
 from collections import defaultdict
 from collections.abc import Iterable, Iterator
 
-from itc_trace.conflicts import ADDITION, CHANGING, ITERATION, LENGTH, MAKING, READ, WRITE, conflicts
-from itc_trace.journal import Row
+from itc_trace.model.conflicts import ADDITION, CHANGING, ITERATION, LENGTH, MAKING, READ, WRITE, conflicts
+from itc_trace.record.journal import Row
 
 LOCKS = ("#1 lock A (a.py:1)", "#2 lock B (a.py:2)")
 MOST_TASKS = 5

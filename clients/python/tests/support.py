@@ -18,12 +18,12 @@ from pathlib import Path
 from typing import Any, TypeVar
 
 from itc_trace import Collector, Races, Tracing, tracing
-from itc_trace.collector import HOST
-from itc_trace.dividing import Border, Limits
-from itc_trace.journal import Row, read_journal, read_line
-from itc_trace.lines import Line
-from itc_trace.parts import races_of_parts
-from itc_trace.tracer_parts import Parts
+from itc_trace.record.collector import HOST
+from itc_trace.record.dividing import Border, Limits
+from itc_trace.record.journal import Row, read_journal, read_line
+from itc_trace.model.lines import Line
+from itc_trace.analyse.parts import races_of_parts
+from itc_trace.record.tracer_parts import Parts
 
 Case = TypeVar("Case")
 PACKAGE = Path(__file__).resolve().parent.parent
@@ -204,7 +204,7 @@ def run_python(*words: str, python: str | None = sys.executable, **variables: st
 
 PATIENT = f"""
 import sys
-from itc_trace import __main__, system
+from itc_trace.cli import commands as __main__, system
 system.GRACE_SECONDS = system.READY_SECONDS = {WAIT}.0
 sys.exit(__main__.main())
 """

@@ -9,8 +9,8 @@ from pathlib import Path
 from unittest import mock
 
 from itc_trace import Verdict
-from itc_trace.seeing import races_seen
-from itc_trace.verdict import end_row
+from itc_trace.analyse.seeing import races_seen
+from itc_trace.model.verdict import end_row
 
 from .support import ProgramCase, run_python, run_traced
 
@@ -155,7 +155,7 @@ class Silence(unittest.TestCase):
     def test_a_collector_that_does_not_answer_is_not_waited_for_without_end(self) -> None:
         row = '{"event":%d,"task":"%s","thing":"x","kind":"write","file":"a.py","line":1,"label":""}\n'
         journal = [row % one for one in ((1, "a"), (2, "b"))]
-        with socket.create_server(("127.0.0.1", 0)) as door, mock.patch("itc_trace.races.LONGEST_ANSWER", 0.1):
+        with socket.create_server(("127.0.0.1", 0)) as door, mock.patch("itc_trace.analyse.races.LONGEST_ANSWER", 0.1):
             found = races_seen("trace", door.getsockname()[1], [*journal, end_row(2)])
         self.assertEqual(found.verdict(), Verdict.INCOMPLETE)
         self.assertIn("timed out", found.unseen[0].text)

@@ -12,14 +12,14 @@ import time
 import unittest
 
 from itc_trace import Cause, Verdict, touch, tracing
-from itc_trace.journal import read_whole
+from itc_trace.record.journal import read_whole
 
 from .support import ProgramCase, fresh_tenant, run_traced
 
 PROGRAM = """
 import mmap, multiprocessing, os, sys, time
 import itc_trace
-from itc_trace import tracer
+from itc_trace.record import tracer
 
 tracer.ANSWER_WAIT, memory = 900, mmap.mmap(-1, 1)
 stock = itc_trace.shared({"left": 9}, "stock")

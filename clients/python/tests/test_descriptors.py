@@ -7,8 +7,9 @@ import tempfile
 import unittest
 from pathlib import Path
 
-from itc_trace import Verdict, own_files
-from itc_trace.journal_file import JournalFile
+from itc_trace import Verdict
+from itc_trace.record import own_files
+from itc_trace.record.journal_file import JournalFile
 
 from .support import ProgramCase, needs, python_with, run_python, run_traced
 

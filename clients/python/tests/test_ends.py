@@ -10,8 +10,8 @@ import threading
 import unittest
 
 from itc_trace import Collector, Session, touch, tracing
-from itc_trace.collector import PORTS_TO_TRY, find_program, free_port
-from itc_trace.journal import read_journal
+from itc_trace.record.collector import PORTS_TO_TRY, find_program, free_port
+from itc_trace.record.journal import read_journal
 
 from .support import PACKAGE, ProgramCase, kept_port, run_python, run_traced
 

@@ -10,9 +10,9 @@ import unittest
 from pathlib import Path
 
 from itc_trace import Collector, Session, Verdict, touch, tracing
-from itc_trace.collector import find_program
-from itc_trace.journal import NoJournal, read_whole
-from itc_trace.verdict import BREAKS_OFF, END_ROW, Cause, Unseen, end_row
+from itc_trace.record.collector import find_program
+from itc_trace.record.journal import NoJournal, read_whole
+from itc_trace.model.verdict import BREAKS_OFF, END_ROW, Cause, Unseen, end_row
 
 from .support import PACKAGE, ProgramCase, kept_port, run_python, run_traced
 
@@ -137,7 +137,7 @@ class Errors(ProgramCase):
 
 TAKING = """
 import sys, threading, itc_trace
-from itc_trace.relay import Relay
+from itc_trace.processes.relay import Relay
 relay = Relay(0, int(sys.argv[1]))
 threading.Thread(target=relay.serve, daemon=True).start()
 with itc_trace.tracing(port=relay.port, journal=sys.argv[2]) as traced:

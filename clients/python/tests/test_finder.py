@@ -8,12 +8,13 @@ from collections.abc import Callable, Iterable, Iterator
 from typing import Any
 from unittest import mock
 
-from itc_trace import Collector, Races, Session, races, racing_pairs
-from itc_trace.conflicts import CHANGING, CONFLICTING
-from itc_trace.journal import Row
-from itc_trace.races import _Finder, _things_of
+from itc_trace import Collector, Races, Session
+from itc_trace.analyse import races, racing_pairs
+from itc_trace.model.conflicts import CHANGING, CONFLICTING
+from itc_trace.record.journal import Row
+from itc_trace.analyse.races import _Finder, _things_of
 from itc_trace.session import Refused
-from itc_trace.trace import Steps, Told, Trace
+from itc_trace.analyse.trace import Steps, Told, Trace
 
 from .random_runs import LOCKS, Answers, AnswersWithoutLocks, Found, RandomRun, Run
 

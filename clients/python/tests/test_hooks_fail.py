@@ -5,8 +5,9 @@ from __future__ import annotations
 import unittest
 from unittest import mock
 
-from itc_trace import Cause, Verdict, noting, touch, tracing
-from itc_trace.lines import EVENT
+from itc_trace import Cause, Verdict, touch, tracing
+from itc_trace.record import noting
+from itc_trace.model.lines import EVENT
 
 from .support import ProgramCase, run_python, run_traced
 

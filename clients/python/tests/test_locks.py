@@ -11,8 +11,8 @@ from concurrent.futures import Future
 from typing import Any
 
 from itc_trace import touch
-from itc_trace.lines import state
-from itc_trace.noting import current
+from itc_trace.model.lines import state
+from itc_trace.record.noting import current
 
 from .support import WAIT, Step, TracedCase, in_turn
 

@@ -9,10 +9,10 @@ import unittest
 from pathlib import Path
 
 from itc_trace import Verdict
-from itc_trace.collector import find_program
-from itc_trace.part_collectors import PartCollectors, ask_for_port
-from itc_trace.parts import races_of_parts
-from itc_trace.verdict import BREAKS_OFF, END_ROW, Cause, Unseen, end_row
+from itc_trace.record.collector import find_program
+from itc_trace.processes.part_collectors import PartCollectors, ask_for_port
+from itc_trace.analyse.parts import races_of_parts
+from itc_trace.model.verdict import BREAKS_OFF, END_ROW, Cause, Unseen, end_row
 
 from .support import ProgramCase, run_python, run_traced
 
@@ -161,7 +161,8 @@ for thread in threads: thread.join()
 """
 ROWS_THAT_GO = """
 import threading, time, _thread
-from itc_trace import lines, touch_rows
+from itc_trace.model import lines
+from itc_trace.record import touch_rows
 touch_rows.MOST_PRIVATE = 100
 class Row:
     def __init__(self):
@@ -188,7 +189,8 @@ thread.join()
 """
 FULL_AT_ITS_END = """
 import itc_trace, threading, time
-from itc_trace import lines, tracer_parts
+from itc_trace.model import lines
+from itc_trace.record import tracer_parts
 tracer_parts.Parts.is_full = property(lambda parts: lines.state.tracer is None)
 threads = [threading.Thread(target=itc_trace.touch, args=("x", True)) for _ in range(2)]
 for thread in threads: thread.start()
@@ -321,7 +323,7 @@ class LongRuns(ProgramCase):
         """More ended threads may be waited for than a part takes along, and the first one is."""
         program = self.program("""
 import threading, itc_trace
-from itc_trace import tracer_parts
+from itc_trace.record import tracer_parts
 tracer_parts.MOST_ENDED = 20
 threads = []
 def begin():

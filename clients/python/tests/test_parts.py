@@ -10,13 +10,15 @@ from collections.abc import Callable, Iterator
 from typing import Any
 from unittest import mock
 
-from itc_trace import Races, across_parts, dividing
-from itc_trace.across_parts import AcrossParts
-from itc_trace.dividing import Border, Divider, Limits, Report
-from itc_trace.journal import Row
-from itc_trace.parts import Part, collected, find_in_parts
+from itc_trace import Races
+from itc_trace.analyse import across_parts
+from itc_trace.record import dividing
+from itc_trace.analyse.across_parts import AcrossParts
+from itc_trace.record.dividing import Border, Divider, Limits, Report
+from itc_trace.record.journal import Row
+from itc_trace.analyse.parts import Part, collected, find_in_parts
 from itc_trace.session import Refused
-from itc_trace.trace import Asked, Trace
+from itc_trace.analyse.trace import Asked, Trace
 
 from .random_runs import Answers, Found, RandomRun, Run
 

@@ -5,10 +5,10 @@ from __future__ import annotations
 import unittest
 
 from itc_trace import Verdict
-from itc_trace.journal import read_whole
-from itc_trace.merging import Merged
-from itc_trace.races import Races
-from itc_trace.verdict import PassedOver, end_row
+from itc_trace.record.journal import read_whole
+from itc_trace.report.merging import Merged
+from itc_trace.analyse.races import Races
+from itc_trace.model.verdict import PassedOver, end_row
 
 from .support import ProgramCase, run_traced
 

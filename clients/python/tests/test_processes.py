@@ -6,10 +6,11 @@ import os
 import unittest
 from unittest import mock
 
-from itc_trace import Verdict, shared_names
-from itc_trace.journal import read_whole
-from itc_trace.shared_names import SharedNames
-from itc_trace.verdict import END_ROW, child_begun_row, child_ended_row
+from itc_trace import Verdict
+from itc_trace.record import shared_names
+from itc_trace.record.journal import read_whole
+from itc_trace.record.shared_names import SharedNames
+from itc_trace.model.verdict import END_ROW, child_begun_row, child_ended_row
 
 from .support import ProgramCase, chosen, run_python, run_traced
 

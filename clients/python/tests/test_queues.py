@@ -11,7 +11,7 @@ from concurrent.futures import Future, ThreadPoolExecutor
 from typing import Any
 
 from itc_trace import touch
-from itc_trace.patches.queues import items_of
+from itc_trace.sync.queues import items_of
 
 from .support import PART_EVENTS, WAIT, Step, TracedCase, in_turn, wait_until
 from .test_threads import write

@@ -13,9 +13,9 @@ from concurrent.futures import ThreadPoolExecutor
 from wsgiref.simple_server import WSGIRequestHandler, make_server
 
 from itc_trace import Collector, Middleware, Refused, Session, incoming, opener, outgoing, touch, tracing
-from itc_trace.collector import find_program
-from itc_trace.relay import Relay
-from itc_trace.snapshot import snapshot
+from itc_trace.record.collector import find_program
+from itc_trace.processes.relay import Relay
+from itc_trace.analyse.snapshot import snapshot
 
 from .support import WAIT, TracedCase, wait_until
 
@@ -132,7 +132,7 @@ class Relayed(unittest.TestCase):
             self.assertEqual(view.task("root"), ("live", 1))
 
     def test_a_session_goes_on_beyond_the_collector_s_limit_of_requests(self) -> None:
-        import itc_trace.relay as module
+        import itc_trace.processes.relay as module
 
         limit, module.MOST_REQUESTS = module.MOST_REQUESTS, 1000
         try:

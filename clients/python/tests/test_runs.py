@@ -10,7 +10,7 @@ import unittest
 from pathlib import Path
 
 from itc_trace import Verdict
-from itc_trace.collector import find_program
+from itc_trace.record.collector import find_program
 
 from .support import ProgramCase, run_python, run_traced
 
@@ -58,7 +58,7 @@ HELD = """
 import _thread, queue, sys, threading
 from concurrent.futures import ThreadPoolExecutor
 import itc_trace
-from itc_trace.shaking import Shaking
+from itc_trace.sync.shaking import Shaking
 
 KINDS = (vars(_thread)["RLock"],)
 held, paused, looked_at = [], set(), set()

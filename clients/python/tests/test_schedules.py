@@ -9,8 +9,8 @@ from collections.abc import Callable
 from typing import Any
 
 from itc_trace import Races, touch
-from itc_trace.conflicts import READ, WRITE
-from itc_trace.journal import Row
+from itc_trace.model.conflicts import READ, WRITE
+from itc_trace.record.journal import Row
 
 from .random_runs import RandomRun
 from .support import WAIT, Step, TracedCase

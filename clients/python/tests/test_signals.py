@@ -12,7 +12,7 @@ import unittest
 from pathlib import Path
 
 from itc_trace import Verdict
-from itc_trace.collector import find_program
+from itc_trace.record.collector import find_program
 
 from .support import PACKAGE, PATIENT, WAIT, ProgramCase, run_traced, wait_until
 

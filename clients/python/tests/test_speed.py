@@ -10,9 +10,10 @@ import unittest
 from collections.abc import Callable, Iterator
 from unittest import mock
 
-from itc_trace import Collector, Session, find_races, progress
-from itc_trace.collector import MOST_EVENTS
-from itc_trace.verdict import END_ROW
+from itc_trace import Collector, Session, find_races
+from itc_trace.analyse import progress
+from itc_trace.record.collector import MOST_EVENTS
+from itc_trace.model.verdict import END_ROW
 
 MOST_QUESTIONS = 4
 """For each event."""

@@ -14,10 +14,10 @@ from pathlib import Path
 from typing import Any
 
 from itc_trace import touch, tracing
-from itc_trace.conflicts import MAKING, READ, WRITE
-from itc_trace.journal import Row, read_whole
-from itc_trace.noting import touched
-from itc_trace.stretches import SITES, STRETCHES, Site
+from itc_trace.model.conflicts import MAKING, READ, WRITE
+from itc_trace.record.journal import Row, read_whole
+from itc_trace.record.noting import touched
+from itc_trace.model.stretches import SITES, STRETCHES, Site
 
 from .support import Step, TracedCase, fresh_tenant, in_turn, wait_until
 

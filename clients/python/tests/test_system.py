@@ -291,7 +291,7 @@ for thread in threads: thread.join()
 
 SLOW_TELLING = """
 import sys, time
-from itc_trace import system, __main__
+from itc_trace.cli import system, commands as __main__
 tell_end = system.Running._tell_end
 def tell_slowly(self, process):
     time.sleep(1)
@@ -302,7 +302,7 @@ sys.exit(__main__.main())
 """
 SLOW_QUEUE = """
 import queue, sys, time
-from itc_trace import system, __main__
+from itc_trace.cli import system, commands as __main__
 class SlowQueue(queue.SimpleQueue):
     def put(self, item):
         super().put(item)
@@ -313,7 +313,7 @@ sys.exit(__main__.main())
 """
 SIGNAL_AT_START = """
 import os, signal, sys
-from itc_trace import __main__, system
+from itc_trace.cli import commands as __main__, system
 class Started(system.Process):
     def __init__(self, *words):
         super().__init__(*words)
@@ -324,7 +324,7 @@ sys.exit(__main__.main())
 """
 SHORT_GRACE = """
 import sys
-from itc_trace import system, __main__
+from itc_trace.cli import system, commands as __main__
 system.GRACE_SECONDS = 1.0
 sys.argv[1:1] = ["system"]
 sys.exit(__main__.main())

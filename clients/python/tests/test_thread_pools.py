@@ -8,7 +8,7 @@ from collections.abc import Iterator
 from multiprocessing.pool import ThreadPool
 from typing import Any
 
-from itc_trace.lines import state
+from itc_trace.model.lines import state
 
 from .support import Step, TracedCase, in_turn, wait_until
 from .test_threads import write

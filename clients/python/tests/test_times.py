@@ -10,7 +10,7 @@ from collections import defaultdict
 from pathlib import Path
 from typing import Any
 
-from itc_trace.journal import Row, read_line
+from itc_trace.record.journal import Row, read_line
 
 from .support import run_traced
 

@@ -6,8 +6,8 @@ import tempfile
 import unittest
 
 from itc_trace import Collector
-from itc_trace.run import UNTOUCHED
-from itc_trace.verdict import END_ROW
+from itc_trace.cli.run import UNTOUCHED
+from itc_trace.model.verdict import END_ROW
 
 from .support import ProgramCase, run_python, run_traced
 

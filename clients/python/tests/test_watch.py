@@ -26,7 +26,7 @@ from typing import Any
 from unittest import mock
 
 from itc_trace import tracing
-from itc_trace.stretches import STRETCHES, Stretch
+from itc_trace.model.stretches import STRETCHES, Stretch
 from itc_trace.watch import hooks, late, stored, things
 from itc_trace.watch.rewrite import rewritten
 from itc_trace.watch.scopes import Scopes

@@ -14,12 +14,13 @@ from multiprocessing.pool import ThreadPool
 from typing import Any
 from unittest import mock
 
-from itc_trace import following, touch
-from itc_trace.lines import LateJob, Token, state
-from itc_trace.patches import futures, thread_pools
-from itc_trace.patches import threads as traced_threads
-from itc_trace.system import Running
-from itc_trace.verdict import Cause
+from itc_trace import touch
+from itc_trace.record import following
+from itc_trace.model.lines import LateJob, Token, state
+from itc_trace.sync import futures, thread_pools
+from itc_trace.sync import threads as traced_threads
+from itc_trace.cli.system import Running
+from itc_trace.model.verdict import Cause
 
 from .support import WAIT, Step, TracedCase, wait_until
 

@@ -12,10 +12,10 @@ from collections.abc import Sequence
 from types import CodeType
 from typing import Any
 
-from ..lines import Line, state
-from ..noting import INTERNAL
-from ..verdict import PassedOver, Unseen
-from ..patches.base import like
+from ..model.lines import Line, state
+from ..record.noting import INTERNAL
+from ..model.verdict import PassedOver, Unseen
+from ..sync.base import like
 from . import handed, hooks, leaving, passed_over, things
 from .commands import own_program
 from .finder import UNWATCHED, Finder, Selection, look_around, with_hooks

@@ -7,7 +7,7 @@ import sys
 from collections.abc import Callable
 from typing import TypeVar
 
-from .. import plain
+from ..record import plain
 
 LIMIT = 60_000
 """Of the language's own recursion. Sources that it compiles at all are nested at most 3 times its usual limit of 1000."""

@@ -9,7 +9,7 @@ import sysconfig
 from collections.abc import Callable, Sequence
 from types import CodeType, ModuleType
 
-from ..verdict import Cause, Unseen
+from ..model.verdict import Cause, Unseen
 from .decisions import WATCHED
 from .making import kept_code, new_code
 from .stored import imported_by, look_through

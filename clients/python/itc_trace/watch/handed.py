@@ -5,9 +5,9 @@ from __future__ import annotations
 from builtins import id, type
 from typing import Any
 
-from ..conflicts import REWRITE
-from ..handed_on import ATTRGETTER, Method, Place, Watcher, watch_with
-from ..journal import line_of
+from ..model.conflicts import REWRITE
+from ..sync.handed_on import ATTRGETTER, Method, Place, Watcher, watch_with
+from ..record.journal import line_of
 from . import hooks
 from .decisions import value_of_field
 from .finder import FILES

@@ -22,11 +22,11 @@ from operator import itemgetter
 from sys import _getframe, getrefcount
 from typing import Any
 
-from ..conflicts import ADDITION, ITERATION, KEYS, LENGTH, REMOVAL, REPLACEMENT, REWRITE, STEP, WRITE
-from ..handed_on import HANDED, Calling, is_of_container
-from ..lines import state
-from ..noting import begin_stretch, lost, touched_all
-from ..stretches import STRETCHES
+from ..model.conflicts import ADDITION, ITERATION, KEYS, LENGTH, REMOVAL, REPLACEMENT, REWRITE, STEP, WRITE
+from ..sync.handed_on import HANDED, Calling, is_of_container
+from ..model.lines import state
+from ..record.noting import begin_stretch, lost, touched_all
+from ..model.stretches import STRETCHES
 from .decisions import (
     AS_KEY, BY_ELEMENTS, COMPOSED, FIELD, FILES, OF_CLASS, OF_METHOD, OF_MODULE, OF_SUPER, OF_TYPE, OWN_FIELD, PLAIN, SKIP, STEPPED, VARIABLES,
     VIEWS, WATCHED, class_with, decision, family_of, field_inside, fields_of, has_own_method, has_setter, has_watched_method, ids_of,

@@ -56,7 +56,7 @@ def _setting() -> bytes:
         folder = os.path.dirname(os.path.abspath(__file__))
         files = [*(os.path.join(folder, name) for name in sorted(os.listdir(folder)) if name.endswith((".py", ".c")))]
         texts = []
-        for file in (*files, *(os.path.join(PACKAGE, name) for name in _LOOSE_SOURCES)):
+        for file in (*files, *(os.path.join(PACKAGE, "model", name) for name in _LOOSE_SOURCES)):
             with open(file, "rb") as source:
                 texts.append(source.read())
         _settings.append(digest(*texts, repr(_python()).encode()))

@@ -7,8 +7,8 @@ import sys
 from builtins import all, frozenset, id, len, map, str, tuple, type, vars, zip
 from typing import Any
 
-from ..stretches import SITES
-from ..verdict import PassedOver
+from ..model.stretches import SITES
+from ..model.verdict import PassedOver
 from . import passed_over
 from .decisions import class_with, ids_of, is_made, is_of, name_of, value_of_field, vars_of
 

@@ -2,7 +2,7 @@
 
 from __future__ import annotations
 
-from ..conflicts import ADDITION, ITERATION, KEYS, LENGTH, REMOVAL, REWRITE
+from ..model.conflicts import ADDITION, ITERATION, KEYS, LENGTH, REMOVAL, REWRITE
 
 LIST, DICT, SET, DEQUE, BUFFER = range(5)
 

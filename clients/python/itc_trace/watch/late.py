@@ -13,10 +13,10 @@ from collections.abc import Callable, Iterable
 from itertools import islice
 from typing import Any
 
-from ..conflicts import ADDITION, LENGTH, LOOKUP, MAKING, READ, REPLACEMENT, WRITE
-from ..lines import LATE, LateJob, Line, state
-from ..noting import begin_stretch, touched_all
-from ..stretches import AT_BORDER, STRETCHES, Stretch, Touched
+from ..model.conflicts import ADDITION, LENGTH, LOOKUP, MAKING, READ, REPLACEMENT, WRITE
+from ..model.lines import LATE, LateJob, Line, state
+from ..record.noting import begin_stretch, touched_all
+from ..model.stretches import AT_BORDER, STRETCHES, Stretch, Touched
 from .places import ACCESSES
 from .seen import Late, Seen
 from .things import OWNERS, Owner, element_of, field_of, shape_of

@@ -14,9 +14,9 @@ from sys import _getframe
 from types import CodeType, ModuleType
 from typing import Any
 
-from ..noting import is_internal
-from ..patches.base import like
-from ..verdict import MOST_LISTED, Cause, PassedOver, Unseen
+from ..record.noting import is_internal
+from ..sync.base import like
+from ..model.verdict import MOST_LISTED, Cause, PassedOver, Unseen
 from . import passed_over
 from .finder import FILES
 from .loaded import code_by_mark, mark_of

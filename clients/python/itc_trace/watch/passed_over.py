@@ -6,7 +6,7 @@ import ast
 import os
 from collections.abc import Callable
 
-from ..verdict import PassedOver
+from ..model.verdict import PassedOver
 from .learned import Learned
 
 BUILT_IN = frozenset(("exec", "eval", "memoryview"))

@@ -6,7 +6,7 @@ import ast
 from collections.abc import Callable
 from typing import Any, NamedTuple
 
-from ..conflicts import ITERATION, LENGTH
+from ..model.conflicts import ITERATION, LENGTH
 from .learned import Learned
 
 Names = tuple[str, ...] | None

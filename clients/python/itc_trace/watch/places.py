@@ -8,8 +8,8 @@ from bisect import bisect_right
 from collections import defaultdict
 from typing import Any
 
-from ..file_names import name_of_file
-from ..stretches import SITES
+from ..model.file_names import name_of_file
+from ..model.stretches import SITES
 from .learned import AccessRow
 
 

@@ -12,7 +12,7 @@ from collections.abc import Callable, Iterator
 from types import CodeType
 from typing import Any
 
-from ..conflicts import ADDITION, ITERATION, KEYS, LENGTH, REWRITE
+from ..model.conflicts import ADDITION, ITERATION, KEYS, LENGTH, REWRITE
 from . import on_stack, passed_over
 from .kinds import (
     CHANGED_ARGUMENT, COMPARED, CONSUMING, CONTENT, DEPTHS_OF_METHODS, EACH, IN_PLACE_FUNCTIONS, IN_PLACE_METHODS, KEYED, LATE_METHODS, METHODS, ORDERED,

@@ -16,11 +16,11 @@ from sys import getrefcount
 from types import CodeType, FunctionType
 from typing import Any, NamedTuple
 
-from ..conflicts import MAKING
-from ..journal import line_of
-from ..lines import Line, state
-from ..noting import line_of_now
-from ..stretches import SITES, Touched
+from ..model.conflicts import MAKING
+from ..record.journal import line_of
+from ..model.lines import Line, state
+from ..record.noting import line_of_now
+from ..model.stretches import SITES, Touched
 from .decisions import name_of
 from .helper import quick
 from .keys import UNKNOWN

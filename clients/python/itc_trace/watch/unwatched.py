@@ -6,9 +6,9 @@ import gc
 import os
 from types import CodeType, FunctionType
 
-from ..journal import line_of
-from ..noting import LOST
-from ..verdict import Cause, Unseen
+from ..record.journal import line_of
+from ..record.noting import LOST
+from ..model.verdict import Cause, Unseen
 from .finder import FILES, LIBRARY_FOLDERS, Selection
 
 

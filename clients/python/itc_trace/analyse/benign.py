@@ -1,0 +1,96 @@
+"""Races that the program's author means: by a comment `# itc: benign` on one of their lines, or by a file of patterns.
+
+A line of the file has a pattern of the thing, and none, one or two of the places: `stock['left'] shop.py:8 shop.py:*`. A `*` stands for
+any letters, also for a space. A word that begins with `#` begins a comment.
+"""
+
+from __future__ import annotations
+
+import re
+import tokenize
+from collections.abc import Iterable
+from dataclasses import dataclass, field
+from functools import cache
+from itertools import takewhile
+from pathlib import Path, PurePath
+
+from ..record.faults import Fault
+from .races import Race, Races, Side
+
+COMMENT = re.compile(r"#\s*itc:\s*benign\b")
+MOST_PLACES = 2
+
+
+@dataclass(frozen=True)
+class Pattern:
+    """Races that are meant: a thing, and places of which each is one side."""
+
+    thing: str
+    places: tuple[str, ...] = ()
+
+    def fits(self, race: Race) -> bool:
+        return _fits(race.thing, self.thing) and any(
+            all(_is_at(side, place) for side, place in zip(sides, self.places)) for sides in (race.sides, race.sides[::-1])
+        )
+
+
+def _is_at(side: Side, place: str) -> bool:
+    file, _, line = side.place.rpartition(":")
+    return _fits(side.place, place) or _fits(f"{PurePath(file).name}:{line}", place)
+
+
+def _fits(text: str, pattern: str) -> bool:
+    return re.fullmatch(".*".join(map(re.escape, pattern.split("*"))), text) is not None
+
+
+@dataclass
+class Looking:
+    """How races are looked for: whether one loop's tasks race as threads do, and what is meant."""
+
+    strict: bool = False
+    patterns: list[Pattern] = field(default_factory=list)
+
+    def silence(self, found: Races) -> None:
+        """Takes out what is meant, and counts it."""
+        before = len(found.races) + len(found.possible)
+        found.races = [race for race in found.races if not self._is_meant(race)]
+        found.possible = [race for race in found.possible if not self._is_meant(race)]
+        found.silenced += before - len(found.races) - len(found.possible)
+
+    def _is_meant(self, race: Race) -> bool:
+        return any(_has_comment(side) for side in race.sides) or any(pattern.fits(race) for pattern in self.patterns)
+
+
+def _has_comment(side: Side) -> bool:
+    file, _, line = side.place.rpartition(":")
+    return line.isdigit() and int(line) in _lines_with_comment(file)
+
+
+@cache
+def _lines_with_comment(file: str) -> frozenset[int]:
+    """The lines of a source file that have the comment. A text that reads the same is none."""
+    try:
+        with tokenize.open(file) as source:
+            tokens = list(tokenize.generate_tokens(source.readline))
+    except (OSError, SyntaxError, UnicodeDecodeError, tokenize.TokenError):
+        return frozenset()
+    return frozenset(token.start[0] for token in tokens if token.type == tokenize.COMMENT and COMMENT.match(token.string))
+
+
+def read_patterns(file: str) -> list[Pattern]:
+    """The patterns of a file."""
+    try:
+        text = Path(file).read_text(encoding="utf-8")
+    except (OSError, UnicodeDecodeError) as error:
+        reason = error.strerror if isinstance(error, OSError) else "it is no text"
+        raise Fault(f"{file} cannot be read: {reason}") from error
+    return list(_patterns(text.splitlines(), file))
+
+
+def _patterns(lines: Iterable[str], file: str) -> Iterable[Pattern]:
+    for number, line in enumerate(lines, 1):
+        words = list(takewhile(lambda word: not word.startswith("#"), line.split()))
+        if len(words) > MOST_PLACES + 1:
+            raise Fault(f"{file}:{number}: a thing and two places at most: write * for a space")
+        if words:
+            yield Pattern(words[0], tuple(words[1:]))

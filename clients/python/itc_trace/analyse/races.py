@@ -1,0 +1,417 @@
+"""Finds the races of a trace: touches of one thing that conflict, by tasks that nothing keeps in order.
+
+The order comes from the collector alone. For each thing it is asked of the few pairs of touches that decide whether there is a race.
+Only if there is one, it is asked which events each event follows, and all pairs of places that race are looked for. A race is possible if nothing but locks that the two tasks do
+not both hold put two touches in order.
+"""
+
+from __future__ import annotations
+
+import linecache
+from bisect import bisect_left, bisect_right
+from collections import defaultdict
+from collections.abc import Iterable, Iterator
+from dataclasses import dataclass, field
+from functools import cached_property
+from itertools import islice
+from typing import Protocol
+
+from ..record.collector import HOST, NoCollector
+from ..model.conflicts import CONFLICTING, MAKING, WRITE
+from .fast_track import deciding_pairs
+from ..record.journal import Row, read_whole
+from ..model.lock_identity import ANSWER, REQUEST
+from .order import Order
+from .progress import Bar, Shown
+from .racing_pairs import Pair, racing_pairs
+from ..session import LONGEST_ANSWER, Refused, Session
+from .trace import Asked, Events, Steps, Trace, Unordered, lock_events, lock_that_tells, told_by_signals
+from ..model.verdict import Cause, PassedOver, Unseen, Verdict, listed, verdict_of
+from .without_locks import WithoutLocks
+
+NOTHING = "nothing orders them"
+MOST_ORDERS = 32768
+"""So many pairs of touches that decide are asked for, each by itself. What comes before what by these is known in another way, too."""
+
+
+@dataclass(frozen=True)
+class Side:
+    """One of the two source lines of a race."""
+
+    kind: str
+    place: str
+    function: str = ""
+
+    def __str__(self) -> str:
+        return f"{self.kind} at {self.place}"
+
+
+@dataclass
+class Race:
+    """Two source lines that touch one thing with no order between them: how often, and one example."""
+
+    thing: str
+    sides: tuple[Side, Side]
+    example: tuple[Row, Row]
+    times: int = 0
+    why: str = NOTHING
+    is_possible: bool = False
+    """Whether it was kept in order in this run, by luck alone."""
+
+    @property
+    def key(self) -> object:
+        """What is the same of races that are listed as one, in other runs too."""
+        return _key(self.example)
+
+    def __str__(self) -> str:
+        first, second = self.example
+        made = f" ({first.made})" if first.made else ""
+        width = max(len(side.kind) for side in self.sides)
+        places = [_place(side, width) for side in self.sides]
+        times = "once" if self.times == 1 else f"{self.times} times"
+        tasks = "tasks" if first.loop or second.loop else "threads"
+        order = f"{tasks} {first.task} and {second.task}: {self.why}; {times}, as {_events(first, second)}"
+        word = "possible race" if self.is_possible else "race"
+        return "\n    ".join([f"{word} on {self.thing}{made}", *places, order])
+
+
+def _events(first: Row, second: Row) -> str:
+    """By their numbers, and those of their parts if the run has several."""
+    if first.part == second.part:
+        return f"events {first.event} and {second.event}" + (f" of part {first.part}" if first.part > 1 else "")
+    return f"event {first.event} of part {first.part} and event {second.event} of part {second.part}"
+
+
+def _place(side: Side, width: int) -> str:
+    where = f" in {side.function}" if side.function and side.function != "<module>" else ""
+    file, _, line = side.place.rpartition(":")
+    source = linecache.getline(file, int(line)).strip() if line.isdigit() else ""
+    return f"{side.kind:{width}} at {side.place}{where}{':  ' if source else ''}{source}"
+
+
+@dataclass
+class Races:
+    """All races of a trace, what was not seen of it, and what it took to find them."""
+
+    races: list[Race] = field(default_factory=list)
+    possible: list[Race] = field(default_factory=list)
+    unseen: list[Unseen] = field(default_factory=list)
+    passed_over: list[PassedOver] = field(default_factory=list)
+    silenced: int = 0
+    """How many more there are, but meant."""
+    touches: int = 0
+    places: int = 0
+    things: int = 0
+    events: int = 0
+    questions: int = 0
+
+    def __bool__(self) -> bool:
+        return bool(self.races)
+
+    def __len__(self) -> int:
+        return len(self.races)
+
+    def __iter__(self) -> Iterator[Race]:
+        return iter(self.races)
+
+    def verdict(self, fail_on_possible: bool = False) -> Verdict:
+        """Which of the three answers this is."""
+        return verdict_of(len(self.races) + (len(self.possible) if fail_on_possible else 0), self.unseen)
+
+    def found(self) -> str:
+        """How many races there are, in few words."""
+        found = "no race" if not self.races else _counted(len(self.races), "race")
+        where = "in what was seen" if self.unseen else "in this run"
+        return f"{found} {where}" + (f"; {len(self.possible)} possible" if self.possible else "") + (
+            f"; {self.silenced} silenced" if self.silenced else "") + listed(self.passed_over)
+
+    def summary(self) -> str:
+        return (
+            f"{self.found()}: {_counted(self.places, 'place')} of {_counted(self.things, 'thing')}, "
+            f"{_counted(self.events, 'event')}"
+        )
+
+    def text(self) -> str:
+        return "\n".join([*map(str, self.races), *map(str, self.possible), self.summary()])
+
+
+def _counted(count: int, one: str) -> str:
+    return f"{count} {one if count == 1 else one + 's'}"
+
+
+class _Thing:
+    """The touches of one thing, in the order of their events."""
+
+    def __init__(self, rows: list[Row]) -> None:
+        self.touches = [row for row in rows if row.kind != MAKING]
+        self.making = next((row for row in rows if row.kind == MAKING), None)
+        self.tasks = {row.task for row in self.touches}
+        self.is_named = not rows[0].name
+        """Whether the program itself has named it: then its touches count as they stand, also those of one loop."""
+
+    @property
+    def may_race(self) -> bool:
+        """Whether two tasks touch it in ways that conflict."""
+        tasks: dict[str, set[str]] = defaultdict(set)
+        for touch in self.touches:
+            tasks[touch.kind].add(touch.task)
+        pairs = ((tasks[kind], tasks[other]) for kind in list(tasks) for other in CONFLICTING[kind] if other in tasks)
+        return len(self.tasks) > 1 and any(len(ones | others) > 1 for ones, others in pairs)
+
+    @property
+    def has_lock_in_common(self) -> bool:
+        """Whether some lock is held at each touch."""
+        return bool(frozenset(self.touches[0].held).intersection(*(touch.held for touch in self.touches)))
+
+
+def find_races(
+    tenant: str, port: int, journal: Iterable[str], host: str = HOST, strict: bool = False, bar: Bar | None = None
+) -> Races:
+    """The races among the touches that the journal lists, by the order that the collector answers.
+
+    If it is strict, two tasks of one loop race as two threads do. If it is not, only a read that a task writes back in a later turn
+    of the loop, with a change by another task in between, is a race of them. Things that the program has named are always strict.
+    A bar shows how far it has come.
+    """
+    whole = read_whole(journal)
+    rows = sorted(dict.fromkeys(whole.rows), key=lambda row: row.event)
+    touches = [row for row in rows if row.is_touch and row.kind != MAKING]
+    found = Races(unseen=whole.unseen, passed_over=whole.passed_over, touches=len(touches), events=len({row.event for row in rows}))
+    found.places = len({(row.thing, row.place) for row in touches})
+    found.things = len({row.thing for row in touches})
+    things = [thing for thing in _things_of(rows) if thing.may_race]
+    if things:
+        with Session(tenant, port, "view", host, LONGEST_ANSWER) as view:
+            events = view.count()[0]
+            if bar is None:
+                _Finder(view, events, rows, found, strict).find(things)
+            else:
+                _Finder(Shown(view, bar), events, rows, found, strict).find(things)
+    return found
+
+
+def find_in(view: Asked, events: int, rows: list[Row], strict: bool) -> Races:
+    """The races of one trace, by its rows."""
+    rows = sorted(dict.fromkeys(rows), key=lambda row: row.event)
+    found = Races()
+    things = [thing for thing in _things_of(rows) if thing.may_race]
+    if things:
+        _Finder(view, events, rows, found, strict).find(things)
+    return found
+
+
+def _things_of(rows: list[Row]) -> list[_Thing]:
+    by_thing: dict[str, list[Row]] = defaultdict(list)
+    for row in rows:
+        if row.thing is not None:
+            by_thing[row.thing].append(row)
+    return [_Thing(rows) for rows in by_thing.values()]
+
+
+class _Finder:
+    """Looks for the races of things, and for those that are possible."""
+
+    def __init__(self, view: Asked, events: int, rows: list[Row], found: Races, is_strict: bool) -> None:
+        self._view = view
+        self._events = events
+        self._found = found
+        self._is_strict = is_strict
+        self._locks = {row.event: row.lock for row in rows if row.lock is not None}
+        self._replaced = _replaced(rows)
+        self._order = Order(view)
+
+    @cached_property
+    def _trace(self) -> Trace:
+        trace = Trace(self._view, self._events)
+        self._found.questions += len(trace.events)
+        return trace
+
+    def find(self, things: list[_Thing]) -> None:
+        self._find_races(things)
+        if self._locks:
+            try:
+                self._find_possible([thing for thing in things if not thing.has_lock_in_common])
+            except (NoCollector, Refused, OSError) as fault:
+                self._found.unseen.append(Unseen(Cause.COLLECTOR, f"possible races cannot be told: {fault}"))
+        self._found.questions += self._order.questions
+
+    def _find_races(self, things: list[_Thing]) -> None:
+        listed: dict[object, Race] = {}
+        for thing in self._racing(things):
+            unordered = self._trace.unordered
+            for pair in racing_pairs(thing.touches, unordered, unordered, False, self._is_strict or thing.is_named):
+                list_pair(pair, listed)
+        self._found.races = in_order(listed)
+        _confirm(self._found.races, self._order)
+
+    def _racing(self, things: list[_Thing]) -> Iterator[_Thing]:
+        """The things of which a pair that decides has no order, and those that have too many such pairs to ask for each."""
+        deciding: list[tuple[_Thing, list[tuple[int, int]]]] = []
+        room = MOST_ORDERS
+        for thing in things:
+            pairs = list(islice(deciding_pairs(thing.touches), room + 1))
+            deciding.append((thing, [] if len(pairs) > room else pairs))
+            room -= len(deciding[-1][1])
+        self._order.ask(pair for _, pairs in deciding for pair in pairs)
+        for thing, pairs in deciding:
+            if not pairs or any(self._order.is_concurrent(*pair) for pair in pairs):
+                yield thing
+
+    def _find_possible(self, things: list[_Thing]) -> None:
+        if not things:
+            return
+        trace = self._trace
+        locks = lock_events(trace, self._locks)
+        told = told_by_signals(trace, Steps(locks, events_of_lock(self._locks, REQUEST), events_of_lock(self._locks, ANSWER))).known
+        races = {_key(race.example) for race in self._found.races}
+        listed: dict[object, Race] = {}
+        for thing in things:
+            untold = _untold(thing, trace, told, self._replaced)
+
+            def by_luck(touch: int, untold: Unordered = untold) -> Events:
+                return trace.before[touch] & untold(touch)
+
+            for pair in racing_pairs(thing.touches, by_luck, untold, True, self._is_strict or thing.is_named):
+                if _key(pair[:2]) not in races:
+                    list_pair(pair, listed)
+        for race in listed.values():
+            race.is_possible = True
+            race.why = self._reason(lock_that_tells(trace, locks, race.example[0].event, race.example[1].event), *race.example)
+        self._found.possible = in_order(listed)
+        if listed:
+            with WithoutLocks(trace, locks) as tenant:
+                _confirm(self._found.possible, tenant)
+                self._found.questions += tenant.questions
+
+    def _reason(self, receipt: int | None, first: Row, second: Row) -> str:
+        lock = self._locks.get(receipt) if receipt is not None else None
+        if lock is None:
+            return "ordered in this run only by locks"
+        name = lock.partition(" ")[2]
+        if name.startswith(REQUEST):
+            return f"ordered in this run only by {name}"
+        lacks = [lock not in touch.held for touch in (first, second)]
+        who = "neither holds" if all(lacks) else "the first does not hold" if lacks[0] else "the second does not hold"
+        return f"ordered in this run only by {name}, which {who}"
+
+
+def events_of_lock(locks: dict[int, str], start: str) -> set[int]:
+    """The events of locks whose names begin so."""
+    return {event for event, lock in locks.items() if lock.partition(" ")[2].startswith(start)}
+
+
+class _Confirms(Protocol):
+    """Answers whether two events are in order."""
+
+    def ask(self, pairs: Iterable[tuple[int, int]]) -> None: ...
+
+    def is_concurrent(self, first: int, second: int) -> bool: ...
+
+
+def _confirm(races: list[Race], order: _Confirms) -> None:
+    """Has the example of each race answered by a collector."""
+    pairs = [(race.example[0].event, race.example[1].event) for race in races]
+    order.ask(pairs)
+    for pair in pairs:
+        if not order.is_concurrent(*pair):
+            raise Refused("order {} {}".format(*pair), "it contradicts what the events follow")
+
+
+def _untold(thing: _Thing, trace: Trace, told: list[Events], replaced: _Replaced) -> Unordered:
+    """Which earlier events a touch was told of by locks at most."""
+    making, handed_over, taken_out = thing.making, _handed_over(thing, trace), _taken_out(thing, replaced)
+
+    def untold(touch: int) -> Events:
+        known = told[touch] | taken_out.get(touch, 0)
+        if making is not None and not known >> making.event & 1:
+            known |= handed_over
+        return ~known & ((1 << touch) - 2)
+
+    return untold
+
+
+_Replaced = dict[tuple[str, str], list[Row]]
+"""Where a task has put something else into a field or a variable while it held a lock, by the task and the name."""
+
+
+def _replaced(rows: list[Row]) -> _Replaced:
+    found: _Replaced = defaultdict(list)
+    for row in rows:
+        if row.kind == WRITE and row.held and row.name:
+            found[row.task, row.name].append(row)
+    return found
+
+
+def _taken_out(thing: _Thing, replaced: _Replaced) -> dict[int, Events]:
+    """For each touch the earlier ones after which its task took the thing out of the place that it is named for.
+
+    The task put something else there under a lock that the earlier touches were under, and had the thing alone from then on.
+    """
+    taken: dict[int, Events] = defaultdict(int)
+    first, last = thing.touches[0], thing.touches[-1]
+    for task in thing.tasks:
+        puts = replaced.get((task, first.name), [])
+        between = puts[bisect_left(puts, first.event, key=_event):bisect_right(puts, last.event, key=_event)]
+        for put in between:
+            known = sum({1 << row.event for row in thing.touches if row.event <= put.event and not set(row.held).isdisjoint(put.held)})
+            for touch in thing.touches if known else ():
+                if touch.task == task and touch.event >= put.event and touch.thing != put.thing:
+                    taken[touch.event] |= known
+    return taken
+
+
+def _event(row: Row) -> int:
+    return row.event
+
+
+def _handed_over(thing: _Thing, trace: Trace) -> Events:
+    """The events up to which whoever made the thing had it for himself."""
+    if thing.making is None:
+        return 0
+    maker, first = thing.making.task, dict[str, int]()
+    for touch in thing.touches:
+        if touch.task != maker:
+            first.setdefault(touch.task, touch.event)
+    own = sum({1 << touch.event for touch in thing.touches if touch.task == maker})
+    for event in first.values():
+        own &= trace.before[event]
+    return own if first else 0
+
+
+def _key(example: tuple[Row, Row]) -> object:
+    """What races are listed as one by: the same kind of thing at the same two places."""
+    one, other = sorted(row.place for row in example)
+    first = example[0]
+    return first.group or first.name or first.thing, one, other
+
+
+def list_pair(pair: Pair, listed: dict[object, Race]) -> bool:
+    """Adds a pair to the races that are listed. Says whether it is the example of one."""
+    first, second, times = pair
+    return add_race(Race(first.name or first.thing or "", sides_of(first, second), (first, second), times), listed)
+
+
+def add_race(race: Race, listed: dict[object, Race]) -> bool:
+    """Adds a race to those that are listed. Says whether its example is the one that is shown."""
+    known = listed.setdefault(race.key, race)
+    if known is race:
+        return True
+    known.times += race.times
+    tells_more = _tells_more(*race.example, known.example)
+    if tells_more:
+        known.sides, known.example, known.why = race.sides, race.example, race.why
+    return tells_more
+
+
+def sides_of(first: Row, second: Row) -> tuple[Side, Side]:
+    return Side(first.kind, first.place, first.function), Side(second.kind, second.place, second.function)
+
+
+def _tells_more(first: Row, second: Row, example: tuple[Row, Row]) -> bool:
+    """Whether these two are the better example: where lines change a thing it is these that are shown."""
+    return first.place != second.place and first.is_write + second.is_write > sum(row.is_write for row in example)
+
+
+def in_order(listed: dict[object, Race]) -> list[Race]:
+    """The races by the events of their examples."""
+    return sorted(listed.values(), key=lambda race: [(row.part, row.event) for row in race.example])

@@ -1,0 +1,1 @@
+"""What a program calls by itself: tracing, and messages by hand."""

@@ -1,0 +1,350 @@
+"""Runs a program with tracing on, and lists its races at its end."""
+
+from __future__ import annotations
+
+import _imp
+import contextlib
+import importlib.util
+import io
+import json
+import os
+import random
+import subprocess
+import sys
+import tempfile
+from collections.abc import Iterable, Iterator
+from dataclasses import dataclass, field, replace
+from pathlib import Path
+from typing import IO
+from urllib.parse import quote
+
+from ..analyse.benign import Looking
+from ..record.collector import HOST, find_in_repository
+from ..record.dividing import LEAVE
+from .ending import Child, Ended, ends_by_signals, is_asked_to_end
+from ..record.environment import OWN_TENANT
+from ..record.faults import WORDS_REFUSED, Fault, look
+from .launch import RAISED, REFUSED
+from ..report.merging import Merged
+from ..processes.part_collectors import PartCollectors
+from ..analyse.parts import number_of_parts, races_of_parts
+from ..analyse.progress import Bar
+from ..report.race_rows import race_rows
+from ..analyse.races import Race, Races
+from ..analyse.seeing import races_seen
+from ..session import Refused
+from ..analyse.snapshot import snapshot
+from ..model.verdict import BREAKS_OFF, REMOVED, Cause, Unseen, Verdict, reasons
+
+UNTOUCHED = """\
+itc_trace: nothing was touched, so there was no race to find
+    Wrap what tasks share by itc_trace.shared(value, "name"), or call itc_trace.touch("name") where it is used.
+    A number, a text or a tuple needs touch."""
+NO_PICTURE_OF_PARTS = "itc_trace: no picture: the run has several parts, of which --export writes an export each for ./picture"
+MOST_SEED = 1 << 32
+
+
+@dataclass
+class Run:
+    """What `run` was asked for."""
+
+    words: list[str]
+    port: int | None = None
+    tenant: str = OWN_TENANT
+    process: str | None = None
+    export: str | None = None
+    journal: str | None = None
+    picture: str | None = None
+    host: str = HOST
+    quiet: bool = False
+    watched: list[str] | None = None
+    """The packages that are watched beside the program's own modules. None watches nothing."""
+    looking: Looking = field(default_factory=Looking)
+    fail_on_possible: bool = False
+    runs: int = 1
+    seed: int | None = None
+    """By which the first run is shaken, and each later one by the next number."""
+    part_events: int = LEAVE.events
+    """After so many events a new part of the trace begins."""
+    is_shaken: bool = True
+    """Whether the runs from the second one on are shaken."""
+
+    def of(self, number: int) -> Run:
+        """The run of this number, with files of its own."""
+        if self.runs == 1:
+            return self
+        named = {name: f"{file}.{number}" for name in ("export", "journal", "picture") if (file := getattr(self, name))}
+        return replace(self, **named)
+
+
+@dataclass
+class Outcome:
+    """What became of one run."""
+
+    status: int
+    races: Races
+    has_raised: bool
+    """Whether an error of the program ended it."""
+    picture: str | None = None
+
+
+def run(asked: Run) -> int:
+    """The program's own status where the verdict is 0, else that of the verdict."""
+    _check(asked)
+    try:
+        with ends_by_signals():
+            return _run_once(asked, asked.seed) if asked.runs == 1 else _run_often(asked)
+    except Ended as ended:
+        _say(f"itc_trace: incomplete: {ended}")
+        return int(Verdict.INCOMPLETE)
+
+
+def _check(asked: Run) -> None:
+    """Finds what keeps the program from being run before anything is started."""
+    program = asked.words[0]
+    if program == "-m":
+        _check_module(asked.words[1])
+    elif not os.path.exists(program):
+        raise Fault(f"there is no program {program}: name a file, or -m and a module")
+    elif not os.path.isdir(program):
+        _check_syntax(program)
+    for number in range(1, asked.runs + 1):
+        for file in (asked.of(number).export, asked.of(number).journal, asked.of(number).picture):
+            if file is not None:
+                check_writable(file)
+    if asked.port is not None:
+        look(asked.tenant, asked.port, asked.host)
+
+
+def _check_module(name: str) -> None:
+    top = name.partition(".")[0]
+    sys.path.insert(0, os.getcwd())
+    try:
+        if importlib.util.find_spec(top) is None:
+            raise Fault(f"there is no module {name}: name one that python3 -m would find, or a file")
+    except ValueError:
+        pass  # A module without a specification is there.
+    finally:
+        del sys.path[0]
+
+
+def _check_syntax(program: str) -> None:
+    source = Path(program).read_bytes()
+    if source.startswith(b"PK"):
+        return  # An archive with a program in it.
+    try:
+        compile(source, program, "exec", dont_inherit=True)
+    except SyntaxError as error:
+        where = "" if error.lineno is None else f" at line {error.lineno}"
+        raise Fault(f"{program} cannot be run: {error.msg}{where}: mend it first") from error
+    except (ValueError, RecursionError, MemoryError) as error:
+        raise Fault(f"{program} cannot be run: {error}: name a program of Python") from error
+
+
+def check_writable(file: str) -> None:
+    was_there = os.path.exists(file)
+    if was_there and not os.path.isfile(file):
+        raise Fault(f"{file} cannot be written: it is no regular file, which is read again at the end")
+    try:
+        with open(file, "ab"):
+            pass
+    except OSError as error:
+        raise Fault(f"{file} cannot be written: {error.strerror}") from error
+    if not was_there:
+        os.unlink(file)
+
+
+def _run_once(asked: Run, seed: int | None) -> int:
+    outcome = _outcome(asked, seed)
+    if outcome is None:
+        return WORDS_REFUSED
+    races = outcome.races
+    verdict = races.verdict(asked.fail_on_possible)
+    if verdict or races.possible or not asked.quiet:
+        _say(told(races, outcome.picture))
+        if asked.watched is None and _is_untouched(races) and not outcome.has_raised:
+            _say(UNTOUCHED)
+    return int(verdict) or outcome.status
+
+
+def _run_often(asked: Run) -> int:
+    """Runs it several times, and tells what was found in all of them together."""
+    merged = Merged()
+    first_seed = random.SystemRandom().randrange(MOST_SEED) if asked.seed is None else asked.seed
+    for number in range(1, asked.runs + 1):
+        is_shaken = asked.seed is not None or asked.is_shaken and number > 1
+        seed = (first_seed + number - 1) % MOST_SEED if is_shaken else None
+        outcome = _outcome(asked.of(number), seed)
+        if outcome is None:
+            return WORDS_REFUSED
+        merged.add(outcome.races, outcome.status, seed)
+        if not asked.quiet:
+            _say(f"itc_trace: run {number} of {asked.runs}{_by_seed(seed)}: {outcome.races.found()}")
+        if is_asked_to_end():
+            break
+    verdict = merged.verdict(asked.fail_on_possible)
+    if verdict or merged.has_possible or not asked.quiet:
+        _say(merged.text())
+    return int(verdict) or merged.status
+
+
+def _by_seed(seed: int | None) -> str:
+    return "" if seed is None else f" (--shake={seed})"
+
+
+def _outcome(asked: Run, seed: int | None) -> Outcome | None:
+    """What became of one run. None where the program could not be started, which was told."""
+    with tempfile.TemporaryDirectory(prefix="itc_trace_") as work, _collectors(asked) as collectors:
+        journal = asked.journal or (f"{asked.export}.journal" if asked.export else os.path.join(work, "journal"))
+        Path(journal).write_bytes(b"")
+        child = _run_program(asked, collectors, journal, os.path.join(work, "told"), seed)
+        if child.told == REFUSED:
+            return None
+        number = number_of_parts(journal) if collectors is not None and os.path.exists(journal) else 1
+        port, is_divided = _port(asked, collectors, number), number > 1
+        if is_divided:
+            races = races_of_parts(journal, asked.looking, Bar(sys.stderr), (asked.tenant, port), asked.export)
+        else:
+            with _opened(journal) as rows:
+                races = races_seen(asked.tenant, port, rows, asked.host, asked.looking, Bar(sys.stderr))
+            if not os.path.exists(journal):
+                races.unseen = [REMOVED if one == BREAKS_OFF else one for one in races.unseen]
+        if child.signal_name and not _is_killed(races):
+            killed = Unseen(Cause.KILLED, f"the program was ended by {child.signal_name}")
+            races.unseen = [killed, *(one for one in races.unseen if one != BREAKS_OFF)]
+        picture = None if is_divided else _keep(asked, port, journal, work, races)
+        if is_divided and asked.picture is not None:
+            _say(NO_PICTURE_OF_PARTS)
+        return Outcome(child.status, races, child.told == RAISED, picture)
+
+
+def _opened(journal: str) -> IO[str]:
+    """The journal of a run. One that the program has removed has no lines, and so breaks off."""
+    try:
+        return open(journal, encoding="utf-8", errors="replace")
+    except FileNotFoundError:
+        return io.StringIO()
+
+
+def _is_killed(races: Races) -> bool:
+    return any(one.cause is Cause.KILLED for one in races.unseen)
+
+
+@contextlib.contextmanager
+def _collectors(asked: Run) -> Iterator[PartCollectors | None]:
+    """Collectors of its own, if the run does not report to one that is there."""
+    if asked.port is not None:
+        yield None
+        return
+    with PartCollectors(asked.tenant) as collectors:
+        yield collectors
+
+
+def _port(asked: Run, collectors: PartCollectors | None, part: int = 1) -> int:
+    return collectors.port_of(part) if collectors is not None else asked.port or 0
+
+
+def _run_program(asked: Run, collectors: PartCollectors | None, journal: str, told: str, seed: int | None) -> Child:
+    configuration = {
+        "port": _port(asked, collectors), "tenant": asked.tenant, "journal": os.path.abspath(journal), "process": asked.process, "host": asked.host,
+        "watched": asked.watched,
+        "told": told, "seed": seed,
+        "parts": (None if collectors is None or asked.process is not None else collectors.asked_at, asked.part_events),
+    }
+    words = [sys.executable, *options_of_interpreter(), "-m", "itc_trace.cli.launch", json.dumps(configuration), *asked.words]
+    return Child(words, environment_of_package(), told)
+
+
+def options_of_interpreter() -> list[str]:
+    """The options with which this Python was begun. The library knows most of them, and some of those by `-X`."""
+    options: list[str] = subprocess._args_from_interpreter_flags()  # type: ignore[attr-defined]
+    known = {options[place + 1].partition("=")[0] for place, word in enumerate(options) if word == "-X"}
+    for name, value in sys._xoptions.items():
+        if name not in known:
+            options += ["-X", name if value is True else f"{name}={value}"]
+    if _imp.check_hash_based_pycs != "default":
+        options += ["--check-hash-based-pycs", _imp.check_hash_based_pycs]
+    return options
+
+
+def environment_of_package() -> dict[str, str]:
+    """The package has to be found by the program's process, too, wherever it was found by this one."""
+    own = str(Path(__file__).resolve().parent.parent.parent)
+    environment = dict(os.environ)
+    paths = [own, *environment.get("PYTHONPATH", "").split(os.pathsep)]
+    environment["PYTHONPATH"] = os.pathsep.join(path for path in paths if path)
+    return environment
+
+
+def _keep(asked: Run, port: int, journal: str, work: str, races: Races) -> str | None:
+    """Writes the export and the picture, where they are asked for. Gives where the picture is."""
+    if asked.export is None and asked.picture is None:
+        return None
+    export = asked.export or os.path.join(work, "export")
+    try:
+        with open(export, "w", encoding="ascii", newline="\n") as output:
+            snapshot(asked.tenant, port, output, asked.host)
+        return asked.picture if asked.picture is not None and draw(export, journal, asked.picture, races) else None
+    except (OSError, Refused) as fault:  # The collector is gone, say.
+        races.unseen.append(Unseen(Cause.COLLECTOR, f"the trace cannot be kept ({fault})"))
+        return None
+
+
+def draw(export: str, journal: str, picture: str, races: Races) -> bool:
+    """Draws the trace with its labels and races. Gives whether it did."""
+    command = os.environ.get("ITC_PICTURE") or find_in_repository("picture")
+    if command is None:
+        _say("itc_trace: no picture: the command of that name is in the repository of itc_trace")
+        return False
+    with tempfile.NamedTemporaryFile("w", suffix=".races", encoding="utf-8") as rows:
+        rows.write(race_rows(races))
+        rows.flush()
+        words = [command, "--labels", journal, "--races", rows.name]
+        with open(export, "rb") as given, open(picture, "wb") as page:
+            drawn = subprocess.run(words, stdin=given, stdout=page, stderr=subprocess.PIPE, encoding="utf-8", errors="replace", check=False)
+    if drawn.returncode:
+        _say(f"itc_trace: no picture: {(drawn.stderr.splitlines() or [words[0]])[-1]}")
+    return drawn.returncode == 0
+
+
+def draw_tenant(tenant: str, port: int, host: str, lines: Iterable[str], picture: str, races: Races) -> bool:
+    """Draws what the collector has of the tenant, with the labels of a journal's lines. Gives whether it did."""
+    with tempfile.TemporaryDirectory(prefix="itc_trace_") as work:
+        export, journal = os.path.join(work, "export"), os.path.join(work, "journal")
+        with open(export, "w", encoding="ascii", newline="\n") as output:
+            snapshot(tenant, port, output, host)
+        Path(journal).write_text("".join(lines), encoding="utf-8")
+        return draw(export, journal, picture, races)
+
+
+def _say(text: str) -> None:
+    """Writes to standard error, if there still is one."""
+    if sys.stderr is not None:
+        with contextlib.suppress(OSError):
+            print(text, file=sys.stderr, flush=True)
+
+
+def told(races: Races, picture: str | None = None) -> str:
+    """Why it is incomplete, where it is, and the races, each with a link into the picture, where there is one."""
+    lines = [f"itc_trace: incomplete: {reasons(races.unseen)}"] if races.unseen else []
+    for race in [*races.races, *races.possible]:
+        lines.append(f"itc_trace: {race}")
+        if picture is not None:
+            lines.append(f"    {_link(race, picture)}")
+    lines.append(f"itc_trace: {races.summary()}")
+    return "\n".join(lines)
+
+
+def _link(race: Race, picture: str) -> str:
+    first, second = race.example
+    return f"file://{quote(os.path.abspath(picture))}#event={first.event}&other={second.event}"
+
+
+def _is_untouched(races: Races) -> bool:
+    return not races.touches and not races.unseen
+
+
+def tell_if_untouched(races: Races) -> None:
+    """Says on standard error what a program has to do for its races to be found, where nothing was touched."""
+    if _is_untouched(races):
+        _say(UNTOUCHED)

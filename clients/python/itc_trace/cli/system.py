@@ -1,0 +1,319 @@
+"""Runs a system of several processes that report to one tenant, and lists the races of the whole at its end."""
+
+from __future__ import annotations
+
+import contextlib
+import glob
+import json
+import os
+import re
+import signal
+import socket
+import subprocess
+import sys
+import tempfile
+import threading
+import time
+from collections.abc import Iterator
+from pathlib import Path
+from queue import Empty, SimpleQueue
+from types import FrameType
+from typing import IO, Any
+
+from ..analyse.benign import Looking
+from ..record.collector import HOST, Collector
+from .ending import name_of
+from ..record.environment import OWN_TENANT, Reporting
+from ..record.faults import Fault
+from ..record.journal import NoJournal, read_whole
+from .launch import REFUSED
+from ..analyse.progress import Bar
+from ..analyse.races import Races
+from ..processes.relay import Relaying
+from .run import check_writable, draw, environment_of_package, told
+from ..analyse.seeing import races_seen
+from ..session import Refused
+from ..analyse.snapshot import snapshot
+from .system_file import Described, System
+from ..model.verdict import END_OF_ALL, Cause, Unseen
+
+READY_SECONDS = 60.0
+GRACE_SECONDS = 10.0
+LOOK_AGAIN = 0.05
+PYTHON = re.compile(r"(?:pypy|python)(?:3(?:\.\d+)?)?(?:\.exe)?")
+FLAGS_WITH_A_WORD = ("-X", "-W", "--check-hash-based-pycs")
+SIGNALS = [getattr(signal, name) for name in ("SIGINT", "SIGTERM", "SIGHUP") if hasattr(signal, name)]
+
+
+def _write_line(line: str, output: IO[str]) -> None:
+    """Writes a line with its end in one piece: the lines of other threads come before it or behind it."""
+    output.write(f"{line}\n")
+    output.flush()
+
+
+class Process:
+    """A process of the system, from its start to its end. What it writes is handed on with its name before each line."""
+
+    def __init__(self, described: Described, words: list[str], environment: dict[str, str], told: SimpleQueue[Any]) -> None:
+        self.described = described
+        self.name = described.name
+        self.status: int | None = None
+        self.is_ended_by_us = False
+        self._told = told
+        self._ready = threading.Event()
+        self.is_running = True
+        """Whether its end is not told yet. Whoever takes it out of the queue tells it."""
+        try:
+            self._process = subprocess.Popen(
+                words, cwd=described.directory, env=environment, stdin=subprocess.DEVNULL, stdout=subprocess.PIPE,
+                stderr=subprocess.PIPE, start_new_session=True,
+            )
+        except OSError as error:
+            raise Fault(f"process {self.name} cannot be started: {words[0]}: {error.strerror}") from error
+        readers = [
+            threading.Thread(target=self._hand_on, args=streams, daemon=True)
+            for streams in ((self._process.stdout, sys.stdout), (self._process.stderr, sys.stderr))
+        ]
+        for reader in readers:
+            reader.start()
+        threading.Thread(target=self._wait, args=(readers,), daemon=True).start()
+
+    def _hand_on(self, given: IO[bytes], output: IO[str]) -> None:
+        for line in given:
+            text = line.decode("utf-8", "replace").rstrip("\r\n")
+            if self.described.ready is not None and self.described.ready in text:
+                self._ready.set()
+            with contextlib.suppress(OSError, ValueError):
+                _write_line(f"{self.name} | {text}", output)
+
+    def _wait(self, readers: list[threading.Thread]) -> None:
+        self.status = self._process.wait()
+        for reader in readers:
+            reader.join(1)  # A process that it left behind may hold its output open.
+        self._told.put(self)
+
+    def is_ready(self) -> bool:
+        """Whether it has written the line, or listens at the port, that those who come after it wait for."""
+        if self.described.port is not None:
+            try:
+                socket.create_connection((HOST, self.described.port), 1).close()
+            except OSError:
+                return False
+            return True
+        return self.described.ready is None or self._ready.is_set()
+
+    def end(self, number: int = signal.SIGTERM) -> None:
+        """Ends it, and what it has started."""
+        if self.is_running:
+            self.is_ended_by_us = True
+            with contextlib.suppress(OSError):
+                os.killpg(self._process.pid, number)
+
+
+class Running:
+    """A system that runs: its processes, and what of it was not seen."""
+
+    def __init__(self, system: System, port: int, folder: str) -> None:
+        self._system = system
+        self._port = port
+        self._folder = folder
+        self._told: SimpleQueue[Any] = SimpleQueue()
+        self.processes: list[Process] = []
+        self.unseen: list[Unseen] = []
+        self.status = 0
+        self._is_ending = False
+
+    def run(self) -> None:
+        """Starts the processes in order, and returns once all have ended."""
+        with self._heeding_signals():
+            try:
+                for described in self._system.in_order():
+                    if self._is_ending or not self._are_ready(described.after):
+                        break
+                    self.processes.append(self._start(described))
+                while not self._is_ending and self._are_running() and not self._is_over():
+                    self._next()
+            finally:
+                self._end_all()
+                while self._are_running():
+                    self._next()
+
+    def _are_running(self) -> bool:
+        return any(process.is_running for process in self.processes)
+
+    def journals(self, name: str) -> list[str]:
+        """The journals of a process, of which there are more if it was started again."""
+        found = glob.glob(glob.escape(self._journal(name)) + "*")
+        return sorted(found, key=lambda path: (len(path), path))
+
+    def _journal(self, name: str) -> str:
+        return os.path.join(self._folder, f"{name}.journal")
+
+    def _start(self, described: Described) -> Process:
+        said = Reporting(self._port, self._system.tenant, described.name, self._journal(described.name))
+        environment = {**environment_of_package(), "PYTHONUNBUFFERED": "1", **described.environment, **said.variables()}
+        is_python = PYTHON.fullmatch(os.path.basename(described.command[0])) is not None
+        words = self._traced(described, said) if described.is_traced and is_python else described.command
+        return Process(described, words, environment, self._told)
+
+    def _traced(self, described: Described, said: Reporting) -> list[str]:
+        """The words that run a Python program traced."""
+        words = described.command
+        place = 1
+        while place < len(words) and words[place].startswith("-") and words[place] not in ("-m", "-c", "-"):
+            place += 2 if words[place] in FLAGS_WITH_A_WORD else 1
+        if place >= len(words) or words[place] in ("-c", "-"):
+            raise Fault(f"process {said.process}: only a program in a file or a module can be traced: name one, or set traced = false")
+        configuration = {
+            "port": said.port, "tenant": said.tenant, "journal": said.journal, "process": said.process, "host": HOST,
+            "watched": described.watched, "told": self._told_by(described.name), "seed": None,
+        }
+        return [*words[:place], "-m", "itc_trace.cli.launch", json.dumps(configuration), *words[place:]]
+
+    def _told_by(self, name: str) -> str:
+        return os.path.join(self._folder, f"{name}.told")
+
+    def _are_ready(self, names: list[str]) -> bool:
+        """Waits until these processes are ready. If one of them will not be, it says so."""
+        until = time.monotonic() + READY_SECONDS
+        for process in (process for process in self.processes if process.name in names):
+            while not process.is_ready():
+                if self._is_ending:
+                    return False
+                if not process.is_running or time.monotonic() > until:
+                    reason = "ended before it was ready" if not process.is_running else f"was not ready within {READY_SECONDS:.0f} s"
+                    self._miss(Cause.KILLED, f"process {process.name} {reason}")
+                    return False
+                self._next(LOOK_AGAIN)
+        return True
+
+    def _next(self, seconds: float | None = None) -> None:
+        """Waits for the next end of a process, or for a signal."""
+        try:
+            ended = self._told.get(timeout=seconds)
+        except Empty:
+            return
+        if isinstance(ended, Process):
+            ended.is_running = False
+            self._tell_end(ended)
+
+    def _is_over(self) -> bool:
+        """Whether all have ended that are no services, if there are such."""
+        own = [process for process in self.processes if not process.described.is_service]
+        return bool(own) and not any(process.is_running for process in own)
+
+    def _tell_end(self, process: Process) -> None:
+        status = process.status or 0
+        if status and not process.is_ended_by_us:
+            how = f"was ended by {name_of(-status)}" if status < 0 else f"ended with status {status}"
+            _write_line(f"itc_trace: process {process.name} {how}", sys.stderr)
+            self.status = self.status or (status if status > 0 else 128 - status)
+        if status < 0 and not process.is_ended_by_us:
+            self._miss(Cause.KILLED, f"process {process.name} was ended by {name_of(-status)}")
+
+    def _miss(self, cause: Cause, text: str) -> None:
+        self.unseen.append(Unseen(cause, text))
+
+    # Ending
+
+    def _end_all(self) -> None:
+        """Ends those that have not been asked to end yet."""
+        self._is_ending = True
+        running = [process for process in self.processes if process.is_running and not process.is_ended_by_us]
+        for process in running:
+            process.end()
+        if running:
+            killing = threading.Timer(GRACE_SECONDS, self._kill_all)
+            killing.daemon = True
+            killing.start()
+
+    def _kill_all(self) -> None:
+        for process in self.processes:
+            if process.status is None:  # One that has ended may not be told of yet.
+                self._miss(Cause.KILLED, f"process {process.name} did not end within {GRACE_SECONDS:.0f} s, and was killed")
+            process.end(signal.SIGKILL)
+
+    @contextlib.contextmanager
+    def _heeding_signals(self) -> Iterator[None]:
+        before = {number: signal.signal(number, self._asked_to_end) for number in SIGNALS}
+        try:
+            yield
+        finally:
+            for number, handler in before.items():
+                signal.signal(number, handler)
+
+    def _asked_to_end(self, number: int, _: FrameType | None) -> None:
+        if not self._is_ending:
+            self._miss(Cause.KILLED, f"this system was ended by {name_of(number)}")
+            self._end_all()
+        self._told.put(None)
+
+    # What was seen
+
+    def lines(self) -> list[str]:
+        """The lines of all journals. What was not seen of a process is told with its name."""
+        lines: list[str] = []
+        for process in self.processes:
+            written = [path for path in self.journals(process.name) if os.path.getsize(path) > 0]
+            if self._is_refused(process.name):
+                self._miss(Cause.TRACER, f"process {process.name} could not be run")
+            elif process.described.is_traced and not written:
+                self._miss(Cause.JOURNAL, f"process {process.name} reported nothing")
+            if len(written) > 1:
+                print(f"itc_trace: process {process.name} reported {len(written)} times: it was started again", file=sys.stderr)
+            for path in written:
+                lines += self._lines_of(process, path)
+        return [*lines, END_OF_ALL]
+
+    def _is_refused(self, name: str) -> bool:
+        told_by = Path(self._told_by(name))
+        return told_by.is_file() and told_by.read_text(encoding="ascii") == REFUSED
+
+    def _lines_of(self, process: Process, path: str) -> Iterator[str]:
+        with open(path, encoding="utf-8", errors="replace") as journal:
+            lines = list(journal)
+        try:
+            missing = read_whole(lines).missing
+        except NoJournal:
+            self._miss(Cause.JOURNAL, f"the journal of process {process.name} is none")
+            return
+        for one in missing:
+            self._miss(Cause.JOURNAL, one.text.replace("the journal", f"the journal of process {process.name}", 1))
+        is_ended_by_us = process.described.is_service and process.is_ended_by_us
+        yield from (line for line in lines if line.endswith("\n") and not (is_ended_by_us and line == ENDED_AS_A_SERVICE))
+
+
+ENDED_AS_A_SERVICE = Unseen(Cause.KILLED, "the program was ended by SIGTERM").row()
+
+
+def run_system(system: System, looking: Looking, fail_on_possible: bool = False) -> int:
+    """The verdict's status, and where that is 0 the first status of a process that was not 0."""
+    for file in (system.export, system.picture):
+        if file is not None:
+            check_writable(file)
+    with tempfile.TemporaryDirectory(prefix="itc_trace_") as folder, Collector(system.tenant) as collector:
+        with Relaying(collector.port) as relay:
+            running = Running(system, relay.port, folder)
+            running.run()
+        lines = running.lines()
+        races = races_seen(system.tenant, collector.port, lines, HOST, looking, Bar(sys.stderr))
+        races.unseen = [*running.unseen, *races.unseen]
+        picture = _keep(system, collector.port, lines, folder, races)
+        print(told(races, picture), file=sys.stderr, flush=True)
+        return int(races.verdict(fail_on_possible)) or running.status
+
+
+def _keep(system: System, port: int, lines: list[str], folder: str, races: Races) -> str | None:
+    """Writes the export with its journal, and the picture, if they are asked for. Gives where the picture is."""
+    if system.export is None and system.picture is None:
+        return None
+    export = system.export or os.path.join(folder, "export")
+    try:
+        with open(export, "w", encoding="ascii", newline="\n") as output:
+            snapshot(system.tenant, port, output)
+        Path(f"{export}.journal").write_text("".join(lines), encoding="utf-8")
+        is_drawn = system.picture is not None and draw(export, f"{export}.journal", system.picture, races)
+        return system.picture if is_drawn else None
+    except (OSError, Refused, NoJournal) as fault:
+        races.unseen.append(Unseen(Cause.COLLECTOR, f"the trace cannot be kept ({fault})"))
+        return None

@@ -1,0 +1,1 @@
+"""What a program marks by `shared`: containers and stand-ins that note each touch."""

@@ -1,0 +1,1 @@
+"""What tasks do and touch, as values: nothing here starts a thread, asks the collector or changes the library."""

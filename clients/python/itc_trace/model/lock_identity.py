@@ -1,0 +1,170 @@
+"""What is known of a lock: its kind, and the line of the program that made it."""
+
+from __future__ import annotations
+
+import dis
+import itertools
+from types import CodeType, FrameType
+
+from .file_names import name_of_file
+from ..record.journal import line_of
+from ..record.noting import is_internal
+
+_VARIABLES = ("NAME", "GLOBAL", "FAST", "DEREF")
+_STORES = {f"STORE_{one}" for one in _VARIABLES}
+_LOADS = {f"LOAD_{one}" for one in (*_VARIABLES, "ATTR")}
+
+_numbers: dict[tuple[str, int, int], itertools.count[int]] = {}
+_serials = itertools.count(1)
+
+REQUEST, ANSWER = "the request at ", "an answer"
+"""So begin the names of orders that are told of as locks, and are none."""
+
+
+class LockIdentity:
+    """One lock. A task that holds it has it in `Line.held`, and the token of a release has it as what it stands for.
+
+    A release is a signal if another task acquired the lock. It is one too if a lock is still held that was acquired after it, as
+    in a read-write lock that is built of two. From then on `signal` of the lock says so, and of both in the second case.
+
+    The lock of a condition guards what the waiting ones look at. So to acquire it is an order as meant as a wake-up. A lock that is held
+    while its task waits for one that it started encloses what that one does, though that one does not hold it.
+    """
+
+    __slots__ = ("serial", "kind", "code", "instruction", "number", "signal", "is_of_condition", "encloses_tasks", "_name", "_hint")
+
+    def __init__(self, kind: str, frame: FrameType | None) -> None:
+        frame = _maker(frame)
+        self.serial = next(_serials)
+        self.kind = kind
+        self.code: CodeType | None = None
+        self.instruction = 0
+        self.number = 1
+        self.signal: Signal | None = None
+        self.is_of_condition = False
+        self.encloses_tasks = False
+        self._name = self._hint = ""
+        if frame is not None:
+            code = self.code = frame.f_code
+            self.instruction = frame.f_lasti
+            key = (code.co_filename, code.co_firstlineno, self.instruction)
+            self.number = next(_numbers.setdefault(key, itertools.count(1)))
+
+    @property
+    def lock(self) -> LockIdentity | None:
+        """The lock, where only luck puts those in order who acquire it."""
+        return None if self.is_of_condition or self.encloses_tasks else self
+
+    @property
+    def place(self) -> str:
+        """The file and line that made it."""
+        return f"{name_of_file(self.code.co_filename)}:{self.line}" if self.code is not None else "?"
+
+    @property
+    def line(self) -> int:
+        return 0 if self.code is None else line_of(self.code, self.instruction)
+
+    @property
+    def name(self) -> str:
+        """As `lock L (shop.py:12)`, or `stock_lock (shop.py:12)`. A later one of the same line has its number."""
+        if not self._name:
+            variable = None if self.code is None else variable_of_result(self.code, self.instruction)
+            words = [] if variable and "lock" in variable.lower() else ["lock"]
+            words += [variable] if variable else []
+            words += [str(self.number)] if self.number > 1 else []
+            self._name = f"{' '.join(words)} ({self.place})"
+        return self._name
+
+    @property
+    def hint(self) -> str:
+        """As `lock12`."""
+        if not self._hint:
+            self._hint = f"lock{self.line or ''}"
+        return self._hint
+
+    @property
+    def giving(self) -> str:
+        return f"release {self.name}"
+
+    @property
+    def taking(self) -> str:
+        return f"acquire {self.name}"
+
+    def become_signal(self) -> Signal:
+        if self.signal is None:
+            self.signal = Signal(self)
+        return self.signal
+
+
+class Asking:
+    """The requests that a process makes at one place of its program, and answers itself, or such answers.
+
+    Whoever answers comes after who asked, and the other way round. But what they so know of other answers is luck: the program happened
+    to ask one after another. So it is told of as a lock is, which tasks happen to acquire one after another.
+    """
+
+    __slots__ = ("serial", "name", "hint", "giving", "taking")
+
+    def __init__(self, name: str, hint: str, giving: str, taking: str) -> None:
+        self.serial = next(_serials)
+        self.name = name
+        self.hint = hint
+        self.giving = giving
+        self.taking = taking
+
+    @property
+    def lock(self) -> Asking:
+        return self
+
+    @staticmethod
+    def request(place: str) -> Asking:
+        return Asking(f"{REQUEST}{place}", "request", "ask", "answer")
+
+    @staticmethod
+    def answer() -> Asking:
+        return Asking(ANSWER, "answer", "answer", "take answer")
+
+
+class Signal:
+    """What the release of a lock stands for that another task acquired: an order of its own."""
+
+    __slots__ = ("identity",)
+
+    hint = "signal"
+    lock = None
+
+    def __init__(self, identity: LockIdentity) -> None:
+        self.identity = identity
+
+    @property
+    def giving(self) -> str:
+        return self.identity.giving
+
+    @property
+    def taking(self) -> str:
+        return self.identity.taking
+
+
+def _maker(frame: FrameType | None) -> FrameType | None:
+    """The innermost frame of the program, and not of code that has no file, if there is one."""
+    first = None
+    while frame is not None:
+        if not is_internal(frame):
+            if not frame.f_code.co_filename.startswith("<"):
+                return frame
+            first = first or frame
+        frame = frame.f_back
+    return first
+
+
+def variable_of_result(code: CodeType, instruction: int) -> str | None:
+    """The name of the variable or attribute that is given the result of the instruction at once."""
+    instructions = (one for one in dis.get_instructions(code) if one.opname not in ("CACHE", "COPY"))
+    following = next((one for one in instructions if one.offset > instruction), None)  # A call may stand at the end of its caches.
+    if following is not None and following.opname in _STORES:
+        return str(following.argval)
+    while following is not None and following.opname in _LOADS:
+        following = next(instructions, None)
+        if following is not None and following.opname == "STORE_ATTR":
+            return str(following.argval)
+    return None

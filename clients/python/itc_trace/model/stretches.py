@@ -1,0 +1,98 @@
+"""What a task touches between two synchronizations: a stretch, which has one set of locks held.
+
+A touch that was noted in this stretch already costs a look into a dictionary. Stretches with no event of their task in between
+share one event, which a thread of the package reports.
+"""
+
+from __future__ import annotations
+
+from _thread import get_ident
+from bisect import bisect_right
+from collections.abc import Callable, Hashable, Sequence
+from typing import TYPE_CHECKING, Any, NamedTuple
+
+if TYPE_CHECKING:
+    from .lines import LateJob, Line
+    from ..record.touch_rows import TouchEvent
+
+
+class Site(NamedTuple):
+    """A place of the program that touches something."""
+
+    file: str
+    line: int
+    function: str
+
+
+class Sites:
+    """The places that are told by their index. Those of a module are made when they are asked for, as most never are."""
+
+    def __init__(self) -> None:
+        self._count = 0
+        self._firsts: list[int] = []
+        self._modules: list[tuple[str, Sequence[int], Sequence[str]]] = []
+
+    def append(self, site: Site) -> None:
+        self.extend(site.file, [site.line], [site.function])
+
+    def extend(self, file: str, lines: Sequence[int], functions: Sequence[str]) -> None:
+        """Adds places of one file."""
+        self._modules.append((file, lines, functions))
+        self._firsts.append(self._count)
+        self._count += len(lines)
+
+    def __len__(self) -> int:
+        return self._count
+
+    def __getitem__(self, number: int) -> Site:
+        if not 0 <= number < self._count:
+            raise IndexError(number)
+        place = bisect_right(self._firsts, number) - 1
+        file, lines, functions = self._modules[place]
+        at = number - self._firsts[place]
+        return Site(file, lines[at], functions[at])
+
+
+SITES = Sites()
+
+
+class Across(str):
+    """The name of a thing that several processes share. Any other name is of a thing of its own process."""
+
+    __slots__ = ()
+
+
+Touched = tuple[Any, str, Any]
+"""A thing, which is a text if the program has named it; the kind of the touch; and a site, or where a marked touch stands."""
+
+
+class Stretch(dict[Hashable, Touched]):
+    """The touches of a task between two synchronizations, by any key that is the same for the same touch."""
+
+    __slots__ = ("line", "held", "loop", "turn", "thread", "read", "events")
+
+    def __init__(self, line: Line | LateJob, loop: int, turn: int, thread: int) -> None:
+        self.line = line
+        self.held = line.held
+        self.loop = loop
+        self.turn = turn
+        self.thread = thread
+        self.read = 0
+        self.events: tuple[TouchEvent, ...] = ()
+        """Those that stand for it, for the thread that reports."""
+
+
+STRETCHES: dict[int, Stretch] = {}
+"""The stretch that each thread is in, by the thread's identity. Before its first touch there is none."""
+
+TURNS: dict[int, int] = {}
+"""Of each thread that runs a loop, which of the loop's callbacks it runs now."""
+
+
+def leave() -> None:
+    """Ends the stretch of this thread: what comes next is behind a synchronization."""
+    STRETCHES.pop(get_ident(), None)
+
+
+AT_BORDER: list[Callable[[], None]] = []
+"""What is called at the end of each part of a run: what is kept of touches is made shorter."""

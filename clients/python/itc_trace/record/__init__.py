@@ -1,0 +1,1 @@
+"""Takes notes in the threads of the program, and reports them: the session, the order of tasks, the journal, and parts of a run."""

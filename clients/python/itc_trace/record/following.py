@@ -1,0 +1,278 @@
+"""Child processes that are traced. Each reports for itself, as a task that its parent starts and joins.
+
+The children of a process are followed if it was begun by `run` or `system`, and if all that orders it with them is followed, too.
+"""
+
+from __future__ import annotations
+
+import contextlib
+import itertools
+import os
+import random
+import threading
+from collections.abc import Callable, Iterator
+from dataclasses import dataclass, field
+from types import FrameType
+from typing import TYPE_CHECKING, Any, NamedTuple
+
+from ..model.file_names import name_of_file
+from ..model.lines import CHILD, JOIN, Line, state
+from .noting import current, frame_at, place_of
+from .shared_names import PREFIX, SharedNames
+from ..model.verdict import Cause, Unseen, child_begun_row, child_ended_row
+
+if TYPE_CHECKING:
+    from .tracer import Tracer
+    from ..api.tracing import Tracing
+
+MOST_TAG = 8
+NOWHERE = "?"
+SEMAPHORES = "/dev/shm/sem."
+"""How the memory of named semaphores is called, which are no shared memory to the program."""
+FOLLOWED_MEMORY = (f"/{PREFIX}", "/pym-")
+"""The names of this package, and the memory of `multiprocessing`: who takes some of that is looked at by itself."""
+DIGITS = "0123456789abcdefghijklmnopqrstuvwxyz"
+ANSWER_SECONDS = 30.0
+
+
+STARTING = frozenset({"multiprocessing", "concurrent", "subprocess", "os", "pty", "asyncio", "itc_trace"})
+"""Modules that start processes for the program."""
+OWN_FOLDER = os.path.dirname(os.path.dirname(os.path.abspath(__file__))) + os.sep
+
+
+class ChildProcess(NamedTuple):
+    """What a child process has to know to report."""
+
+    port: int
+    host: str
+    tenant: str
+    journal: str
+    task: str
+    """The task that it is."""
+    tag: str
+    """The first part of the names of all its other tasks and messages."""
+    part: int
+    """The part of a divided run that it is in. It is 0 if the run is not divided."""
+    folders: list[str]
+    packages: list[str] | None
+    names: str | None = None
+    """The file of the names that processes share."""
+
+
+@dataclass
+class _Following:
+    """What is known in this process of its children, and of itself as one."""
+
+    traced: Tracing | None = None
+    folders: list[str] = field(default_factory=list)
+    packages: list[str] | None = None
+    begin: Callable[[ChildProcess], None] | None = None
+    """Begins to trace in the process that is a child."""
+    is_unfollowed: bool = False
+    """Whether the program has made what orders processes, or what they share, and is not followed."""
+    has_children: bool = False
+    names: SharedNames | None = None
+    made: dict[str, SharedNames] = field(default_factory=dict)
+    """The names that this process has made, which are `names` from then on."""
+    numbers: itertools.count[int] = field(default_factory=lambda: itertools.count(1))
+
+
+_following = _Following()
+_own = threading.local()
+
+
+def follow(
+    traced: Tracing, folders: list[str], packages: list[str] | None, begin: Callable[[ChildProcess], None], names: str | None = None
+) -> None:
+    """From here on the children of this process are traced. The names that it shares with its parent are there already."""
+    global _following
+    shared = _following.names
+    if shared is not None:
+        shared.after_fork()
+    elif names is not None:
+        shared = SharedNames(names)
+    _following = _Following(traced, folders, packages, begin, names=shared)
+
+
+def is_not_followed(what: str) -> None:
+    """The program has made what orders processes, or what they share. Children that are started from now on are not traced."""
+    traced = _following.traced
+    if traced is not None and not _following.is_unfollowed and place_of_start(2) != NOWHERE:
+        _following.is_unfollowed = True
+        if traced.is_child or _following.has_children:
+            traced.tell(Unseen(Cause.CHILD, f"what processes do to each other was not all seen: {what} was used at {place_of_start(2)}"))
+
+
+def is_there() -> bool:
+    """Whether children of this process may be traced."""
+    return _following.traced is not None
+
+
+def has_children() -> bool:
+    """Whether a child of this process is traced."""
+    return _following.has_children
+
+
+def has_others() -> bool:
+    """Whether other processes of the program are traced, too."""
+    return _following.has_children or _following.traced is not None and _following.traced.is_child
+
+
+def shared_names() -> SharedNames | None:
+    """The names of messages that processes share. None if children are not traced."""
+    if _following.names is None and _following.traced is not None:
+        with contextlib.suppress(OSError):
+            made = SharedNames()
+            _following.names = _following.made.setdefault("names", made)
+            if _following.names is not made:
+                made.remove()  # Another thread was first.
+    return _following.names
+
+
+def end() -> None:
+    """The process ends, and with it what it has made for its children."""
+    if _following.names is not None and not (_following.traced is not None and _following.traced.is_child):
+        _following.names.remove()
+
+
+def is_on() -> bool:
+    """Whether a child that is started now is traced."""
+    return _following.traced is not None and state.note is not None and not _following.is_unfollowed and not _shares_memory()
+
+
+def _shares_memory() -> bool:
+    """Whether a forked child would share memory with this process that both may write to."""
+    try:
+        with open("/proc/self/maps", encoding="utf-8", errors="replace") as maps:
+            return any(_is_shared(*line.split(maxsplit=5)) for line in maps)
+    except OSError:
+        return False  # The system does not tell. What multiprocessing makes is known all the same.
+
+
+def _is_shared(_range: str, permissions: str, _offset: str, _device: str, _number: str, path: str = "") -> bool:
+    is_known = path.startswith(SEMAPHORES) or any(one in path for one in FOLLOWED_MEMORY)
+    return permissions.startswith("rw") and permissions.endswith("s") and not is_known
+
+
+class Begun(NamedTuple):
+    """A child process that is about to start."""
+
+    line: Line
+    process: ChildProcess
+
+
+def begin(hint: str, how: str, depth: int) -> Begun | None:
+    """Starts a task for a child process. None if the child is not traced.
+
+    It returns once the collector has the start, so that nothing of the child comes before.
+    """
+    from .tracer import Waiter
+
+    note, tracer, traced = state.note, state.tracer, _following.traced
+    if note is None or tracer is None or traced is None or not is_on():
+        return None
+    line, waiter = Line(tracer, hint), Waiter()
+    line.is_process = True
+    note((CHILD, getattr(_own, "parent", None) or current(), line, waiter, *place_of(frame_of_start(depth))))
+    tracer.look_after(waiter)
+    if not waiter.wait(ANSWER_SECONDS):
+        return None
+    tag, names = _fresh_tag(tracer), shared_names()
+    process = ChildProcess(
+        tracer.port, traced.host, traced.tenant, os.path.abspath(traced.journal), line.name, tag, tracer.part,
+        _following.folders, _following.packages, None if names is None else names.path,
+    )
+    _following.has_children = True
+    traced.write(child_begun_row(tag, f"{how} at {place_of_start(depth)}"))
+    return Begun(line, process)
+
+
+def place_of_start(depth: int) -> str:
+    """The place of the program that starts a process, above so many calls."""
+    frame = frame_of_start(depth + 1)
+    return NOWHERE if frame is None else f"{name_of_file(frame.f_code.co_filename)}:{frame.f_lineno}"
+
+
+def frame_of_start(depth: int) -> FrameType | None:
+    frame = frame_at(depth + 1)
+    while is_of_library(frame):
+        frame = frame.f_back  # type: ignore[union-attr]
+    return frame
+
+
+def is_of_library(frame: FrameType | None) -> bool:
+    """Whether it is code that starts processes for the program, or carries something between them."""
+    if frame is None:
+        return False
+    return str(frame.f_globals.get("__name__")).partition(".")[0] in STARTING or frame.f_code.co_filename.startswith(OWN_FOLDER)
+
+
+@contextlib.contextmanager
+def as_child_of(line: Line | None) -> Iterator[None]:
+    """The processes that this thread starts within the block are children of this task."""
+    _own.parent = line
+    try:
+        yield
+    finally:
+        _own.parent = None
+
+
+def _fresh_tag(tracer: Tracer) -> str:
+    tag = f"{tracer.prefix.rstrip('_')}c{next(_following.numbers)}"
+    return tag if len(tag) <= MOST_TAG else "c" + "".join(random.SystemRandom().choices(DIGITS, k=MOST_TAG - 1))
+
+
+def did_not_start(begun: Begun | None) -> None:
+    """The process could not be started, so there is nothing of it to be seen."""
+    if begun is not None and _following.traced is not None:
+        _following.traced.write(child_ended_row(begun.process.tag))
+
+
+def tell_of_fork(depth: int) -> None:
+    """A process was forked that is not traced. Nobody knows what it does to the memory that it shares with this one."""
+    if _following.traced is not None and _following.packages is not None:
+        _following.traced.tell(not_traced("fork", depth + 1))
+
+
+def not_traced(how: str, depth: int) -> Unseen:
+    return Unseen(Cause.CHILD, f"a child process was not traced: it was started by {how} at {place_of_start(depth)}")
+
+
+def is_beginning() -> bool:
+    """Whether the child that this thread forks is traced."""
+    return getattr(_own, "is_beginning", False)
+
+
+def forks(begun: Begun | None) -> None:
+    """This thread forks now, or has done so."""
+    _own.is_beginning = begun is not None
+
+
+def begin_here(process: ChildProcess) -> None:
+    """In the child: from here on it is traced."""
+    forks(None)
+    if _following.begin is not None:
+        _following.begin(process)
+
+
+def has_ended(line: Line | None) -> None:
+    """The current task has seen that the child process is over."""
+    note = state.note
+    if note is not None and line is not None and line.tracer is state.tracer:
+        note((JOIN, current(), line, *place_of(frame_of_start(2))))
+
+
+class Beginning:
+    """Begins to trace where it is unpickled: in the child, before that has imported a module of the program."""
+
+    def __init__(self, process: ChildProcess) -> None:
+        self._process = process
+
+    def __reduce__(self) -> Any:
+        return begin_unpickled, tuple(self._process)
+
+
+def begin_unpickled(*words: Any) -> None:
+    from ..cli import launch
+
+    launch.begin_as_child(ChildProcess(*words))

@@ -1,0 +1,355 @@
+"""The journal: a line of JSON for each event, which leads from its number back to the program."""
+
+from __future__ import annotations
+
+import json
+from collections.abc import Iterable, Iterator
+from dataclasses import dataclass
+from json.encoder import encode_basestring_ascii as text_of
+from types import CodeType
+from typing import TYPE_CHECKING, Any, NamedTuple
+
+from ..model.conflicts import CHANGING
+from .dividing import Border
+from ..model.file_names import name_of_file
+from ..model.stretches import SITES, Across
+from ..model.verdict import BREAKS_OFF, Cause, PassedOver, Unseen
+
+if TYPE_CHECKING:
+    from ..model.lock_identity import LockIdentity
+
+MOST_NAMED = 4096
+"""So many texts of named things are kept, not to make each anew."""
+
+
+class Row(NamedTuple):
+    """What the journal says of one event, or of one of the touches that an event stands for.
+
+    A thing is what was touched, and None of any other event. Its name is what a person calls it; two things with the same group
+    are of the same kind. `held` are the locks that the task held, and `lock` is that of a message which hands a lock over.
+    """
+
+    event: int
+    task: str
+    thing: str | None
+    kind: str
+    file: str | None
+    line: int
+    label: str
+    name: str = ""
+    group: str = ""
+    made: str = ""
+    function: str = ""
+    held: tuple[str, ...] = ()
+    loop: int = 0
+    turn: int = 0
+    lock: str | None = None
+    part: int = 1
+    of: str = ""
+    """The task or the message that the report names. It is told of runs that may be divided into parts."""
+    time: float = 0.0
+    """When the event was, in seconds since 1970 by the clock of its process. One row of the event tells it, if any does."""
+
+    @property
+    def is_touch(self) -> bool:
+        return self.thing is not None
+
+    @property
+    def is_write(self) -> bool:
+        return self.kind in CHANGING
+
+    @property
+    def place(self) -> str:
+        return f"{self.file}:{self.line}" if self.file else "?"
+
+
+KEYS = Row._fields
+
+
+class Journal(NamedTuple):
+    """The rows of a journal, and what was not seen: by its own words, and by its end."""
+
+    rows: list[Row]
+    unseen: list[Unseen]
+    missing: list[Unseen]
+    """What of `unseen` no line says: the journal breaks off, or has fewer lines than were written."""
+    passed_over: list[PassedOver]
+
+
+class NoJournal(Exception):
+    """A file that was given for a journal is none."""
+
+
+def read_journal(lines: Iterable[str]) -> Iterator[Row]:
+    """The rows of a journal alone."""
+    yield from read_whole(lines).rows
+
+
+def read_whole(lines: Iterable[str]) -> Journal:
+    """A journal, with a word of it if it breaks off. A last line that was cut off is passed over."""
+    rows: list[Row] = []
+    unseen: list[Unseen] = []
+    passed_over: list[PassedOver] = []
+    children = Children()
+    count = Count()
+    for number, line in enumerate(lines, 1):
+        if not line.endswith("\n"):
+            break
+        read = read_line(line)
+        count.add(read)
+        if isinstance(read, Row):
+            rows.append(read)
+        elif isinstance(read, Unseen):
+            unseen.append(read)
+        elif isinstance(read, PassedOver):
+            passed_over.append(read)
+        elif isinstance(read, ChildTold):
+            children.add(read)
+        elif isinstance(read, End):
+            pass
+        elif read is not None and number > 1:
+            unseen.append(Unseen(Cause.JOURNAL, "the journal is of a run in parts, which was looked at as one"))
+        elif number == 1:
+            raise NoJournal("its first line is none of a journal")
+        else:
+            unseen.append(Unseen(Cause.JOURNAL, f"line {number} of the journal is none"))
+    unseen += children.unseen()
+    missing = count.missing(unseen)
+    return Journal(rows, [*unseen, *missing], missing, passed_over)
+
+
+class End(NamedTuple):
+    """The last line of a journal, and how many lines the process has written before it, if it says so."""
+
+    lines: int | None = None
+
+
+@dataclass
+class Count:
+    """The lines of a journal, which are compared with the numbers at the ends of its processes."""
+
+    told: int = 0
+    """Lines that say what was not seen. A child process may have added some."""
+    others: int = 0
+    of_children: int = 0
+    """How many lines the child processes say that they have written."""
+    end: End | None = None
+
+    def add(self, read: Read | None) -> None:
+        if isinstance(read, End):
+            self.end = read
+        elif isinstance(read, Unseen):
+            self.told += 1
+        elif read is not None:
+            self.others += 1
+        if isinstance(read, ChildTold):
+            self.of_children += read.lines
+
+    def missing(self, unseen: list[Unseen]) -> list[Unseen]:
+        """What is not seen of the run besides. Without an end the journal breaks off, if nothing else says why no more was told."""
+        if self.end is None:
+            return [] if any(one.cause not in GOING_ON for one in unseen) else [BREAKS_OFF]
+        if self.end.lines is None:
+            return []
+        written = self.end.lines + self.of_children
+        if self.others <= written <= self.others + self.told:
+            return []
+        return [Unseen(Cause.JOURNAL, f"the journal has {self.others + self.told} lines where {written} were written")]
+
+
+class ChildTold(NamedTuple):
+    """A child process of this tag has begun in some way, or has ended."""
+
+    tag: str
+    begun: str | None
+    lines: int = 0
+    """How many lines it has written, this one too, if it has ended."""
+
+
+class Children:
+    """The child processes of which a journal tells."""
+
+    def __init__(self) -> None:
+        self._begun: dict[str, str] = {}
+        self._ended: set[str] = set()
+
+    def add(self, told: ChildTold) -> None:
+        if told.begun is None:
+            self._ended.add(told.tag)
+        else:
+            self._begun[told.tag] = told.begun
+
+    def unseen(self) -> list[Unseen]:
+        """Those whose end nobody has told of."""
+        left = [how for tag, how in self._begun.items() if tag not in self._ended]
+        return [Unseen(Cause.CHILD, f"a child process was not traced to its end: it was started by {how}") for how in left]
+
+
+BORDER = '{"border":'
+GOING_ON = frozenset({Cause.CHILD, Cause.MODULE})
+"""Why something is not seen of a run that goes on to be traced."""
+
+
+def read_line(line: str) -> Read | None:
+    """What a line of a journal says. None if it is no such line."""
+    try:
+        read = json.loads(line)
+        if "event" in read:
+            return _row_of(read)
+        if "border" in read:
+            return border_of(read)
+        if "child" in read:
+            return ChildTold(str(read["child"]), str(read["begun"]) if "begun" in read else None, int(read.get("lines", 0)))
+        if "unseen" in read:
+            return Unseen(Cause(read["unseen"]), str(read["text"]))
+        if "passed_over" in read:
+            return PassedOver(str(read["passed_over"]), str(read["place"]))
+        if "end" in read:
+            return End(None if read.get("lines") is None else int(read["lines"]))
+        return None
+    except (ValueError, TypeError, KeyError):
+        return None
+
+
+def _row_of(read: dict[str, Any]) -> Row:
+    known = {key: read[key] for key in KEYS if key in read}
+    if "held" in known:
+        known["held"] = tuple(known["held"])
+    row = Row(**known)
+    if not isinstance(row.event, int) or not isinstance(row.task, str):
+        raise TypeError("an event has a number and a task")
+    return row
+
+
+def border_row(number: int, border: Border) -> str:
+    """The line of the border before the part of this number. The first part has none."""
+    told = {"border": number, "positions": border.positions, "tasks": border.tasks}
+    return json.dumps(told, separators=(",", ":")) + "\n"
+
+
+class Begun(NamedTuple):
+    """The number of a part, and how it begins."""
+
+    part: int
+    border: Border
+
+
+Read = Row | Unseen | PassedOver | ChildTold | Begun | End
+"""What a line of a journal says."""
+
+
+def border_of(read: dict[str, Any]) -> Begun:
+    """What a border's line tells of."""
+    positions = [(int(event), int(position)) for event, position in read["positions"]]
+    return Begun(int(read["border"]), Border([], positions, [int(event) for event in read["tasks"]]))
+
+
+class Places:
+    """The files and lines of instructions, as JSON. Each is looked up once."""
+
+    def __init__(self) -> None:
+        self._texts: dict[tuple[int, int], str] = {}
+        self._codes: list[CodeType] = []
+
+    def text(self, code: CodeType | None, instruction: int) -> str:
+        key = (id(code), instruction)
+        text = self._texts.get(key)
+        if text is None:
+            text = self._texts[key] = _text(code, instruction)
+            if code is not None:
+                self._codes.append(code)  # Else another code might come to stand at the same place.
+        return text
+
+
+class Touch(NamedTuple):
+    """A touch as the tracer knows it."""
+
+    thing: Any
+    kind: str
+    site: Any
+    held: tuple[LockIdentity, ...]
+    loop: int
+    turn: int
+    job: int = 0
+    """The number of a pool's job that is no task of its own."""
+
+
+class TouchTexts:
+    """The rows of touches, behind the number and the task of their event. Each thing and each site is told once."""
+
+    def __init__(self, places: Places, prefix: str, owner: str = "") -> None:
+        self._places = places
+        self._prefix = prefix
+        self._owner = owner or prefix.rstrip("_")
+        self._named: dict[tuple[Any, ...], str] = {}
+        """Of things that the program has named."""
+        self._things: dict[int, str] = {}
+        self._sites: dict[int, str] = {}
+        self._locks: dict[int, str] = {}
+
+    def text(self, touch: Touch) -> str:
+        thing, kind, site, held, loop, turn, _ = touch
+        if isinstance(thing, str):
+            told = self._touch_of_named(thing, kind, *site)
+        else:
+            told = f'{self._thing(thing)},"kind":"{kind}",{self._site(site)},"label":{text_of(f"{kind} {thing.name}")}'
+        locks = f',"held":[{",".join([self.lock(one) for one in held])}]' if held else ""
+        when = f',"loop":{loop},"turn":{turn}' if loop else ""
+        return f"{told}{locks}{when}}}\n"
+
+    def _touch_of_named(self, thing: str, kind: str, code: CodeType | None, instruction: int, label: str | None) -> str:
+        key = thing, type(thing), kind, id(code), instruction, label
+        told = self._named.get(key)
+        if told is None:
+            named = f'"thing":{json.dumps(self._name(thing))},"kind":"{kind}",{self._places.text(code, instruction)}'
+            words = f'"label":{json.dumps(label or f"{kind} {thing}")},"function":{json.dumps(code.co_qualname if code else "")}'
+            if len(self._named) >= MOST_NAMED:
+                self._named.clear()
+            told = self._named[key] = f"{named},{words}"
+        return told
+
+    def _name(self, thing: str) -> str:
+        """The name of a thing, which is of this process if it is not one across all."""
+        return thing if not self._prefix or isinstance(thing, Across) else f"{thing} of {self._owner}"
+
+    def forget(self) -> None:
+        """Forgets the texts of things and locks, which may be no more."""
+        self._named.clear()
+        self._things.clear()
+        self._locks.clear()
+
+    def lock(self, lock: LockIdentity) -> str:
+        """The name of a lock, behind what tells it from others of the same name."""
+        text = self._locks.get(lock.serial)
+        if text is None:
+            text = self._locks[lock.serial] = json.dumps(f"#{self._prefix}{lock.serial} {lock.name}")
+        return text
+
+    def _thing(self, thing: Any) -> str:
+        text = self._things.get(thing.number)
+        if text is None:
+            number = json.dumps(f"#{self._prefix}{thing.number}")
+            names = f'"name":{json.dumps(thing.name)},"group":{json.dumps(thing.group)},"made":{json.dumps(thing.made)}'
+            text = self._things[thing.number] = f'"thing":{number},{names}'
+        return text
+
+    def _site(self, site: int) -> str:
+        text = self._sites.get(site)
+        if text is None:
+            file, line, function = SITES[site][:3]
+            text = self._sites[site] = f'"file":{json.dumps(file)},"line":{line},"function":{json.dumps(function)}'
+        return text
+
+
+def _text(code: CodeType | None, instruction: int) -> str:
+    if code is None:
+        return '"file":null,"line":0'
+    return f'"file":{json.dumps(name_of_file(code.co_filename))},"line":{line_of(code, instruction)}'
+
+
+def line_of(code: CodeType, instruction: int) -> int:
+    """The source line of an instruction."""
+    for start, end, line in code.co_lines():
+        if start <= instruction < end and line is not None:
+            return line
+    return code.co_firstlineno

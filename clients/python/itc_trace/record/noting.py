@@ -1,0 +1,353 @@
+"""How the program's own threads note what they do. Each call takes a few microseconds at most, and waits for nobody."""
+
+from __future__ import annotations
+
+import _thread
+import asyncio
+import sys
+import threading
+from _thread import get_ident
+from asyncio.events import _get_running_loop
+from collections.abc import Callable, Hashable
+from sys import _getframe
+from types import CodeType, FrameType
+from typing import Any
+
+from ..model.conflicts import MAKING, READ, WRITE
+from ..model.lines import MARK, RESULT, SPAWN, TAKE, TOUCH, Line, Note, Section, Token, What, state
+from ..model.loop_runs import begun_here
+from ..model.verdict import Cause, Unseen
+from ..model.stretches import STRETCHES, TURNS, Across, Stretch, Touched, leave
+
+local = threading.local()
+"""`line` is the thread's own line, and that of a pool's job while it runs there."""
+
+INTERNAL = frozenset({
+    "threading", "queue", "concurrent", "asyncio", "logging", "functools", "importlib", "_frozen_importlib", "atexit", "itc_trace",
+})
+"""Library modules whose own locks and queues are not traced: what they promise is traced as a whole."""
+
+INTERNAL_MODULES = frozenset(f"multiprocessing.{one}" for one in ("queues", "resource_tracker", "forkserver", "util", "heap"))
+"""Modules of a package that is not internal as a whole."""
+
+_internal_names: dict[Any, bool] = {}
+
+
+def _task_getter() -> Callable[[Any], Any]:
+    if sys.version_info < (3, 12):
+        getter: Callable[[Any], Any] = asyncio.tasks._current_tasks.get  # type: ignore[attr-defined]
+        return getter
+    return asyncio.current_task
+
+
+_task_of = _task_getter()
+
+
+def frame_at(depth: int) -> FrameType | None:
+    """The frame so many calls above the caller. None, where the interpreter itself has called, as at the program's end."""
+    try:
+        return _getframe(depth + 1)
+    except ValueError:
+        return None
+
+
+def is_internal(frame: FrameType | None) -> bool:
+    """Whether this is code of the library modules that are traced as a whole, or of this package."""
+    if frame is None:
+        return False
+    name = frame.f_globals.get("__name__")
+    known = _internal_names.get(name)
+    if known is None:
+        known = _internal_names[name] = isinstance(name, str) and (name.partition(".")[0] in INTERNAL or name in INTERNAL_MODULES)
+    return known
+
+
+def are_replaced() -> bool:
+    """Whether another library has put tasks of its own in the place of threads, as gevent does."""
+    return getattr(threading.get_ident, "__module__", "_thread") != "_thread"
+
+
+def not_followed() -> list[Unseen]:
+    """What is not seen of tasks in the place of threads, all of which run in one."""
+    if not are_replaced():
+        return []
+    library = str(getattr(threading.get_ident, "__module__", "another library")).partition(".")[0]
+    return [Unseen(Cause.MODULE, f"{library} has put tasks in the place of threads, and what these do to each other was not seen")]
+
+
+def place(frame: FrameType | None) -> tuple[CodeType | None, int]:
+    """Where the program itself stands: the innermost frame that is not internal."""
+    while frame is not None:
+        is_known = _internal_names.get(frame.f_globals.get("__name__"))
+        if not (is_internal(frame) if is_known is None else is_known):
+            return frame.f_code, frame.f_lasti
+        frame = frame.f_back
+    return None, 0
+
+
+def current() -> Line:
+    """The line of whatever runs now, which is about to note a synchronization: its stretch ends."""
+    STRETCHES.pop(get_ident(), None)
+    line = line_of_now()
+    line.section = None
+    return line
+
+
+def starting(line: Line) -> Line:
+    """The current task, which is about to start the task of this line."""
+    starter = current()
+    line.lent = starter.held
+    return starter
+
+
+def joining(line: Line) -> Line:
+    """The current task, which has seen that the task of this line is done."""
+    joiner = current()
+    _enclose(joiner, line)
+    return joiner
+
+
+def _enclose(line: Line, other: Line) -> None:
+    """The line comes after the other one. What it has held since it started that one encloses all that the other one did."""
+    for lock in other.lent:
+        if lock in line.held:
+            lock.encloses_tasks = True
+
+
+def line_of_now() -> Line:
+    """The line of whatever runs now: a task of asyncio, a pool's job, or the thread."""
+    loop = _get_running_loop()
+    if loop is not None:
+        task = _task_of(loop)
+        if task is not None:
+            line: Line | None = getattr(task, "_itc_line", None)
+            if line is not None and line.tracer is state.tracer:
+                return line
+            line = _adopt_task(task)
+            if line is not None:
+                return line
+    own: Line | None = getattr(local, "line", None)
+    return own if own is not None and own.tracer is state.tracer else _adopt_thread()
+
+
+def _adopt_task(task: Any) -> Line | None:
+    """Gives a task a line that was made before tracing began, or by other means than asyncio's own. None where it takes none."""
+    line = Line(state.tracer, coroutine_name(task))
+    try:
+        line.watch(task)
+        task._itc_line = line
+    except Exception:
+        return None
+    _begin(line)
+    begun_here(line)
+    return line
+
+
+def _adopt_thread() -> Line:
+    thread = threading._active.get(_thread.get_ident())  # type: ignore[attr-defined]
+    line = Line(state.tracer, "thread#" if thread is None else thread_name(thread))
+    enter(line)
+    local.leaving = _Leaving(get_ident())
+    if thread is not None:
+        thread._itc_line, thread._itc_is_adopted = line, True
+    _begin(line)
+    return line
+
+
+class _Leaving:
+    """Ends the stretch of a thread when the thread ends, since another thread may get its identity."""
+
+    __slots__ = ("_thread",)
+
+    def __init__(self, thread: int) -> None:
+        self._thread = thread
+
+    def __del__(self) -> None:
+        STRETCHES.pop(self._thread, None)
+
+
+def enter(line: Line | None) -> None:
+    """From here on this thread goes on as the line."""
+    leave()
+    local.line = line
+
+
+def _begin(line: Line) -> None:
+    tracer, note = line.tracer, state.note
+    if note is not None and tracer is not None:
+        note((SPAWN, tracer.parent_of_strangers, line, None, 0))
+
+
+def thread_name(thread: threading.Thread) -> str:
+    """The name that a thread was given, else that of what it runs with a number."""
+    name = _text(lambda: thread.name, "thread#")
+    if name.startswith("Thread-") and name.endswith(")"):
+        return name.partition("(")[2][:-1] + "#"
+    return "thread#" if name.startswith("Thread-") else name
+
+
+def coroutine_name(task: Any) -> str:
+    """The name that a task was given, else that of its coroutine with a number."""
+    name = _text(lambda: task.get_name(), "Task-")
+    if not name.startswith("Task-"):
+        return name
+    return _text(lambda: task.get_coro().__name__, "task") + "#"
+
+
+def _text(get: Callable[[], Any], otherwise: str) -> str:
+    """What the program gives, if it gives a text."""
+    try:
+        found = get()
+    except Exception:
+        return otherwise
+    return found if isinstance(found, str) else otherwise
+
+
+def failed(fault: Exception) -> None:
+    """Stops tracing, where a hook failed. The program goes on."""
+    tracer = state.tracer
+    if tracer is not None:
+        tracer.fail(fault)
+
+
+def without_own_frame(fault: BaseException) -> None:
+    """Leaves the frame that has caught a fault out of its traceback. Whoever calls it raises the fault again, as it came."""
+    trace = fault.__traceback__
+    if trace is not None:
+        fault.__traceback__ = trace.tb_next
+
+
+LOST: dict[tuple[CodeType | None, int, str], int] = {}
+"""How many touches hooks have failed to note, by the place and the fault."""
+
+
+def lost(fault: Exception) -> None:
+    """Counts a touch that a hook failed to note. The order of the rest is not lost, so tracing goes on."""
+    kind = type(fault)
+    text = f"{kind.__name__}: {fault}" if kind.__module__ == "builtins" else kind.__name__
+    where = (*place(_getframe(1)), text.split("\n", 1)[0])
+    LOST[where] = LOST.get(where, 0) + 1
+
+
+def mark(what: What, depth: int = 2) -> Token | None:
+    """A token for the place where the current task is now, for others to take. None where tracing is off.
+
+    A task that has done nothing since its last token, and comes to the same line for the same, is still at the place of that one.
+    """
+    note = state.note
+    if note is None:
+        return None
+    try:
+        try:
+            code, instruction = place(_getframe(depth))
+        except ValueError:
+            code, instruction = None, 0
+        line = line_of_now()
+        section = line.section
+        if section is not None:
+            token = section.token
+            if token.what is what and token.instruction == instruction and token.code is code:
+                return token
+        leave()
+        line.section = None
+        token = Token(line, what, code, instruction)
+        note((MARK, token))
+        line.section = Section(token, None)
+        return token
+    except Exception as fault:
+        failed(fault)
+        return None
+
+
+def take(token: Token | None, depth: int = 2) -> None:
+    """From now on the current task comes after the place of the token."""
+    if token is not None and (line := _taker(token)) is not None:
+        _note_take(line, token, frame_at(depth))
+
+
+def take_at(token: Token | None, frame: FrameType | None) -> None:
+    """The same, at the place of this frame."""
+    if token is not None and (line := _taker(token)) is not None:
+        _note_take(line, token, frame)
+
+
+def _taker(token: Token) -> Line | None:
+    """The current task. None if it comes after the place of the token already, as its own task, or as the last one that has taken it."""
+    if state.note is None or token.line.tracer is not state.tracer:
+        return None
+    line = line_of_now()
+    if line is token.line:
+        return None
+    if token.line.lent and token.what is RESULT:
+        _enclose(line, token.line)
+    return None if token.last_taker == line.number else line
+
+
+def _note_take(line: Line, token: Token, frame: FrameType | None) -> None:
+    note = state.note
+    if note is not None:
+        leave()
+        line.section = None
+        token.last_taker = line.number
+        note((TAKE, line, token, *place(frame)))
+
+
+def touch(thing: str, write: bool = False, label: str | None = None, across: bool = False) -> None:
+    """Notes that the current task reads or writes the thing, at the line of the program that calls this.
+
+    A thing is of this process, unless it is one across all processes that call it by this name, as a file is.
+    """
+    if state.note is not None or state.witness is not None:
+        frame = frame_at(1)
+        try:
+            touch_at(Across(thing) if across else thing, WRITE if write else READ, *place_of(frame), label)
+        except Exception as fault:
+            failed(fault)
+
+
+def place_of(frame: FrameType | None) -> tuple[CodeType | None, int]:
+    return (None, 0) if frame is None else (frame.f_code, frame.f_lasti)
+
+
+def touch_at(thing: str, kind: str, code: CodeType | None, instruction: int, label: str | None = None) -> None:
+    """Notes a touch of a thing that the program has named."""
+    key = thing, type(thing), kind, id(code), instruction, label
+    stretch = STRETCHES.get(get_ident())
+    if stretch is None or key not in stretch:
+        touched(key, thing, kind, (code, instruction, label))
+
+
+def touched(key: Hashable, thing: Any, kind: str, site: Any) -> None:
+    """Adds a touch to the stretch of this thread, by a key that stands for thing, kind and site."""
+    note = state.note
+    if note is None:
+        if state.witness is not None and kind != MAKING:
+            state.witness(thing, site)
+        return
+    stretch = STRETCHES.get(get_ident())
+    if stretch is None:
+        stretch = begin_stretch(note)
+    stretch[key] = thing, kind, site
+
+
+def touched_all(touches: dict[Hashable, Touched]) -> None:
+    """Adds several touches to the stretch of this thread, each by its key."""
+    note = state.note
+    if note is None:
+        for thing, kind, site in touches.values():
+            touched((), thing, kind, site)
+        return
+    stretch = STRETCHES.get(get_ident())
+    if stretch is None:
+        stretch = begin_stretch(note)
+    stretch.update(touches)
+
+
+def begin_stretch(note: Callable[[Note], object]) -> Stretch:
+    """The stretch of this thread, which begins with the touch that is about to be noted."""
+    line, loop, thread = line_of_now(), _get_running_loop(), get_ident()
+    turn = 0 if loop is None else TURNS.get(thread, 0)
+    line.section = None
+    stretch = STRETCHES[thread] = Stretch(line.job or line, 0 if loop is None else id(loop), turn, thread)
+    note((TOUCH, stretch))
+    return stretch

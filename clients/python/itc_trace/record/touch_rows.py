@@ -1,0 +1,153 @@
+"""The rows of a journal that tell of touches. What one task alone touches is nobody's race, and has none."""
+
+from __future__ import annotations
+
+from collections.abc import Hashable, Iterable
+from itertools import islice
+from typing import Any
+
+from ..model.conflicts import CHANGING
+from .journal import Touch, TouchTexts
+from ..model.lines import LateJob
+from .many_jobs import ManyJobs
+from ..model.stretches import Stretch, Touched
+
+MOST_PRIVATE = 10000
+
+
+def part_text(part: int) -> str:
+    """How a row tells of which part of the run it is. Those of the first part do not tell."""
+    return f'"part":{part},' if part > 1 else ""
+
+
+def time_text(time: float) -> str:
+    """How a row tells when its event was, in seconds since 1970 by the clock of its process. Without a time it does not tell."""
+    return f'"time":{time:.6f},' if time else ""
+
+
+class TouchEvent:
+    """An event that stands for what a task touches, up to the next event of this task."""
+
+    __slots__ = ("task", "part", "time", "event", "stretches", "touches", "looked_at", "has_row", "is_open", "is_waiting")
+
+    def __init__(self, task: str, part: int = 1, time: float = 0.0) -> None:
+        self.task = task
+        self.part = part
+        self.time = time
+        self.event = 0
+        """Its number, once the collector has answered."""
+        self.stretches: list[Stretch] = []
+        self.touches: dict[Hashable, Touch] = {}
+        self.looked_at = 0
+        self.has_row = False
+        self.is_open = True
+        self.is_waiting = False
+        """Whether it waits for its rows to be written."""
+
+    def read_stretches(self, is_whole: bool = True) -> None:
+        """Takes over what was noted in its stretches. Of those but the last nothing more is to come.
+
+        If it need not be whole, the last one is read only once it has twice as much as before.
+        """
+        for stretch in self.stretches:
+            if not is_whole and len(stretch) < 2 * stretch.read:
+                continue
+            read = stretch.copy()  # A copy is made at once. The program may add more while it is gone through.
+            self.add(stretch, islice(read.items(), stretch.read, None))
+            stretch.read = len(read)
+        del self.stretches[:-1]
+
+    def add(self, stretch: Stretch, touches: Iterable[tuple[Hashable, Touched]]) -> None:
+        """Takes over what was touched in one of its stretches."""
+        held, loop, turn = stretch.held, stretch.loop, stretch.turn
+        job = stretch.line.number if isinstance(stretch.line, LateJob) else 0
+        when = held, loop, turn, job
+        for key, (thing, kind, site) in touches:
+            self.touches[key, when] = Touch(thing, kind, site, held, loop, turn, job)
+
+
+class _Alone:
+    """What is known of a thing, as long as one task alone has touched it, or nobody has changed it."""
+
+    __slots__ = ("thing", "task", "waiting", "has_other_task", "is_changed")
+
+    def __init__(self, thing: Any, task: str) -> None:
+        self.thing = thing
+        self.task = task
+        self.waiting: list[tuple[TouchEvent, Touch]] = []
+        self.has_other_task = False
+        self.is_changed = False
+
+
+class TouchRows:
+    """Makes the rows of touch events, each touch once."""
+
+    def __init__(self, texts: TouchTexts) -> None:
+        self._texts = texts
+        self._alone: dict[int, _Alone | None] = {}
+        """Of each thing that was seen by its number, and None of those that are listed."""
+        self._swept = 0
+        self.jobs = ManyJobs()
+
+    def rows(self, event: TouchEvent, is_last: bool = False) -> str:
+        """The rows that are new since the last time. An event that has none of its own is told by one row, when nothing more comes."""
+        touches = list(event.touches.values())[event.looked_at:]
+        event.looked_at += len(touches)
+        rows: list[str] = []
+        for touch in touches:
+            if touch.job:
+                self.jobs.add(touch)
+            if isinstance(touch.thing, str):
+                rows.append(self._row(event, touch))
+            else:
+                self._add(event, touch, rows)
+        if is_last and not event.has_row:
+            rows.append(f'{self._begin(event)}"thing":null,"kind":"local","file":null,"line":0,"label":"touch"}}\n')
+        return "".join(rows)
+
+    def _add(self, event: TouchEvent, touch: Touch, rows: list[str]) -> None:
+        number = touch.thing.number
+        alone = self._alone.get(number)
+        if alone is None:
+            if number in self._alone:
+                rows.append(self._row(event, touch))
+                return
+            alone = self._alone[number] = _Alone(touch.thing, event.task)
+        alone.waiting.append((event, touch))
+        alone.has_other_task = alone.has_other_task or event.task != alone.task
+        alone.is_changed = alone.is_changed or touch.kind in CHANGING
+        if alone.has_other_task and alone.is_changed:
+            rows += [self._row(*one) for one in alone.waiting]
+            self._alone[number] = None
+
+    def _row(self, event: TouchEvent, touch: Touch) -> str:
+        return f"{self._begin(event)}{self._texts.text(touch)}"
+
+    def _begin(self, event: TouchEvent) -> str:
+        """How a row of the event begins. The first one tells when the event was."""
+        time = "" if event.has_row else time_text(event.time)
+        event.has_row = True
+        return f'{{"event":{event.event},{part_text(event.part)}{time}"task":"{event.task}",'
+
+    def keep_last(self) -> None:
+        """At the end of a part: of what one task alone has touched at one place, the last touch stands for all."""
+        for alone in self._alone.values():
+            if alone is not None and len(alone.waiting) > 1:
+                last = {(event.task, touch._replace(turn=0, job=0)): (event, touch) for event, touch in alone.waiting}
+                alone.waiting = list(last.values())
+
+    def gone(self) -> list[int]:
+        """The things that one task alone has touched and that are no more, if it is time to forget some."""
+        if len(self._alone) < self._swept + MOST_PRIVATE:
+            return []
+        gone = [number for number, alone in self._alone.items() if alone is not None and alone.thing.is_gone]
+        if not gone:
+            self._swept = len(self._alone)
+        return gone
+
+    def forget(self, things: list[int]) -> None:
+        """Forgets those that are still touched by one task alone, once no touch of them may still come."""
+        for number in things:
+            if self._alone.get(number) is not None:
+                del self._alone[number]
+        self._swept = len(self._alone)

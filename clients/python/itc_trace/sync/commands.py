@@ -1,0 +1,102 @@
+"""Traces the programs of its own folder that a program runs by `subprocess`: each is a task that the program starts and joins."""
+
+from __future__ import annotations
+
+import json
+import os
+import shutil
+import sys
+from collections.abc import Sequence
+from types import ModuleType
+from typing import Any
+
+from ..record import following
+from .. import watch
+from .base import Patches
+from .later import once_imported
+
+FLAGS_WITH_A_WORD = ("-X", "-W", "--check-hash-based-pycs")
+PACKAGE = os.path.dirname(os.path.dirname(os.path.dirname(os.path.abspath(__file__))))
+_WITHOUT_VARIABLES = set("EI")
+
+
+def put(patches: Patches) -> None:
+    once_imported("subprocess", lambda module: _put_popen(patches, module))
+
+
+def _put_popen(patches: Patches, module: ModuleType) -> None:
+    kind: Any = vars(module)["Popen"]
+    patches.wrap(kind, "__init__", _begin)
+    for name in ("wait", "poll", "communicate"):
+        patches.wrap(kind, name, _ended)
+
+
+def _begin(original: Any) -> Any:
+    def __init__(self: Any, args: Any, *words: Any, **named: Any) -> None:
+        begun = None if words else _begun(args, named)
+        if begun is None:
+            original(self, args, *words, **named)
+            return
+        try:
+            original(self, _traced(args, begun.process), **{**named, "env": _with_package(named.get("env"))})
+        except BaseException:
+            following.did_not_start(begun)
+            raise
+        self._itc_line = begun.line
+
+    return __init__
+
+
+def _begun(args: Any, named: dict[str, Any]) -> following.Begun | None:
+    """What is begun for the command, if it is one of Python that can be traced."""
+    if isinstance(args, (str, bytes, os.PathLike)) or named.get("shell") or named.get("executable") is not None or not following.is_on():
+        return None
+    try:
+        place = _place_of_program(args)
+        program = watch.program_of(args, os.fspath(named.get("cwd") or os.getcwd()))
+    except (TypeError, ValueError):
+        return None
+    if place is None or program is None:
+        return None
+    return following.begin(f"{os.path.splitext(os.path.basename(program))[0]}#", "subprocess", 3)
+
+
+def _place_of_program(words: Sequence[Any]) -> int | None:
+    """Where the program stands in a command that runs it by this Python. None if it is run in another way."""
+    if not words or os.path.realpath(shutil.which(os.fsdecode(words[0])) or "") != os.path.realpath(sys.executable):
+        return None
+    place = 1
+    while place < len(words) and os.fsdecode(words[place]).startswith("-") and words[place] != "-m":
+        flag = os.fsdecode(words[place])
+        if flag in ("-", "-c") or not flag.startswith("--") and _WITHOUT_VARIABLES & set(flag) and flag not in FLAGS_WITH_A_WORD:
+            return None
+        place += 2 if flag in FLAGS_WITH_A_WORD else 1
+    return place if place < len(words) else None
+
+
+def _traced(words: Sequence[Any], process: following.ChildProcess) -> list[Any]:
+    place = _place_of_program(words)
+    configuration = {
+        "port": process.port, "tenant": process.tenant, "journal": process.journal, "process": None, "host": process.host,
+        "watched": process.packages, "told": os.devnull, "seed": None, "child": process,
+    }
+    return [*words[:place], "-m", "itc_trace.cli.launch", json.dumps(configuration), *words[place:]]
+
+
+def _with_package(environment: Any) -> dict[str, str]:
+    """The program's process has to find the package, whatever its environment is."""
+    told = dict(os.environ if environment is None else environment)
+    paths = os.fsdecode(told.get("PYTHONPATH", "")).split(os.pathsep)
+    if PACKAGE not in paths:
+        told["PYTHONPATH"] = os.pathsep.join(path for path in (PACKAGE, *paths) if path)
+    return told
+
+
+def _ended(original: Any) -> Any:
+    def method(self: Any, *words: Any, **named: Any) -> Any:
+        told = original(self, *words, **named)
+        if self.returncode is not None:
+            following.has_ended(self.__dict__.get("_itc_line"))
+        return told
+
+    return method

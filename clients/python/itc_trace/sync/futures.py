@@ -1,0 +1,317 @@
+"""Traces `concurrent.futures`: a job comes after its submission, and whoever takes a result after the job.
+
+Each job of a pool is a task of its own, whichever thread runs it: a pool promises no order between its jobs. Where one thread
+runs all of them, or where tasks become scarce, a job belongs to the line of the pool's thread.
+"""
+
+from __future__ import annotations
+
+import concurrent.futures
+import concurrent.futures._base as base
+import concurrent.futures.thread as pools
+from collections.abc import Callable, Iterator
+from typing import Any
+
+from .handed_on import called, handed_at, watched_place
+from ..model.lines import CALLBACK, FINISH, RESULT, SPAWN, SUBMIT, TAKE_END, WORKER, LateJob, Line, Token, state
+from ..record.noting import current, enter, frame_at, is_internal, joining, local, mark, place, starting, take, without_own_frame
+from ..api.web import incoming_at
+from .base import Patches, like, named_like
+from .exits import await_at_exit
+
+_DONE = {base.CANCELLED, base.CANCELLED_AND_NOTIFIED, base.FINISHED}
+_WAITING = (base.PENDING, base.RUNNING)
+
+
+def put(patches: Patches) -> None:
+    future = base.Future
+    patches.put(future, "_itc_token", None)
+    patches.put(future, "_itc_sources", ())
+    patches.put(future, "_itc_message", None)
+    patches.wrap(future, "set_result", _set_result)
+    patches.wrap(future, "set_exception", _set_exception)
+    for name in ("result", "exception"):
+        patches.wrap(future, name, _result)
+    patches.wrap(future, "cancel", _cancel)
+    patches.wrap(future, "_invoke_callbacks", _invoke_callbacks)
+    patches.wrap(future, "done", _done)
+    patches.wrap(future, "add_done_callback", _add_done_callback)
+    _put_pools(patches)
+    patches.replace(concurrent.futures, "wait", like(base.wait, _wait(base.wait)))
+    patches.replace(concurrent.futures, "as_completed", like(base.as_completed, _as_completed(base.as_completed)))
+
+
+# Results
+
+
+def take_result(future: Any, depth: int = 2) -> None:
+    """From now on the current task comes after whatever gave the future its result."""
+    if getattr(future, "_itc_message", None) is not None:  # It is no future of asyncio.
+        incoming_at(future._itc_message, frame_at(depth))
+    elif future._itc_token is not None:
+        take(future._itc_token, depth + 1)
+    else:
+        for source in future._itc_sources:
+            take_any(source, depth + 1)
+
+
+def is_settled_by_source(future: Any) -> bool:
+    """Whether one of the futures that this one stands for is done. Else whoever cancels it gives it its result."""
+    return any(source.done() for source in future._itc_sources)
+
+
+def take_any(future: Any, depth: int = 2) -> None:
+    """The same of a future of any kind: of a task of asyncio it is the task's end."""
+    line = getattr(future, "_itc_line", None)
+    if line is not None and not isinstance(future, base.Future):
+        note = state.note
+        if note is not None and line.tracer is state.tracer:
+            note((TAKE_END, joining(line), line, *place(frame_at(depth))))
+    elif hasattr(future, "_itc_sources"):
+        take_result(future, depth + 1)
+
+
+def _settle(future: Any, token: Token | None, are_waiting: tuple[str, ...], settle: Callable[[], Any]) -> Any:
+    """Gives the future its result, if it is in one of these states, and its place with it. Whoever comes too late gives no place.
+
+    Nobody sees the one without the other, as nobody else has the future meanwhile. Its callbacks are called behind that.
+    """
+    with future._condition:
+        if future._state in are_waiting:
+            future._itc_token = token
+        before, local.settled = getattr(local, "settled", None), [future]
+        try:
+            told = settle()
+        finally:
+            settled, local.settled = local.settled, before
+    for one in settled[1:]:
+        one._invoke_callbacks()
+    return told
+
+
+def _invoke_callbacks(original: Any) -> Any:
+    def _invoke_callbacks(self: Any) -> None:
+        settled = getattr(local, "settled", None)
+        if settled is not None and settled[0] is self:
+            settled.append(self)
+        else:
+            original(self)
+
+    return _invoke_callbacks
+
+
+def _set_result(original: Any) -> Any:
+    def set_result(self: Any, result: Any) -> None:
+        _set(original, self, result)
+
+    return set_result
+
+
+def _set_exception(original: Any) -> Any:
+    def set_exception(self: Any, exception: Any) -> None:
+        _set(original, self, exception)
+
+    return set_exception
+
+
+def _set(original: Any, future: Any, value: Any) -> None:
+    if state.note is None or future._itc_sources:
+        original(future, value)
+    else:
+        _settle(future, mark(RESULT), _WAITING, lambda: original(future, value))
+
+
+def _cancel(original: Any) -> Any:
+    def cancel(self: Any) -> bool:
+        if state.note is None or is_settled_by_source(self):
+            return bool(original(self))
+        return bool(_settle(self, mark(RESULT), (base.PENDING,), lambda: original(self)))
+
+    return cancel
+
+
+def _result(original: Any) -> Any:
+    """Whoever waits for too short a time has not seen the result, though it may come right behind that."""
+
+    def result(self: Any, timeout: float | None = None) -> Any:
+        try:
+            told = original(self, timeout)
+        except BaseException as error:
+            if error is self._exception or isinstance(error, base.CancelledError) and self._state in _DONE:
+                take_result(self)
+            without_own_frame(error)
+            del self  # The future's exception refers to this frame.
+            raise
+        take_result(self)
+        return told
+
+    return result
+
+
+def _done(original: Any) -> Any:
+    def done(self: Any) -> bool:
+        is_done = bool(original(self))
+        if is_done and not is_internal(frame_at(1)):
+            take_result(self)
+        return is_done
+
+    return done
+
+
+def _add_done_callback(original: Any) -> Any:
+    def add_done_callback(self: Any, fn: Any) -> None:
+        if state.note is not None and callable(fn) and not is_internal(frame_at(1)):
+            fn = _called_back(fn, mark(CALLBACK))
+        return original(self, fn)  # type: ignore[no-any-return]
+
+    return add_done_callback
+
+
+def _called_back(callback: Any, token: Token | None) -> Any:
+    """The callback, called after whoever added it, and after the result."""
+
+    def call(future: Any) -> Any:
+        take(token)
+        take_result(future)
+        if token is not None:
+            called(callback, (future,), watched_place(token.code, token.instruction))
+        return callback(future)
+
+    return named_like(callback, call)
+
+
+def _wait(original: Any) -> Any:
+    def wait(fs: Any, timeout: float | None = None, return_when: str = base.ALL_COMPLETED) -> Any:
+        told = original(fs, timeout, return_when)
+        for future in told.done:
+            take_result(future)
+        return told
+
+    return wait
+
+
+def _as_completed(original: Any) -> Any:
+    def as_completed(fs: Any, timeout: float | None = None) -> Iterator[Any]:
+        return _taken(original(fs, timeout))
+
+    return as_completed
+
+
+def _taken(futures: Iterator[Any]) -> Iterator[Any]:
+    """The futures, each of which is taken, and kept no longer than by the library."""
+    kept = []
+    for future in futures:
+        take_result(future)
+        kept.append(future)
+        del future
+        yield kept.pop()
+
+
+# Pools
+
+
+def _put_pools(patches: Patches) -> None:
+    patches.wrap(pools.ThreadPoolExecutor, "submit", _submit)
+    patches.wrap(pools.ThreadPoolExecutor, "shutdown", _shutdown)
+    patches.wrap(pools._WorkItem, "__init__", _item_begin)
+    patches.wrap(pools._WorkItem, "run", _item_run)
+
+
+def _submit(original: Any) -> Any:
+    def submit(self: Any, fn: Any, /, *args: Any, **kwargs: Any) -> Any:
+        local.submitting = self, getattr(fn, "__name__", "job")
+        local.handed = handed_at(fn)
+        try:
+            return original(self, fn, *args, **kwargs)
+        finally:
+            local.submitting = local.handed = None
+
+    return submit
+
+
+def _item_begin(original: Any) -> Any:
+    def __init__(self: Any, future: Any, *words: Any) -> None:
+        original(self, future, *words)
+        self._itc_handed = getattr(local, "handed", None)
+        submitting = getattr(local, "submitting", None)
+        if state.note is not None and submitting is not None:
+            _begin_job(self, future, *submitting)
+
+    return __init__
+
+
+def _begin_job(item: Any, future: Any, pool: Any, name: str) -> None:
+    """The job is begun where it is submitted."""
+    note, tracer = state.note, state.tracer
+    if note is None or tracer is None:
+        return
+    number = tracer.next_job()
+    if pool._max_workers == 1 or number > tracer.most_lines:
+        item._itc_submitted = mark(SUBMIT, 5)
+        item._itc_job = 0 if pool._max_workers == 1 else number
+        return
+    line = Line(tracer, name + "#")
+    line.watch(future)
+    future._itc_line = item._itc_line = line
+    item._itc_is_after_worker = getattr(pool, "_initializer", None) is not None
+    pool.__dict__.setdefault("_itc_jobs", []).append(line)
+    await_at_exit(line)
+    note((SPAWN, starting(line), line, *place(frame_at(4))))
+
+
+def _item_run(original: Any) -> Any:
+    def run(self: Any, *words: Any) -> None:
+        line = self.__dict__.get("_itc_line")
+        if line is None or line.tracer is not state.tracer:
+            submitted = self.__dict__.get("_itc_submitted")
+            if submitted is not None:
+                worker, number = current(), self.__dict__.get("_itc_job", 0)
+                worker.job = LateJob(worker, number) if number else None
+            take(submitted)
+            _tell_called(self)
+            try:
+                return original(self, *words)  # type: ignore[no-any-return]
+            finally:
+                del self  # The traceback of what the job raises refers to this frame, and the job's future to that.
+        ready = mark(WORKER) if self._itc_is_after_worker else None
+        worker = getattr(local, "line", None)
+        line.must_finish = True
+        enter(line)
+        take(ready)
+        _tell_called(self)
+        try:
+            return original(self, *words)  # type: ignore[no-any-return]
+        finally:
+            del self
+            enter(worker)
+            note = state.note
+            if note is not None:
+                note((FINISH, line, False, False))
+
+    return run
+
+
+def _tell_called(item: Any) -> None:
+    """Tells of a method of a container that is the job itself."""
+    handed = item.__dict__.get("_itc_handed")
+    if handed is not None and hasattr(item, "fn"):
+        called(item.fn, tuple(item.args), handed)
+
+
+def _shutdown(original: Any) -> Any:
+    def shutdown(self: Any, wait: bool = True, **named: Any) -> None:
+        original(self, wait, **named)
+        jobs = self.__dict__.get("_itc_jobs")
+        if wait and jobs:
+            _take_jobs(jobs)
+
+    return shutdown
+
+
+def _take_jobs(jobs: list[Line]) -> None:
+    """Whoever has waited for the pool's end comes after all of its jobs."""
+    where = place(frame_at(2))
+    for line in list(jobs):
+        note = state.note
+        if note is not None and line.tracer is state.tracer:
+            note((TAKE_END, joining(line), line, *where))

@@ -1,0 +1,326 @@
+"""Traced locks: a release is a message to whoever acquires next.
+
+A traced lock has three fields: the token of its last release, its identity, and the line of the task that holds it.
+"""
+
+from __future__ import annotations
+
+import _thread
+import functools
+import linecache
+import re
+import sys
+import threading
+from _thread import get_ident
+from types import FrameType
+from typing import Any
+
+from ..model.lines import MARK, TAKE, Line, Section, Token, state
+from ..model.lock_identity import LockIdentity, Signal
+from ..record.noting import current, frame_at, is_internal, line_of_now, place
+from ..model.stretches import STRETCHES, TURNS, Stretch
+from .base import name_as
+
+_WAITS = re.compile(r"\.(wait|wait_for|notify|notify_all|notifyAll)\b")
+
+_allocate = _thread.allocate_lock
+_PlainLock: Any = _thread.LockType
+_PlainRLock: Any = vars(_thread)["RLock"]
+IS_CALLED = sys.version_info >= (3, 13)
+"""Whether programs call the type of a lock to make one. Before it was a function that did."""
+
+
+class _LikeLock(type):
+    """Every lock of the library is an instance of the traced type too."""
+
+    def __instancecheck__(cls, instance: object) -> bool:
+        return isinstance(instance, _PlainLock)
+
+
+class _LikeRLock(type):
+    """The same of locks that their owner may acquire again, but for classes of the program."""
+
+    def __instancecheck__(cls, instance: object) -> bool:
+        return isinstance(instance, _PlainRLock) if cls is TracedRLock else type.__instancecheck__(cls, instance)
+
+
+class TracedLock(metaclass=_LikeLock):
+    """A lock object is a synchronization primitive.
+
+    The last release is known to whoever acquires it next.
+    """
+
+    __slots__ = ("_lock", "_itc_token", "_itc_identity", "_itc_holder", "__weakref__")
+
+    _lock: Any
+    _itc_token: Token | None
+    _itc_identity: LockIdentity
+    _itc_holder: Line | None
+
+    def __new__(cls) -> Any:
+        if not IS_CALLED:
+            raise TypeError("cannot create '_thread.lock' instances")
+        frame = frame_at(1)
+        return _allocate() if is_internal(frame) else traced_lock(frame)
+
+    @property  # type: ignore[misc]
+    def __class__(self) -> Any:
+        return _thread.LockType  # It is this class while locks are traced.
+
+    def acquire(self, blocking: bool = True, timeout: float = -1) -> bool:
+        if not self._lock.acquire(blocking, timeout):
+            return False
+        if state.note is not None:
+            took(self)
+        return True
+
+    def __enter__(self) -> bool:
+        self._lock.acquire()
+        if state.note is not None:
+            took(self)
+        return True
+
+    def release(self) -> None:
+        if state.note is not None:
+            gave(self)
+        self._lock.release()
+
+    def __exit__(self, *_: object) -> None:
+        if state.note is not None:
+            gave(self)
+        self._lock.release()
+
+    def locked(self) -> bool:
+        return bool(self._lock.locked())
+
+    acquire_lock = acquire
+    release_lock = release
+    locked_lock = locked
+
+    def _at_fork_reinit(self) -> None:
+        self._lock._at_fork_reinit()
+        self._itc_token = self._itc_holder = None
+
+    def __reduce__(self) -> Any:
+        raise TypeError("cannot pickle '_thread.lock' object")
+
+    def __repr__(self) -> str:
+        return repr(self._lock)
+
+
+class TracedRLock(_PlainRLock, metaclass=_LikeRLock):  # type: ignore[misc]
+    """A lock that its owner may acquire again. Only what happens outermost is a message."""
+
+    __slots__ = ("_itc_token", "_itc_identity", "_itc_holder", "_depth")
+
+    _itc_token: Token | None
+    _itc_identity: LockIdentity
+    _itc_holder: Line | None
+    _depth: int
+
+    def __new__(cls, *words: Any, **named: Any) -> Any:
+        frame = frame_at(1)
+        if is_internal(frame):
+            return _PlainRLock(*words, **named)
+        return traced_rlock(frame, cls, *words, **named)
+
+    def acquire(self, blocking: bool = True, timeout: float = -1) -> bool:
+        if not _PlainRLock.acquire(self, blocking, timeout):
+            return False
+        self._depth += 1
+        if self._depth == 1 and state.note is not None:
+            took(self)
+        return True
+
+    def __enter__(self) -> bool:
+        _PlainRLock.acquire(self)
+        self._depth += 1
+        if self._depth == 1 and state.note is not None:
+            took(self)
+        return True
+
+    def release(self) -> None:
+        if _PlainRLock._is_owned(self):
+            self._depth -= 1
+            if self._depth == 0 and state.note is not None:
+                gave(self)
+        _PlainRLock.release(self)
+
+    def __exit__(self, *_: object) -> None:
+        self.release()
+
+    def _release_save(self) -> Any:
+        depth, self._depth = self._depth, 0
+        if state.note is not None:
+            gave(self)
+        return _PlainRLock._release_save(self), depth
+
+    def _acquire_restore(self, saved: Any) -> None:
+        _PlainRLock._acquire_restore(self, saved[0])
+        self._depth = saved[1]
+        if state.note is not None:
+            took(self)
+
+    def _at_fork_reinit(self) -> None:
+        _PlainRLock._at_fork_reinit(self)
+        self._itc_token = self._itc_holder = None
+        self._depth = 0
+
+
+    def __repr__(self) -> str:
+        told: str = _PlainRLock.__repr__(self)
+        return told.replace(" RLock object", " _thread.RLock object", 1) if type(self) is TracedRLock else told
+
+    def __reduce_ex__(self, protocol: Any) -> Any:
+        raise TypeError(f"cannot pickle '{'_thread.' if type(self) is TracedRLock else ''}{type(self).__name__}' object")
+
+
+for _kind in (_LikeLock, _LikeRLock):
+    name_as(_kind, "type", "builtins")
+name_as(TracedLock, "lock", "_thread")
+name_as(TracedRLock, "RLock", "_thread")  # Programs look whether it is the one that a signal handler may acquire, and it is.
+
+
+def allocate_lock() -> Any:
+    frame = frame_at(1)
+    return _allocate() if is_internal(frame) else traced_lock(frame)
+
+
+def new_rlock(*words: Any, **named: Any) -> Any:
+    """What `threading` makes. A library that puts tasks in the place of threads has it make locks of its own."""
+    if vars(threading)["_CRLock"] is None:
+        return vars(threading)["_PyRLock"](*words, **named)
+    frame = frame_at(1)
+    return _PlainRLock(*words, **named) if is_internal(frame) else traced_rlock(frame, TracedRLock, *words, **named)
+
+
+def traced_lock(frame: Any, kind: Any = TracedLock, lock: Any = None) -> Any:
+    """One that was made where the frame stands, or a lock that is there already."""
+    made = object.__new__(kind)
+    made._lock = lock or _allocate()
+    made._itc_identity = LockIdentity("Lock", frame)
+    made._itc_token = made._itc_holder = None
+    return made
+
+
+def traced_rlock(frame: Any, cls: Any = TracedRLock, *words: Any, **named: Any) -> Any:
+    """One that was made where the frame stands."""
+    made = _PlainRLock.__new__(cls, *words, **named)
+    made._itc_identity = LockIdentity("RLock", frame)
+    made._itc_token = made._itc_holder = None
+    made._depth = 0
+    return made
+
+
+def is_of_condition(lock: Any, maker: FrameType | None = None) -> None:
+    """The lock, where it is a traced one, guards what those look at who wait at a condition.
+
+    If nobody has waited yet, the file that makes the condition says whether anybody will. Without that it is a lock as any other.
+    """
+    identity = getattr(lock, "_itc_identity", None)
+    if identity is not None and (maker is None or _may_wait(maker.f_code.co_filename)):
+        identity.is_of_condition = True
+
+
+@functools.cache
+def _may_wait(file: str) -> bool:
+    """Whether code of the file waits or notifies, or cannot be read."""
+    lines = linecache.getlines(file)
+    return not lines or any(_WAITS.search(line) for line in lines)
+
+
+def gave(lock: Any) -> None:
+    """Notes that the lock is about to be released."""
+    thread = get_ident()
+    stretch = STRETCHES.pop(thread, None)
+    line = line_of_now()
+    if line.section is not None and _left_again(lock, line, line.section):
+        return
+    code, instruction = place(frame_at(2))
+    holder, lock._itc_holder = lock._itc_holder, None
+    identity: LockIdentity = lock._itc_identity
+    if holder is line:
+        held = line.held
+        if held and held[-1] is identity:
+            line.held = held[:-1]
+        else:
+            _outlived(line, identity)
+    elif holder is not None and holder.tracer is state.tracer:
+        _remove(holder, identity)
+        identity.become_signal()
+    what: LockIdentity | Signal = identity.signal or identity
+    lock._itc_token = token = Token(line, what, code, instruction)
+    line.section = None
+    note = state.note
+    if note is not None:
+        note((MARK, token))
+        line.section = Section(token, stretch)
+
+
+def _left_again(lock: Any, line: Line, section: Section) -> bool:
+    """Whether this is the end of a section that was entered again, and in which nothing has happened that is not in its stretch."""
+    identity, held = lock._itc_identity, line.held
+    if not section.is_entered_again or section.token.what is not identity or not held or held[-1] is not identity or identity.signal:
+        return False
+    section.is_entered_again = False
+    lock._itc_holder = None
+    line.held = held[:-1]
+    lock._itc_token = section.token
+    return True
+
+
+def _is_in_turn(stretch: Stretch | None) -> bool:
+    """Whether the stretch may go on: a task of a loop begins another one with each of its turns."""
+    return stretch is None or not stretch.loop or stretch.turn == TURNS.get(stretch.thread)
+
+
+def _entered_again(lock: Any, line: Line, section: Section) -> None:
+    """The task that released the lock goes on in its section."""
+    section.is_entered_again = True
+    lock._itc_holder = line
+    line.held += (lock._itc_identity,)
+    lock._itc_token = None
+    if section.stretch is not None:
+        STRETCHES[section.stretch.thread] = section.stretch
+
+
+def _outlived(line: Line, identity: LockIdentity) -> None:
+    """The lock is released while one is held that was acquired after it: both hand over more than what they enclose."""
+    is_later = False
+    for one in line.held:
+        if is_later:
+            one.become_signal()
+            identity.become_signal()
+        is_later = is_later or one is identity
+    _remove(line, identity)
+
+
+def _remove(line: Line, identity: LockIdentity) -> None:
+    """Takes the lock from what the task holds, also where that task acquires and releases others meanwhile."""
+    while True:
+        held = line.held
+        left = tuple(one for one in held if one is not identity)
+        if line.held is held:
+            line.held = left
+            return
+
+
+def took(lock: Any) -> None:
+    """Notes that the lock was acquired. While it is held nobody else needs the place of its last release."""
+    token = lock._itc_token
+    section = None if token is None else token.line.section  # Looked at once: another task may leave its own meanwhile.
+    if token is not None and section is not None and section.token is token:
+        line = line_of_now()
+        if line is token.line and line.section is section and _is_in_turn(section.stretch):
+            _entered_again(lock, line, section)
+            return
+    line = current()
+    lock._itc_holder = line
+    line.held += (lock._itc_identity,)
+    if token is None:
+        return
+    lock._itc_token = None
+    if line is not token.line and token.line.tracer is state.tracer:
+        note = state.note
+        if note is not None:
+            note((TAKE, line, token, *place(frame_at(2))))

@@ -1,0 +1,143 @@
+"""Traces what goes between processes by `Queue`, `SimpleQueue` and `Pipe` of `multiprocessing`.
+
+An item is a message. Its name travels behind the item's pickle, which ends by itself: whoever does not know of it is not disturbed.
+"""
+
+from __future__ import annotations
+
+import pickle
+from collections.abc import Callable
+from types import ModuleType
+from typing import Any
+
+from ..record import following
+from ..model.lines import state
+from ..record.noting import frame_at
+from ..api.web import Sending, incoming_at
+from .base import Patches, like
+from .later import once_imported
+
+MARK_OF_NAME = b"\0itc_trace "
+LONGEST_NAME = 24
+END_OF_NAME = b"\n"
+"""A pickle ends with a stop and never with this."""
+_LENGTH = len(MARK_OF_NAME) + LONGEST_NAME + len(END_OF_NAME)
+
+
+def put(patches: Patches) -> None:
+    once_imported("multiprocessing.reduction", lambda module: _put_pickler(patches, module))
+    once_imported("multiprocessing.queues", lambda module: _put_queues(patches, module))
+    once_imported("multiprocessing.connection", lambda module: _put_connections(patches, module))
+
+
+# The name behind the pickle
+
+
+def _put_pickler(patches: Patches, module: ModuleType) -> None:
+    kind: Any = vars(module)["ForkingPickler"]
+    dumps = vars(kind)["dumps"].__func__
+    patches.put(kind, "dumps", classmethod(like(dumps, _dumps(dumps))))
+    patches.put(kind, "loads", staticmethod(_loads))
+
+
+def _dumps(original: Any) -> Any:
+    def dumps(cls: Any, obj: Any, protocol: int | None = None) -> Any:
+        if type(obj).__module__ == "concurrent.futures.process":
+            return original(cls, obj, protocol)  # A job or a result brings a message of its own.
+        if type(obj) is _Put:
+            return _named(original(cls, obj.item, protocol), obj.sending)
+        return _named(original(cls, obj, protocol), _begin())
+
+    return dumps
+
+
+def _named(pickled: Any, sending: Sending | None) -> Any:
+    name = None if sending is None else sending.name()
+    if name is None:
+        return pickled
+    return b"".join((pickled, MARK_OF_NAME, name.encode().ljust(LONGEST_NAME), END_OF_NAME))
+
+
+def _loads(data: Any, **named: Any) -> Any:
+    told = pickle.loads(data, **named)
+    if state.note is not None:
+        end = bytes(data[-_LENGTH:])
+        if end.startswith(MARK_OF_NAME) and end.endswith(END_OF_NAME):
+            incoming_at(end[len(MARK_OF_NAME):].decode("ascii", "replace").strip(), following.frame_of_start(1))
+    return told
+
+
+def _begin() -> Sending | None:
+    """Sends a message, if it may be for another process."""
+    return Sending.begin(following.frame_of_start(1)) if following.is_there() else None
+
+
+# Queues: a thread of the queue pickles what was put
+
+
+class _Put:
+    """An item that lies in a queue until it is pickled, and the message that was sent where it was put."""
+
+    __slots__ = ("item", "sending")
+
+    def __init__(self, item: Any, sending: Sending) -> None:
+        self.item = item
+        self.sending = sending
+
+
+def _put_queues(patches: Patches, module: ModuleType) -> None:
+    kind: Any = vars(module)["Queue"]
+    patches.wrap(kind, "put", lambda original: _put_item(original, kind))
+    patches.wrap(kind, "_on_queue_feeder_error", lambda original: _on_error(original))
+
+
+def _put_item(original: Any, kind: Any) -> Any:
+    def put(self: Any, obj: Any, block: bool = True, timeout: float | None = None) -> None:
+        sending = _begin() if type(self) is kind else None
+        original(self, obj if sending is None else _Put(obj, sending), block, timeout)
+
+    return put
+
+
+def _on_error(original: Any) -> Any:
+    plain: Callable[..., None] = original.__func__
+
+    def _on_queue_feeder_error(error: Any, obj: Any) -> None:
+        plain(error, obj.item if type(obj) is _Put else obj)
+
+    return staticmethod(like(plain, _on_queue_feeder_error))
+
+
+# Pipes
+
+
+def _put_connections(patches: Patches, module: ModuleType) -> None:
+    kind: Any = vars(module)["_ConnectionBase"]
+    for name in ("send_bytes", "recv_bytes", "recv_bytes_into"):
+        patches.wrap(kind, name, _tells_of_bytes)
+    patches.wrap(kind, "recv", _recv)
+
+
+def _tells_of_bytes(original: Any) -> Any:
+    """Bytes carry no name."""
+
+    def method(self: Any, *words: Any, **named: Any) -> Any:
+        if not following.is_of_library(frame_at(1)):
+            following.is_not_followed(original.__name__)
+        return original(self, *words, **named)
+
+    return method
+
+
+def _recv(original: Any) -> Any:
+    """Whoever sees the end of a pipe comes after those who have closed it, and nobody knows these."""
+
+    def recv(self: Any) -> Any:
+        try:
+            return original(self)
+        except EOFError:
+            if not following.is_of_library(frame_at(1)):
+                following.is_not_followed("the end of a pipe")
+            raise
+
+    return recv

@@ -1,0 +1,107 @@
+"""Traces conditions, events and barriers of `multiprocessing`. What they are built of gives no order by itself."""
+
+from __future__ import annotations
+
+from types import ModuleType
+from typing import Any
+
+from ..model.lines import EVENT, state
+from ..record.noting import mark, take
+from .base import Patches
+from .later import once_imported
+from .locks import is_of_condition
+from .processes import make_silent, silence
+from .shared_locks import has_taken, is_giving, slot_of
+
+
+def put(patches: Patches) -> None:
+    once_imported("multiprocessing.synchronize", lambda module: _put_signals(patches, module))
+
+
+def _put_signals(patches: Patches, module: ModuleType) -> None:
+    condition, event, barrier = (vars(module)[name] for name in ("Condition", "Event", "Barrier"))
+    patches.wrap(condition, "__init__", _begin_condition)
+    patches.wrap(condition, "__setstate__", _set_condition)
+    patches.wrap(event, "__init__", _begin_event)
+    patches.put(event, "__setstate__", _set_event)
+    patches.put(event, "_itc_token", None)
+    patches.put(event, "_itc_slot", None)
+    patches.wrap(event, "set", _set)
+    for name in ("wait", "is_set"):
+        patches.wrap(event, name, _sees)
+    patches.wrap(barrier, "__init__", _begin_barrier)
+
+
+# Conditions: whoever wakes up acquires the lock behind whoever notified it.
+
+
+def _begin_condition(original: Any) -> Any:
+    def __init__(self: Any, lock: Any = None, **named: Any) -> None:
+        with silence("Semaphore"):
+            original(self, lock, **named)
+        is_of_condition(self._lock.__dict__.get("_itc_traced"))
+
+    return __init__
+
+
+def _set_condition(original: Any) -> Any:
+    def __setstate__(self: Any, told: Any) -> None:
+        original(self, told)
+        is_of_condition(self._lock.__dict__.get("_itc_traced"))
+
+    return __setstate__
+
+
+# Events
+
+
+def _begin_event(original: Any) -> Any:
+    def __init__(self: Any, **named: Any) -> None:
+        with silence("Lock", "RLock", "Semaphore"):
+            original(self, **named)
+        self._itc_slot = slot_of(self._flag._semlock.name)
+
+    return __init__
+
+
+def _set_event(self: Any, told: dict[str, Any]) -> None:
+    """In a process that was started anew."""
+    self.__dict__.update(told)
+    make_silent(self._cond._lock)
+    self._cond._make_methods()
+
+
+def _set(original: Any) -> Any:
+    def set(self: Any) -> None:
+        if state.note is None:
+            original(self)
+            return
+        with self._cond:
+            if not self._flag.acquire(False):
+                self._itc_token = mark(EVENT)
+                is_giving(self._itc_slot)
+            self._flag.release()
+            self._cond.notify_all()
+
+    return set
+
+
+def _sees(original: Any) -> Any:
+    def method(self: Any, *words: Any, **named: Any) -> bool:
+        is_set = bool(original(self, *words, **named))
+        if is_set and not has_taken(self._itc_slot):
+            take(self._itc_token)
+        return is_set
+
+    return method
+
+
+# Barriers are those of `threading`, whose order is traced there.
+
+
+def _begin_barrier(original: Any) -> Any:
+    def __init__(self: Any, *words: Any, **named: Any) -> None:
+        with silence("Lock", "RLock", "Semaphore"):
+            original(self, *words, **named)
+
+    return __init__

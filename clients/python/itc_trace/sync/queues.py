@@ -1,0 +1,348 @@
+"""Traces `queue`: an item is a message from who puts it to who gets it, and room one from who gets to who puts."""
+
+from __future__ import annotations
+
+import _thread
+import asyncio
+import math
+import queue
+import threading
+from collections import deque
+from types import FunctionType
+from typing import Any
+
+from ..model.lines import DONE_ITEM, QUEUE, ROOM, Token, state
+from ..record.noting import frame_at, is_internal, mark, take
+from .base import Patches, name_as
+from .locks import TracedLock, gave, took, traced_lock
+
+_guard = vars(_thread)["RLock"]()
+_own_steps: set[Any] = set()
+"""The methods by which the queues of the library put and get."""
+_PlainSimpleQueue: Any = queue.SimpleQueue
+_STACKS = queue.LifoQueue, asyncio.LifoQueue
+MOST_PLACES = 16
+"""Who puts into a queue of more places comes after nobody: such a queue bounds memory, and to tell it would take an event an item."""
+
+
+_CONDITIONS = frozenset({"not_empty", "not_full", "all_tasks_done"})
+_INSIDE = ("_init", "_put", "_get", "_qsize")
+"""Methods that a queue calls while it holds its own lock."""
+
+
+def put(patches: Patches) -> None:
+    patches.wrap(queue.Queue, "__init__", _begin)
+    patches.wrap(queue.Queue, "put", _put)
+    patches.wrap(queue.Queue, "get", _get)
+    for kind in (queue.Queue, queue.LifoQueue, queue.PriorityQueue):
+        patches.wrap(kind, "_put", _put_inside)
+        patches.wrap(kind, "_get", _get_inside)
+        _own_steps.update((vars(kind)["_put"], vars(kind)["_get"]))
+    patches.wrap(queue.Queue, "task_done", _task_done)
+    patches.wrap(queue.Queue, "join", _join)
+    patches.replace(queue, "SimpleQueue", TracedSimpleQueue)
+
+
+def _begin(original: Any) -> Any:
+    def __init__(self: Any, maxsize: int = 0) -> None:
+        original(self, maxsize)
+        frame, kind = frame_at(1), type(self)
+        if any(getattr(getattr(kind, name), "__module__", "") != "queue" for name in _INSIDE) or _waits_by_itself(kind):
+            _trace_lock(self, frame)
+        elif not is_internal(frame):
+            self.mutex = traced_lock(frame, _Mutex, self.mutex)
+
+    return __init__
+
+
+def _waits_by_itself(kind: type) -> bool:
+    """Whether a method of the program's own class may wait at the conditions of the queue, or notify those who wait."""
+    own = [function for one in kind.__mro__ if one.__module__ != "queue" for function in vars(one).values()]
+    return any(not _CONDITIONS.isdisjoint(function.__code__.co_names) for function in own if type(function) is FunctionType)
+
+
+class _Mutex(TracedLock):
+    """The lock of a queue, as the program has it. What the library does while it holds the lock gives no order by that."""
+
+    __slots__ = ()
+
+    def acquire(self, blocking: bool = True, timeout: float = -1) -> bool:
+        if not self._lock.acquire(blocking, timeout):
+            return False
+        if state.note is not None and not is_internal(frame_at(1)):
+            took(self)
+        return True
+
+    def __enter__(self) -> bool:
+        self._lock.acquire()
+        if state.note is not None and not is_internal(frame_at(1)):
+            took(self)
+        return True
+
+    def release(self) -> None:
+        if state.note is not None and not is_internal(frame_at(1)):
+            gave(self)
+        self._lock.release()
+
+    def __exit__(self, *_: object) -> None:
+        if state.note is not None and not is_internal(frame_at(1)):
+            gave(self)
+        self._lock.release()
+
+
+name_as(_Mutex, "lock", "_thread")
+
+
+def _trace_lock(one: Any, frame: Any) -> None:
+    """Gives the queue a traced lock, as code of the program runs while it is held."""
+    one.mutex = traced_lock(frame)
+    for name in ("not_empty", "not_full", "all_tasks_done"):
+        setattr(one, name, threading.Condition(one.mutex))
+
+
+class Items:
+    """The tokens of what lies in a queue, by the identity of the items. A thing that lies there several times has several."""
+
+    def __init__(self, is_stack: bool) -> None:
+        self._tokens: dict[int, Token | deque[Token | None] | None] = {}
+        self._is_stack = is_stack
+
+    def add(self, item: object, token: Token | None) -> None:
+        number = id(item)
+        with _guard:
+            tokens = self._tokens
+            if number not in tokens:
+                tokens[number] = token
+                return
+            known = tokens[number]
+            if type(known) is deque:
+                known.append(token)
+            else:
+                tokens[number] = deque((known, token))
+
+    def remove(self, item: object, from_end: bool = False) -> Token | None:
+        """The token of an item that has been taken out. If one thing lies there twice, the queue's order decides."""
+        number = id(item)
+        with _guard:
+            tokens = self._tokens.pop(number, None)
+            if type(tokens) is not deque:
+                return tokens
+            token = tokens.pop() if self._is_stack or from_end else tokens.popleft()
+            if tokens:
+                self._tokens[number] = tokens
+            return token
+
+
+def items_of(one: Any) -> Items:
+    items: Items | None = one.__dict__.get("_itc_items")
+    if items is None:
+        items = one.__dict__.setdefault("_itc_items", Items(isinstance(one, _STACKS)))
+    return items
+
+
+class Room:
+    """The places of a bounded queue: who puts takes the place that was free first, and comes after who made it free."""
+
+    def __init__(self, places: int) -> None:
+        self._free: deque[Token | None] = deque([None] * places)
+
+    def make(self) -> None:
+        self._free.append(mark(ROOM))
+
+    def use(self) -> None:
+        if self._free:
+            take(self._free.popleft())
+
+
+def has_few_places(one: Any) -> bool:
+    return 0 < one.maxsize <= MOST_PLACES
+
+
+def room_of(one: Any, size: int) -> Room:
+    """The room of a bounded queue in which so many items lie."""
+    room: Room | None = one.__dict__.get("_itc_room")
+    if room is None:
+        room = one.__dict__.setdefault("_itc_room", Room(max(0, math.ceil(one.maxsize) - size)))
+    return room
+
+
+def _put_item(one: Any, item: Any, put: Any) -> None:
+    """The library puts the item, while nobody else has the queue. Else two threads that put one thing might be taken for each other."""
+    if 0 < one.maxsize <= MOST_PLACES:
+        room_of(one, one._qsize()).use()
+    items = one.__dict__.get("_itc_items") or items_of(one)
+    items.add(item, mark(QUEUE, 3))
+    try:
+        put(one, item)
+    except BaseException:
+        items.remove(item, from_end=True)
+        raise
+
+
+def _get_item(one: Any, get: Any) -> Any:
+    """The library takes an item out, while nobody else has the queue."""
+    room = room_of(one, one._qsize()) if 0 < one.maxsize <= MOST_PLACES else None
+    item = get(one)
+    items = one.__dict__.get("_itc_items")
+    token = None if items is None else items.remove(item)
+    if token is not None:
+        take(token, 3)
+    if room is not None:
+        room.make()
+    return item
+
+
+def _put_inside(original: Any) -> Any:
+    def _put(self: Any, item: Any) -> None:
+        if state.note is None or type(self)._put not in _own_steps:
+            original(self, item)
+        else:
+            _put_item(self, item, original)
+
+    return _put
+
+
+def _get_inside(original: Any) -> Any:
+    def _get(self: Any) -> Any:
+        if state.note is None or type(self)._get not in _own_steps:
+            return original(self)
+        return _get_item(self, original)
+
+    return _get
+
+
+class _Seen:
+    """Stands for a queue that puts or gets by code of the program, while the library calls that."""
+
+    __slots__ = ("_itc_queue",)
+
+    def __init__(self, one: Any) -> None:
+        object.__setattr__(self, "_itc_queue", one)
+
+    def __getattr__(self, name: str) -> Any:
+        return getattr(self._itc_queue, name)
+
+    def __setattr__(self, name: str, value: Any) -> None:
+        setattr(self._itc_queue, name, value)
+
+    def _put(self, item: Any) -> None:
+        _put_item(self._itc_queue, item, _put_by_program)
+
+    def _get(self) -> Any:
+        return _get_item(self._itc_queue, _get_by_program)
+
+
+def _put_by_program(one: Any, item: Any) -> None:
+    one._put(item)
+
+
+def _get_by_program(one: Any) -> Any:
+    return one._get()
+
+
+def _put(original: Any) -> Any:
+    def put(self: Any, item: Any, block: bool = True, timeout: float | None = None) -> None:
+        is_own = state.note is None or type(self)._put in _own_steps
+        return original(self if is_own else _Seen(self), item, block, timeout)  # type: ignore[no-any-return]
+
+    return put
+
+
+def _get(original: Any) -> Any:
+    def get(self: Any, block: bool = True, timeout: float | None = None) -> Any:
+        is_own = state.note is None or type(self)._get in _own_steps
+        return original(self if is_own else _Seen(self), block, timeout)
+
+    return get
+
+
+def note_done(one: Any) -> None:
+    """Keeps for whoever joins the queue where each task has said last that an item is done."""
+    token = mark(DONE_ITEM, 3)
+    if token is not None:
+        with _guard:
+            one.__dict__.setdefault("_itc_done", {})[token.line] = token
+
+
+def done_of(one: Any) -> list[Token]:
+    """The places that whoever has waited for all items comes after."""
+    with _guard:
+        return list(one.__dict__.get("_itc_done", {}).values())
+
+
+def take_done(one: Any) -> None:
+    for token in done_of(one):
+        take(token, 3)
+
+
+def _task_done(original: Any) -> Any:
+    def task_done(self: Any) -> None:
+        note_done(self)
+        return original(self)  # type: ignore[no-any-return]
+
+    return task_done
+
+
+def _join(original: Any) -> Any:
+    """What is done behind the moment in which all was done is none of what it has waited for."""
+
+    def join(self: Any) -> None:
+        if state.note is None:
+            return original(self)  # type: ignore[no-any-return]
+        with self.all_tasks_done:
+            while self.unfinished_tasks:
+                self.all_tasks_done.wait()
+            tokens = done_of(self)
+        for token in tokens:
+            take(token)
+        return None
+
+    return join
+
+
+class _Box:
+    """An item on its way through a queue, with its token."""
+
+    __slots__ = ("item", "token")
+
+    def __init__(self, item: Any, token: Token) -> None:
+        self.item = item
+        self.token = token
+
+
+class TracedSimpleQueue(_PlainSimpleQueue):  # type: ignore[misc]
+    """A simple queue that hands the place of each `put` on with the item."""
+
+    def __new__(cls) -> Any:
+        if is_internal(frame_at(1)):
+            return _PlainSimpleQueue()
+        return _PlainSimpleQueue.__new__(cls)
+
+    def put(self, item: Any, block: bool = True, timeout: float | None = None) -> None:
+        token = mark(QUEUE) if state.note is not None else None
+        _PlainSimpleQueue.put(self, item if token is None else _Box(item, token), block, timeout)
+
+    def get(self, block: bool = True, timeout: float | None = None) -> Any:
+        return _opened(_PlainSimpleQueue.get(self, block, timeout))
+
+    def put_nowait(self, item: Any) -> None:
+        token = mark(QUEUE) if state.note is not None else None
+        _PlainSimpleQueue.put_nowait(self, item if token is None else _Box(item, token))
+
+    def get_nowait(self) -> Any:
+        return _opened(_PlainSimpleQueue.get_nowait(self))
+
+
+def plain_simple_queue() -> Any:
+    """A queue that gives no order."""
+    return _PlainSimpleQueue()
+
+
+name_as(TracedSimpleQueue, "SimpleQueue", "queue")
+
+
+def _opened(item: Any) -> Any:
+    if type(item) is _Box:
+        take(item.token, 3)
+        return item.item
+    return item

@@ -1,0 +1,65 @@
+"""Tells of what orders processes, or what they share, and is not followed. A child that may use it is not traced."""
+
+from __future__ import annotations
+
+from typing import Any
+
+from ..record import following
+from .base import Patches
+from .later import once_imported
+from .values import is_making
+
+_MAKING = (
+    ("multiprocessing.managers", "BaseManager", "__init__"),
+    ("multiprocessing.managers", "BaseProxy", "__init__"),
+    ("multiprocessing.pool", "Pool", "__init__"),
+    ("multiprocessing.shared_memory", "SharedMemory", "__init__"),
+)
+"""The modules, classes and methods by which a program makes such things, or gets them from another process."""
+
+
+OF_POOL = "_SafeQueue"
+"""The queue of a `ProcessPoolExecutor`, whose jobs have an order of their own."""
+POOL_OF_THREADS = "ThreadPool"
+MOST_PLACES = 16
+"""A queue of more places bounds memory, and puts nobody in order who waits for a place: see `queues`."""
+
+
+def put(patches: Patches) -> None:
+    once_imported("multiprocessing.heap", lambda module: patches.wrap(vars(module)["BufferWrapper"], "__init__", _tells_of_memory))
+    once_imported("multiprocessing.queues", lambda module: patches.wrap(vars(module)["Queue"], "__init__", _tells_of_queue))
+    for module, kind, method in _MAKING:
+        once_imported(module, lambda found, kind=kind, method=method: _put(patches, vars(found)[kind], method))  # type: ignore[misc]
+
+
+def _put(patches: Patches, kind: Any, method: str) -> None:
+    patches.wrap(kind, method, _tells)
+
+
+def _tells(original: Any) -> Any:
+    def __init__(self: Any, *words: Any, **named: Any) -> None:
+        if type(self).__name__ != POOL_OF_THREADS:
+            following.is_not_followed(type(self).__name__)
+        original(self, *words, **named)
+
+    return __init__
+
+
+def _tells_of_memory(original: Any) -> Any:
+    def __init__(self: Any, size: int) -> None:
+        if not is_making():
+            following.is_not_followed("shared memory")
+        original(self, size)
+
+    return __init__
+
+
+def _tells_of_queue(original: Any) -> Any:
+    """A thread of a queue waits for a place, or another one for its items to be done."""
+
+    def __init__(self: Any, maxsize: int = 0, **named: Any) -> None:
+        if type(self).__name__ != OF_POOL and (0 < maxsize <= MOST_PLACES or type(self).__name__ != "Queue"):
+            following.is_not_followed(type(self).__name__)
+        original(self, maxsize, **named)
+
+    return __init__
