@@ -5,11 +5,14 @@ use super::{Book, Report};
 use crate::share::{Keep, KeptId};
 use std::alloc::Global;
 
-/// The most nodes of ids that a book keeps loose, however few events it has.
+/// The most nodes of ids that a book keeps loose, if it has few events.
 const LEAST: u64 = 256;
 
-/// It keeps one more for so many events.
-const EVENTS: u64 = 4;
+/// So many events are few.
+const FEW_EVENTS: u64 = 512;
+
+/// How many nodes more it keeps loose for each further event. They take less than a path of a deep tree.
+const NODES: u64 = 24;
 
 impl<S: Keep> Book<S> {
     /// Has the ids of the report's tasks be there as trees, if there is memory for them. Before that it packs all others, if too
@@ -18,7 +21,7 @@ impl<S: Keep> Book<S> {
     pub(super) fn unpack_ids(&mut self, report: &Report)
         ensures { self.new ≡ self.old }
     {
-        if self.loose > LEAST + self.rows.len() as u64 / EVENTS {
+        if self.loose > most_loose(self.rows.len() as u64) {
             self.pack_others(report);
         }
         self.unpack_at(report.acting.id);
@@ -49,6 +52,14 @@ impl<S: Keep> Book<S> {
         self.loose = 0;
         pack_all_but(self.alloc, &mut self.ids, acting, joined);
     }
+}
+
+/// The most nodes of ids that a book of so many events keeps loose.
+#[inline(always)]
+fn most_loose(events: u64) -> u64 {
+    NODES
+        .saturating_mul(events.saturating_sub(FEW_EVENTS))
+        .saturating_add(LEAST)
 }
 
 /// Packs all ids but those at these two places.
