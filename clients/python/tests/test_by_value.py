@@ -7,6 +7,8 @@ import tempfile
 import unittest
 from pathlib import Path
 
+from itc_trace import Verdict
+
 from .same import FORMS
 from .support import PACKAGE, run_python, run_traced
 
@@ -128,6 +130,19 @@ print(subprocess.run([sys.executable, "-c", f"import dill; print(dill.loads({giv
 """
 
 
+ALONE = """
+import threading
+import cloudpickle
+rows = []
+def work(one):
+    rows.append(one)
+thread = threading.Thread(target=print, args=("begun",))
+thread.start()
+thread.join()
+cloudpickle.loads(cloudpickle.dumps(work))(1)
+"""
+
+
 class ByValue(unittest.TestCase):
     def assert_same(self, folder: str) -> None:
         """The program prints the same traced as untraced, where a package of this name lies in the folder."""
@@ -148,11 +163,44 @@ class ByValue(unittest.TestCase):
             Path(folder, "cloudpickle.py").write_text(STAND_IN)
             self.assert_same(folder)
 
+    def test_a_run_whose_function_leaves_by_value_is_no_all_clear(self) -> None:
+        """The pickler lies in the program's own folder, so it is watched, too."""
+        with tempfile.TemporaryDirectory() as folder:
+            Path(folder, "cloudpickle.py").write_text(STAND_IN)
+            program = Path(folder, "program.py")
+            program.write_text(ALONE)
+            traced = run_traced(str(program), PYTHONPATH=os.pathsep.join((str(PACKAGE), folder)))
+        self.assertEqual((traced.stdout, traced.returncode), ("begun\n", Verdict.INCOMPLETE), traced.stderr)
+        self.assertIn("itc_trace: incomplete: what left by value was not traced where it runs: work at program.py:5\n", traced.stderr)
+        self.assertIn("itc_trace: no race in what was seen; not looked into: work where it runs by value at program.py:5", traced.stderr)
+
+    def test_what_left_by_value_in_one_tracing_is_no_matter_of_the_next_one(self) -> None:
+        program = ALONE.replace("thread = ", "import itc_trace\nwith itc_trace.tracing() as first:\n    cloudpickle.dumps(work)\nthread = ")
+        program = program[:program.index("thread = ")] + "with itc_trace.tracing() as second:\n    work(1)\nprint(*(one.races().verdict().name for one in (first, second)))\n"
+        with tempfile.TemporaryDirectory() as folder:
+            Path(folder, "cloudpickle.py").write_text(STAND_IN)
+            Path(folder, "program.py").write_text(program)
+            ran = run_python(str(Path(folder, "program.py")), PYTHONPATH=os.pathsep.join((str(PACKAGE), folder)))
+        self.assertEqual((ran.stdout, ran.stderr), ("INCOMPLETE NO_RACE\n", ""))
+
     @unittest.skipUnless(os.path.isdir(DEBIAN), "python3-cloudpickle is not there")
     def test_what_cloudpickle_takes_works_without_hooks(self) -> None:
         with tempfile.TemporaryDirectory() as folder:
             os.symlink(DEBIAN, os.path.join(folder, "cloudpickle"))
             self.assert_same(folder)
+
+    @unittest.skipUnless(os.path.isdir(DEBIAN), "python3-cloudpickle is not there")
+    def test_functions_and_classes_of_many_kinds_work_elsewhere(self) -> None:
+        text = Path(__file__).with_name("leaving_by_value.py").read_text()
+        with tempfile.TemporaryDirectory() as folder, tempfile.TemporaryDirectory() as own:
+            os.symlink(DEBIAN, os.path.join(folder, "cloudpickle"))
+            program, path = Path(own, "program.py"), os.pathsep.join((str(PACKAGE), folder))
+            program.write_text(text)
+            plain = run_python(str(program), PYTHONPATH=path)
+            self.assertEqual((plain.returncode, plain.stdout.count("\n"), plain.stdout.count("fails")), (0, 34, 0), plain.stdout + plain.stderr)
+            for form, pure in FORMS.items():
+                with self.subTest(hooks=form):
+                    self.assertEqual(run_traced(str(program), PYTHONPATH=path, ITC_TRACE_PURE=pure).stdout, plain.stdout)
 
     @unittest.skipUnless(os.path.isdir(OTHER), "python3-dill is not there")
     def test_what_dill_takes_works_without_hooks(self) -> None:

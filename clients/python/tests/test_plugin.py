@@ -5,7 +5,6 @@ from __future__ import annotations
 import os
 import re
 import subprocess
-import sys
 import tempfile
 import unittest
 from pathlib import Path
@@ -314,6 +313,12 @@ class Kinds(unittest.TestCase):
 
     def test_each_kind_of_test_and_its_fixtures_are_traced(self) -> None:
         self.assert_all_told(18, KINDS, "--races", *WITHOUT_CACHE)
+
+    def test_a_race_in_any_kind_of_test_or_fixture_fails_the_test(self) -> None:
+        ran = suite(*WITHOUT_CACHE, test_kinds=Path(__file__).with_name("kinds_of_tests.py").read_text())
+        self.assertEqual((set(ran.verdicts.values()), len(ran.verdicts)), ({"FAILED"}, 28), ran.said)
+        self.assertEqual(ran.said.count("not traced"), 0, ran.said)
+        self.assertGreaterEqual(ran.said.count("itc_trace: race on"), 28, ran.said)
 
     def test_each_kind_is_traced_with_the_cache_and_without_assertions_rewritten(self) -> None:
         self.assert_all_told(18, KINDS, "--races", "--assert=plain")

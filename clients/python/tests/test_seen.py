@@ -4,6 +4,7 @@ from __future__ import annotations
 
 import os
 import re
+import sys
 import tempfile
 import unittest
 from pathlib import Path
@@ -97,6 +98,45 @@ for fail in (thread.join, lambda: queue.Queue().get(False), lambda: threading.Th
     except Exception:
         traceback.print_exc()
 """
+FORKING = """
+import multiprocessing, os, pty, subprocess, threading, warnings
+def show(message, category, file, line, *_):
+    print(category.__name__, os.path.basename(file), line, str(message).replace(str(os.getpid()), "N"), flush=True)
+warnings.showwarning = show
+warnings.simplefilter("always")
+def fork():
+    number = os.fork()
+    if not number:
+        os._exit(0)
+    os.waitpid(number, 0)
+def fork_all():
+    fork()
+    number, terminal = pty.fork()
+    if not number:
+        os._exit(0)
+    os.waitpid(number, 0)
+    os.close(terminal)
+    subprocess.run(["true"], preexec_fn=os.getpid)
+    process = multiprocessing.get_context("fork").Process(target=print)
+    process.start()
+    process.join()
+fork_all()
+print("several threads", flush=True)
+done = threading.Event()
+thread = threading.Thread(target=done.wait)
+thread.start()
+fork_all()
+warnings.simplefilter("error")
+fork()
+warnings.simplefilter("default")
+for _ in range(2):
+    fork()
+done.set()
+thread.join()
+print(len(warnings.filters))
+fork()
+"""
+"""Python warns of a fork beside threads since 3.12."""
 OPTIONS = (
     ("-X", "warn_default_encoding", "-W", "error"), ("-X", "no_debug_ranges"), ("-X", "int_max_str_digits=700"), ("-X", "own=a=b"),
     ("-X", "dev", "-X", "frozen_modules=off"), ("-W", "ignore::DeprecationWarning:own", "-b"), ("-O", "-X", "utf8=1", "-P"),
@@ -163,6 +203,12 @@ print(os.waitstatus_to_exitcode(os.waitpid(child, 0)[1]))
 
 class Seen(ProgramCase):
     maxDiff = None
+
+    def test_a_fork_warns_of_the_program_s_threads_alone(self) -> None:
+        program = self.program(FORKING)
+        plain, traced = run_python(program), run_traced("--watch-nothing", program)
+        self.assertEqual(traced.stdout, plain.stdout, traced.stderr)
+        self.assertEqual("multi-threaded" in plain.stdout, sys.version_info >= (3, 12), plain.stdout)
 
     def test_what_a_program_looks_at_is_as_untraced(self) -> None:
         with tempfile.TemporaryDirectory() as folder:

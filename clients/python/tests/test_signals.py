@@ -7,13 +7,14 @@ import signal
 import subprocess
 import sys
 import tempfile
+import time
 import unittest
 from pathlib import Path
 
 from itc_trace import Verdict
 from itc_trace.record.collector import find_program
 
-from .support import PACKAGE, PATIENT, WAIT, ProgramCase, run_traced
+from .support import PACKAGE, PATIENT, WAIT, ProgramCase, run_traced, wait_until
 
 SELLING = """
 import sys, threading, time, itc_trace
@@ -50,6 +51,20 @@ signal.signal(signal.SIGTERM, lambda *_: sys.exit(0))
 print("ready", flush=True)
 time.sleep(1000)
 """
+COUNTING = """
+import os, signal, sys, time
+came = []
+def count(*_):
+    came.append(1)
+    print("came", flush=True)
+signal.signal(signal.SIGTERM, count)
+signal.signal(signal.SIGUSR1, lambda *_: sys.exit(len(came)))
+print("ready", os.getpid(), sep="\\n", flush=True)
+while True:
+    time.sleep(0.01)
+"""
+PENDING = "ShdPnd:\t0000000000000000"
+"""The line of a process's status that has the signals which have not come to it yet."""
 
 
 class Started:
@@ -131,6 +146,38 @@ time.sleep(1000)
         status, errors = run.end(signal.SIGTERM)
         self.assertEqual(status, 3, errors)
         self.assertNotIn("incomplete", errors)
+
+    def counted(self, run: Started, program: int) -> int:
+        """How often a signal came to the program, once the run has looked at it."""
+        wait_until(lambda: PENDING in Path(f"/proc/{run.process.pid}/status").read_text())
+        time.sleep(2)
+        os.kill(program, signal.SIGUSR1)
+        run.process.communicate(timeout=WAIT)
+        return run.process.returncode
+
+    def counting(self) -> tuple[Started, int]:
+        run = Started(self.program(COUNTING))
+        run.wait_for("ready")
+        assert run.process.stdout is not None
+        return run, int(run.process.stdout.readline())
+
+    def test_a_signal_to_the_run_alone_comes_to_the_program_once(self) -> None:
+        run, program = self.counting()
+        run.process.terminate()
+        run.wait_for("came")
+        self.assertEqual(self.counted(run, program), 1)
+
+    def test_a_signal_to_the_whole_group_comes_to_the_program_once(self) -> None:
+        """As supervisors and terminals send it. What hands it on looks at it later than the program, which could not count two at once."""
+        run, program = self.counting()
+        for _ in range(2):
+            run.process.send_signal(signal.SIGSTOP)
+            os.killpg(run.process.pid, signal.SIGTERM)
+            run.wait_for("came")
+            run.process.send_signal(signal.SIGCONT)
+            wait_until(lambda: PENDING in Path(f"/proc/{run.process.pid}/status").read_text())
+            time.sleep(1)
+        self.assertEqual(self.counted(run, program), 2)
 
     def test_a_program_that_does_not_heed_a_signal_goes_on(self) -> None:
         run = Started(self.program(DEAF))

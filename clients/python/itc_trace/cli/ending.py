@@ -10,6 +10,8 @@ from collections.abc import Iterator
 from pathlib import Path
 from types import FrameType
 
+from .sentinel import Sentinel
+
 SIGNALS = [getattr(signal, name) for name in ("SIGTERM", "SIGHUP") if hasattr(signal, name)]
 
 _asked: list[int] = []
@@ -50,11 +52,15 @@ def name_of(number: int) -> str:
 
 
 class Child:
-    """The process of a program that is run to its end. A signal to end this process is handed on to that one, which takes its own time."""
+    """The process of a program that is run to its end. A signal to end this process is handed on to that one, which takes its own time.
+
+    One that was sent to the whole group is not: the program has it already.
+    """
 
     def __init__(self, words: list[str], environment: dict[str, str], told: str) -> None:
         self._told = Path(told)
         self._process: subprocess.Popen[bytes] | None = None
+        self._sentinel = Sentinel()
         before = {number: signal.signal(number, self._end) for number in SIGNALS if signal.getsignal(number) == _end_here}
         self._process = subprocess.Popen(words, env=environment)
         before[signal.SIGINT] = signal.signal(signal.SIGINT, signal.SIG_IGN)  # The program is told of it too, and decides.
@@ -65,6 +71,7 @@ class Child:
         finally:
             for number, handler in before.items():
                 signal.signal(number, handler)
+            self._sentinel.close()
         self.signal_name = name_of(-status) if status < 0 else ""
         self.status = status if status >= 0 else 128 - status
 
@@ -72,6 +79,10 @@ class Child:
         if frame is not None:
             _asked.append(number)
         if self._process is None:
+            return
+        if frame is not None and self._sentinel.has(number):
+            self._sentinel.close()
+            self._sentinel = Sentinel()  # For the next signal.
             return
         with contextlib.suppress(ProcessLookupError):
             os.kill(self._process.pid, number)

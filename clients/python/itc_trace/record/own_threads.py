@@ -3,6 +3,7 @@
 from __future__ import annotations
 
 import _thread
+import os
 import signal
 from collections.abc import Callable
 from typing import TypeVar
@@ -14,16 +15,37 @@ _set_mask = getattr(signal, "pthread_sigmask", None)
 """Both as they are before any program is traced."""
 _OF_ONES_OWN = {getattr(signal, name, None) for name in ("SIGSEGV", "SIGBUS", "SIGFPE", "SIGILL")}
 """What a thread does wrong comes to itself."""
+_alive: set[object] = set()
+"""Something for each of these threads that has not ended."""
+if hasattr(os, "register_at_fork"):
+    os.register_at_fork(after_in_child=_alive.clear)
+
+
+def count_of_own() -> int:
+    """How many such threads there are."""
+    return len(_alive)
 
 
 def start_thread(run: Callable[[], object]) -> None:
     """Starts a thread that blocks all signals. One that all threads of the program block stays pending, as it would untraced."""
+    counted = object()
+
+    def run_counted() -> None:
+        try:
+            run()
+        finally:
+            _alive.discard(counted)
+
+    _alive.add(counted)
     if _set_mask is None:
-        _start(run, ())
+        _start(run_counted, ())
         return
     before = _set_mask(signal.SIG_BLOCK, signal.valid_signals() - _OF_ONES_OWN)
     try:
-        _start(run, ())
+        _start(run_counted, ())
+    except BaseException:
+        _alive.discard(counted)
+        raise
     finally:
         _set_mask(signal.SIG_SETMASK, before)
 

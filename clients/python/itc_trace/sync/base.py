@@ -4,12 +4,15 @@ from __future__ import annotations
 
 import sys
 from collections.abc import Callable
-from types import BuiltinFunctionType, FunctionType
+from types import BuiltinFunctionType, CodeType, FunctionType
 from typing import Any
+from weakref import WeakValueDictionary
 
-from ..record.noting import INTERNAL
+from ..model.frames import INTERNAL
 
 _MISSING: Any = object()
+STAND_INS: WeakValueDictionary[int, CodeType] = WeakValueDictionary()
+"""The code of each function that stands in the place of another one, by its identity."""
 
 
 class Patches:
@@ -102,6 +105,9 @@ def like(original: Any, made: Any) -> Any:
     """Has a function stand for one of the library, which is found where that one is."""
     if type(original) is FunctionType and type(made) is FunctionType:
         _stand_in_file(original, made)
+    if type(made) is FunctionType:
+        STAND_INS[id(made.__code__)] = made.__code__
+        made.__globals__["__tracebackhide__"] = True  # So pytest leaves it out, too.
     if isinstance(original, BuiltinFunctionType) and type(made) is FunctionType:
         made.__name__, made.__qualname__ = original.__name__, original.__qualname__
         made.__wrapped__ = original  # type: ignore[attr-defined]

@@ -9,8 +9,9 @@ from typing import Any
 
 from ..record import following
 from ..model.lines import Line
-from ..record.noting import frame_at, is_internal
+from ..model.frames import frame_at, is_internal
 from .base import Patches
+from .fork_warnings import forked
 from .later import once_imported
 
 _own = threading.local()
@@ -52,7 +53,7 @@ def _fork(original: Any) -> Any:
         begun = following.begin(name, "fork", 2)
         following.forks(begun)
         try:
-            number = int(original())
+            number = int(forked(original))
         except BaseException:
             following.did_not_start(begun)
             raise
@@ -103,7 +104,7 @@ def _get_preparation_data(original: Any) -> Any:
         elif process is not None:
             begun = _own.begun = following.begin(_name_of(process), process._start_method or told["start_method"], 2)
             if begun is not None:
-                told["itc_trace"] = following.Beginning(begun.process)
+                told["itc_trace"] = following.beginning(begun.process)
         return told
 
     return get_preparation_data

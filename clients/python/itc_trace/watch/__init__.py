@@ -13,7 +13,7 @@ from types import CodeType
 from typing import Any
 
 from ..model.lines import Line, state
-from ..record.noting import INTERNAL
+from ..model.frames import INTERNAL
 from ..model.verdict import PassedOver, Unseen
 from ..sync.base import like
 from . import handed, hooks, leaving, passed_over, things
@@ -26,6 +26,8 @@ __all__ = ["Prepare", "begin", "code_of", "end", "program_of", "selection", "unw
 
 MAIN_OF_CHILD = "__mp_main__"
 """The name of the program's main module in a process that `multiprocessing` has started anew."""
+
+handed.begin()
 
 _finder: Finder | None = None
 _plain_line_begin: Any = None
@@ -44,6 +46,7 @@ def watch(folders: Sequence[str], packages: Sequence[str] = ()) -> None:
     _finder = Finder(Selection(folders, [name for name in packages if not _is_traced_as_a_whole(name)]))
     hooks.put(False)
     sys.meta_path.insert(0, _finder)  # type: ignore[arg-type]
+    leaving.stand_first()
     if importlib.util.spec_from_file_location is _plain_spec:
         importlib.util.spec_from_file_location = like(_plain_spec, _spec_from_file_location)
 
@@ -143,7 +146,7 @@ def selection() -> Selection | None:
 
 def unwatched() -> list[Unseen]:
     """What of the program was to be watched, and was not."""
-    return [] if _finder is None else [*UNWATCHED, *files_without_hooks(_finder.selection), *touches_lost()]
+    return [] if _finder is None else [*UNWATCHED, *files_without_hooks(_finder.selection), *touches_lost(), *leaving.unseen()]
 
 
 def not_looked_into() -> list[PassedOver]:
@@ -171,4 +174,5 @@ def end() -> None:
         Line.__init__ = _plain_line_begin  # type: ignore[method-assign]
         _plain_line_begin = None
     hooks.put(False)
+    leaving.end()
     things.let_go()

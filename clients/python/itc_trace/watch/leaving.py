@@ -14,9 +14,9 @@ from sys import _getframe
 from types import CodeType, ModuleType
 from typing import Any
 
-from ..record.noting import is_internal
+from ..model.frames import is_internal
+from ..model.verdict import MOST_LISTED, Cause, PassedOver, Unseen
 from ..sync.base import like
-from ..model.verdict import PassedOver
 from . import passed_over
 from .finder import FILES
 from .loaded import code_by_mark, mark_of
@@ -30,6 +30,8 @@ FINDERS_OF_NAMES = {"dill.detect": "nestedglobals"}
 _MOST_WITHIN = 4
 
 _plain: dict[str, dict[Any, CodeType]] = {}
+_left: dict[str, None] = {}
+"""What has left without hooks since tracing began, and where it is defined."""
 _begun: list[str] = []
 
 
@@ -41,7 +43,22 @@ def plain_of(code: CodeType) -> CodeType:
     if made is not code:
         place = f"{os.path.basename(code.co_filename)}:{code.co_firstlineno}"
         passed_over.found[PassedOver(f"{code.co_name} where it runs by value", place)] = None
+        _left[f"{code.co_name} at {place}"] = None
     return made
+
+
+def unseen() -> list[Unseen]:
+    """What has left may have run elsewhere, and nobody knows what it touched there."""
+    if not _left:
+        return []
+    names = [*_left]
+    more = f" and {len(names) - MOST_LISTED} more" if len(names) > MOST_LISTED else ""
+    return [Unseen(Cause.CHILD, f"what left by value was not traced where it runs: {', '.join(names[:MOST_LISTED])}{more}")]
+
+
+def end() -> None:
+    """What has left so far is no matter of what is traced next."""
+    _left.clear()
 
 
 def _has_hooks(code: CodeType) -> bool:
@@ -72,6 +89,12 @@ def begin() -> None:
     for found in list(sys.modules.values()):
         if type(found) is ModuleType and _is_pickler(found.__name__):
             _have_plain_sent(found)
+
+
+def stand_first() -> None:
+    """Such a module is looked after whoever else finds it: it may be watched itself."""
+    if _finder in sys.meta_path:
+        sys.meta_path.remove(_finder)
     sys.meta_path.insert(0, _finder)
 
 

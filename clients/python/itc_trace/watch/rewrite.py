@@ -23,7 +23,7 @@ from .learned import Learned
 from .nodes import at, compiled
 from .places import DELETED, MADE_HERE, OF_BASE
 from .placing import placed
-from .scopes import CLASS, COMPREHENSION, DELEGATING, FUNCTION, MODULE, Scope, Scopes
+from .scopes import CLASS, COMPREHENSION, DELEGATING, FUNCTION, MODULE, Scope, Scopes, fields_of
 from .templates import field_paths
 
 PREFIX = "_itc_"
@@ -137,6 +137,8 @@ def _makes(node: ast.AST) -> bool:
 def _pairs_of(node: ast.Assign) -> list[tuple[Any, Any]]:
     """The targets and the values of an assignment of several at once, as `a, b = [], {}`. None of another one."""
     target, value = node.targets[0], node.value
+    if type(value) is not ast.Tuple:
+        return []
     is_paired = isinstance(target, (ast.Tuple, ast.List)) and isinstance(value, ast.Tuple) and len(target.elts) == len(value.elts)
     pairs = [*zip(target.elts, value.elts)] if is_paired else []  # type: ignore[attr-defined]
     return [] if any(isinstance(one, ast.Starred) for pair in pairs for one in pair) else pairs
@@ -151,6 +153,8 @@ class Rewriter:
         self._file = file
         self._scope: Scope = scopes.module
         self._hooks = 0
+        self._wanted = 0
+        """So many hooks want the object whose method is called, and do not have it yet."""
         self._is_guarding = False
         self._before: list[ast.stmt] = []
         self._after: list[ast.stmt] = []
@@ -238,14 +242,20 @@ class Rewriter:
         return f"_{owner.lstrip('_')}{name}"
 
     def _is_shared(self, name: str) -> bool:
-        return self._scopes.may_be_shared(self._scope, name)
+        known = self._scope.shared.get(name)
+        if known is None:
+            known = self._scope.shared[name] = self._scopes.may_be_shared(self._scope, name)
+        return known
 
     def _is_local(self, node: Any) -> bool:
         """Whether it is a variable that only its own function can see."""
-        if not isinstance(node, ast.Name):
+        if type(node) is not ast.Name:
             return False
-        owner = self._scope.owner(node.id)
-        return owner.kind in (FUNCTION, COMPREHENSION) and node.id not in owner.captured
+        known = self._scope.local.get(node.id)
+        if known is None:
+            owner = self._scope.owner(node.id)
+            known = self._scope.local[node.id] = owner.kind in (FUNCTION, COMPREHENSION) and node.id not in owner.captured
+        return known
 
     def _is_simple(self, node: Any) -> bool:
         """Whether it may be looked at twice, and gives the same without any code of the program."""
@@ -255,20 +265,29 @@ class Rewriter:
 
     def _import_of(self, node: Any) -> str | None:
         """The dotted name of what is imported and not bound to anything else."""
-        if isinstance(node, ast.Attribute):
+        kind = type(node)
+        if kind is ast.Attribute:
             base = self._import_of(node.value)
             return None if base is None else f"{base}.{node.attr}"
-        if isinstance(node, ast.Name):
+        if kind is ast.Name:
             owner = self._scope.owner(node.id)
-            return owner.imported.get(node.id) if owner.bound[node.id] == 1 else None
+            dotted = owner.imported.get(node.id)
+            return dotted if dotted is not None and owner.bound[node.id] == 1 else None
         return None
 
     def _is_foreign(self, node: Any) -> bool:
         """Whether it is of a module that is not watched, or of the language."""
-        if isinstance(node, ast.Constant) or isinstance(node, ast.Call) and isinstance(node.func, ast.Name) and node.func.id == "super":
-            return True
-        if isinstance(node, ast.Name) and self._is_builtin(node.id):
-            return True
+        kind = type(node)
+        if kind is ast.Name:
+            known = self._scope.foreign.get(node.id)
+            if known is None:
+                known = self._scope.foreign[node.id] = self._is_builtin(node.id) or self._is_of_foreign_module(node)
+            return known
+        if kind is ast.Attribute:
+            return self._is_of_foreign_module(node)
+        return kind is ast.Constant or kind is ast.Call and type(node.func) is ast.Name and node.func.id == "super"
+
+    def _is_of_foreign_module(self, node: Any) -> bool:
         name = self._import_of(node)
         return name is not None and not name.startswith(".") and not self._learned.is_watched(name)
 
@@ -279,8 +298,12 @@ class Rewriter:
         return not isinstance(node, ast.Attribute) and self._import_of(node) not in OF_SYSTEM
 
     def _is_builtin(self, name: str) -> bool:
-        owner = self._scope.owner(name)
-        return owner.kind == MODULE and not owner.bound[name] and self._learned.is_builtin(name)
+        known = self._scope.builtin.get(name)
+        if known is None:
+            owner = self._scope.owner(name)
+            is_free = owner.kind == MODULE and not owner.bound[name]
+            known = self._scope.builtin[name] = is_free and self._learned.is_builtin(name)
+        return known
 
     def _text(self, node: Any) -> str:
         """How a person would write it, in short. `self` is known by its class."""
@@ -311,7 +334,10 @@ class Rewriter:
         return self._hook("c", node, ast.copy_location(looked, node), site)
 
     def _bindings(self, target: Any) -> Iterator[ast.Name]:
-        for one in [target] if isinstance(target, ast.Name) else ast.walk(target):
+        kind = type(target)
+        if kind is ast.Attribute and type(target.value) is ast.Name:
+            return
+        for one in [target] if kind is ast.Name else ast.walk(target):
             if isinstance(one, ast.Name) and not isinstance(one.ctx, ast.Load) and self._is_shared(one.id):
                 yield one
 
@@ -337,27 +363,31 @@ class Rewriter:
         return [made for one in body for made in self._statement(one)]
 
     def _statement(self, node: Any) -> list[ast.stmt]:
-        if isinstance(node, (ast.Import, ast.ImportFrom)):
-            passed_over.look_at_import(node, self._learned)
-            if isinstance(node, ast.ImportFrom) and node.module == "__future__":
-                return [node]  # No other statement may stand before the next one of these.
-            return [node, *self._stored([one.asname or one.name.partition(".")[0] for one in node.names], node)]
-        compound = getattr(self, "_do_" + type(node).__name__, None)
+        kind = type(node)
+        compound = _COMPOUND.get(kind)
         if compound is not None:
-            return compound(node)  # type: ignore[no-any-return]
-        if not isinstance(node, (ast.Expr, ast.Assign, ast.AugAssign, ast.AnnAssign, ast.Return, ast.Delete, ast.Raise, ast.Assert)):
+            return compound(self, node)
+        simple = _SIMPLE.get(kind)
+        if simple is None:
             return [node]
         before_hooks, self._before, self._after = self._hooks, [], []
         is_twice = not node.is_scoped and not isinstance(node, ast.AnnAssign) and not _makes(node)
         self._is_guarding = not is_twice
-        simple = getattr(self, "_simple_" + type(node).__name__, self._generic)
-        made = simple(node)
+        made = simple(self, node)
         self._is_guarding = False
         if self._hooks == before_hooks:
             return [made]
         if is_twice:
             return [at(node, ast.If(self._is_on(node), [*self._before, made, *self._after], [node.twin]))]
         return [*self._only_on(self._before, node), made, *self._only_on(self._after, node)]
+
+    def _do_Import(self, node: Any) -> list[ast.stmt]:
+        passed_over.look_at_import(node, self._learned)
+        if isinstance(node, ast.ImportFrom) and node.module == "__future__":
+            return [node]  # No other statement may stand before the next one of these.
+        return [node, *self._stored([one.asname or one.name.partition(".")[0] for one in node.names], node)]
+
+    _do_ImportFrom = _do_Import
 
     def _simple_Assign(self, node: ast.Assign) -> ast.stmt:
         pairs = _pairs_of(node)
@@ -620,17 +650,19 @@ class Rewriter:
     # Expressions
 
     def _visit(self, node: Any) -> Any:
-        visit = getattr(self, "_visit_" + type(node).__name__, None)
-        return self._generic(node) if visit is None else visit(node)
+        kind = type(node)
+        visit = _VISITS.get(kind)
+        if visit is None:
+            visit = _VISITS[kind] = getattr(Rewriter, f"_visit_{kind.__name__}", Rewriter._generic)
+        return visit(self, node)
 
     def _generic(self, node: Any) -> Any:
-        for name, one in ast.iter_fields(node):
-            if isinstance(one, list):
-                setattr(node, name, [self._child(child) if isinstance(child, ast.expr) else self._inner(child) for child in one])
-            elif isinstance(one, ast.expr):
+        for name in fields_of(type(node)):
+            one = getattr(node, name, None)
+            if isinstance(one, ast.expr):
                 setattr(node, name, self._child(one))
-            else:
-                self._inner(one)
+            elif one and type(one) is list:
+                setattr(node, name, [self._child(child) if isinstance(child, ast.expr) else self._inner(child) for child in one])
         return node
 
     def _inner(self, node: Any) -> Any:
@@ -650,7 +682,7 @@ class Rewriter:
             node.value = self._child(node.value)
 
     def _visit_Name(self, node: ast.Name) -> ast.expr:
-        if not isinstance(node.ctx, ast.Load) or not self._is_shared(node.id):
+        if type(node.ctx) is not ast.Load or not self._is_shared(node.id):
             return node
         return ast.copy_location(ast.BoolOp(ast.Or(), [self._variable(node, node.id, "r"), node]), node)
 
@@ -931,7 +963,7 @@ class Rewriter:
             me = owner.twin  # type: ignore[attr-defined]
         else:
             func.value = self._child(owner)
-            me = on_stack.wanted(node)
+            me = self._owner_wanted(node)
         node.args[0] = self._hook("I", given[0], node.args[0], me, site)
 
     def _is_super_of_any(self, node: Any) -> bool:
@@ -1020,23 +1052,31 @@ class Rewriter:
         site = self._site(node, "given", kinds, func.attr, self._text(node), OF_KEYS if kinds == KEYS or func.attr == "update" else None)
         if isinstance(owner, ast.Name):
             return self._hook("x", node, self._child(node), owner.twin, site)  # type: ignore[attr-defined]
-        return self._hook("x", node, self._child(node), on_stack.wanted(node), site)
+        return self._hook("x", node, self._child(node), self._owner_wanted(node), site)
+
+    def _owner_wanted(self, node: ast.AST) -> ast.expr:
+        self._wanted += 1
+        return on_stack.wanted(node)
 
     def _with_owner(self, node: ast.Call, func: ast.Attribute) -> ast.expr:
         """The call. If hooks of what it is given want the object whose method it is, a hook around it keeps that on the stack."""
+        if not self._wanted:
+            return node
         given: list[Any] = [*node.args, *(keyword.value for keyword in node.keywords)]
         wanting = [(place, one, on_stack.place_of_wanted(one)) for place, one in enumerate(given)]
-        if all(at is None for _, _, at in wanting):
+        count = sum(at is not None for _, _, at in wanting)
+        if not count:
             return node
+        self._wanted -= count
         if _is_hook(node.func):
             node.func.args[-1] = func  # type: ignore[attr-defined]
         else:
             node.func = func
         function = self._form_of_function(node.func)
-        forms = {place: on_stack.form_of_call(node, function, place) for place, _, at in wanting if at is not None}
-        for place, hook, at in wanting:
-            if at is not None:
-                hook.args[at] = on_stack.copy(forms[place], hook.args[at])
+        forms = {place: on_stack.form_of_call(node, function, place) for place, _, word in wanting if word is not None}
+        for place, hook, word in wanting:
+            if word is not None:
+                hook.args[word] = on_stack.copy(forms[place], hook.args[word])
         return self._hook("S", node, self._owner_taken(node, func, function), node)
 
     @staticmethod
@@ -1121,7 +1161,7 @@ class Rewriter:
             node.args = [self._key_of(owner, first, site), *rest]
         else:
             func.value = self._child(owner)
-            node.args = [self._hook("K_local", first, on_stack.wanted(first), self._child(first), site), *rest]
+            node.args = [self._hook("K_local", first, self._owner_wanted(first), self._child(first), site), *rest]
 
     def _call_late(self, node: ast.Call, func: ast.Attribute, site: int) -> None:
         """A method whose argument takes its time: the touch comes behind it."""
@@ -1134,7 +1174,7 @@ class Rewriter:
         else:
             func.value = self._child(owner)
             made = self._whole(last, CONSUMING[func.attr]) if func.attr in CONSUMING else self._child(last)
-            node.args = [*rest, self._hook("l_local", last, made, on_stack.wanted(last), site)]
+            node.args = [*rest, self._hook("l_local", last, made, self._owner_wanted(last), site)]
 
     def _visit_Compare(self, node: ast.Compare) -> ast.expr:
         if len(node.ops) != 1 or not isinstance(node.ops[0], (ast.In, ast.NotIn)):
@@ -1269,6 +1309,19 @@ class Rewriter:
         text = self._text(node)
         site = self._site(node, "whole", ITERATION, "", text and f"{text}[..]")
         return self._guarded(node, lambda one: self._hook("u", one, self._iteration(one), paths, site))
+
+
+_SIMPLE: dict[type, Callable[[Rewriter, Any], Any]] = {
+    kind: getattr(Rewriter, f"_simple_{kind.__name__}", Rewriter._generic)
+    for kind in (ast.Expr, ast.Assign, ast.AugAssign, ast.AnnAssign, ast.Return, ast.Delete, ast.Raise, ast.Assert)
+}
+"""What is done to simple statements."""
+_COMPOUND: dict[type, Callable[[Rewriter, Any], list[ast.stmt]]] = {
+    getattr(ast, name.removeprefix("_do_")): work for name, work in vars(Rewriter).items() if name.startswith("_do_")
+}
+"""What is done to compound ones, and to imports."""
+_VISITS: dict[type, Callable[[Rewriter, Any], Any]] = {}
+"""What is done to expressions, as far as it was asked for."""
 
 
 def _taken_apart(target: Any, path: tuple[int, ...]) -> Iterator[tuple[int, ...]]:

@@ -57,6 +57,11 @@ class Scope:
         """Whether another task may be there already, where the source is looked at now."""
         self.calls_and_bindings: list[tuple[bool, str]] = []
         """What follows the first call of a function that may start a task: each such call, and each name that is bound once."""
+        self.shared: dict[str, bool] = {}
+        self.local: dict[str, bool] = {}
+        self.foreign: dict[str, bool] = {}
+        self.builtin: dict[str, bool] = {}
+        """What is known of names there: each is asked for once."""
         self._owners: dict[str, Scope] | None = None
         """What was found for names, once no scope gets another one."""
 
@@ -164,7 +169,8 @@ class Scopes:
     def _walk(self, node: Any, twin: Any) -> int:
         """Looks at a node and all that is inside. Gives what it has."""
         node.twin = twin
-        inside = _visit_of(type(node))(self, node, twin)
+        kind = type(node)
+        inside = (_VISITS.get(kind) or _visit_of(kind))(self, node, twin)
         node.is_scoped = inside & SCOPED != 0
         node.is_late = inside & LATE != 0
         return inside
@@ -179,7 +185,7 @@ class Scopes:
     def _walk_inside(self, node: Any, twin: Any) -> int:
         """Looks at all that is inside of a node."""
         inside = 0
-        for name in _fields_of(type(node)):
+        for name in fields_of(type(node)):
             one = getattr(node, name, None)
             if type(one) is list:
                 for child, other in zip(one, getattr(twin, name)):
@@ -441,7 +447,7 @@ def _visit_of(kind: type) -> Visit:
     return visit
 
 
-def _fields_of(kind: type) -> tuple[str, ...]:
+def fields_of(kind: type) -> tuple[str, ...]:
     """The fields of a node that may have other nodes."""
     names = _FIELDS.get(kind)
     if names is None:
@@ -452,7 +458,7 @@ def _fields_of(kind: type) -> tuple[str, ...]:
 def pair(node: Any, twin: Any) -> int:
     """Gives each node the same one of an untouched tree, with no look at scopes: those of annotations are others."""
     inside = 0
-    for name in _fields_of(type(node)):
+    for name in fields_of(type(node)):
         one = getattr(node, name, None)
         if isinstance(one, list):
             for child, other in zip(one, getattr(twin, name)):
