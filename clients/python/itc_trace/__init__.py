@@ -4,7 +4,10 @@
 queues, pools and asyncio do; `shared` and `touch` say what is shared; `races` finds what nothing orders.
 """
 
-from . import own_path  # Before anything else is imported.
+from . import own_path
+
+own_path.look_into_library_first()
+
 from .processes.children import watch_as_child
 from .record.collector import Collector, NoCollector
 from .record.noting import touch

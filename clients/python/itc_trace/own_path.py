@@ -12,8 +12,11 @@ _KNOWN_BEFORE = frozenset(sys.modules)
 _KEPT = frozenset(("itc_trace", "threading"))
 """The interpreter ends by what it finds as `threading`."""
 
-if sys.argv[:1] == ["-m"] and sys.path[:1] in ([""], [os.getcwd()]):
-    sys.path[0] = os.path.dirname(os.__file__)
+
+def look_into_library_first() -> None:
+    """Before the package imports anything else."""
+    if sys.argv[:1] == ["-m"] and sys.path[:1] in ([""], [os.getcwd()]):
+        sys.path[0] = os.path.dirname(os.__file__)
 
 
 def leave_to_program(folder: str) -> None:

@@ -74,7 +74,7 @@ class SmallParts(Parts):
         self.tracer: Any = None
 
     def _next_port(self) -> int:
-        port, self.tracer._tenant = fresh_tenant()
+        port, self.tracer.connection.tenant = fresh_tenant()
         return port
 
     def divide(self, may_be_asked_for: Callable[[Line], bool]) -> Border:

@@ -15,11 +15,11 @@ from typing import Any
 
 import itc_trace
 from itc_trace import Verdict
-from itc_trace.api.web import HEADER
+from itc_trace.record.messages import HEADER
 
 from .support import WAIT, ProgramCase, TracedCase, in_turn, kept_port, run_python, run_system, run_traced
 
-PATIENTLY = f"itc_trace.api.web.ANSWER_WAIT = {WAIT}"
+PATIENTLY = f"itc_trace.record.messages.ANSWER_WAIT = {WAIT}"
 """A request of a busy machine is not sent without its message."""
 SERVER = f"""
 import http.server, itc_trace, sys, threading; {PATIENTLY}

@@ -183,7 +183,7 @@ for _ in range(1500):
         rows[:] = [Row()]
         rows[0].count
     time.sleep(0.001)
-print(len(lines.state.tracer._touch_rows._alone))
+print(len(lines.state.tracer._touches.rows._alone))
 done.release()
 thread.join()
 """

@@ -4,7 +4,6 @@ from __future__ import annotations
 
 import _thread
 import asyncio
-import atexit
 import contextvars
 import functools
 import importlib
@@ -21,7 +20,7 @@ import time
 import traceback
 import unittest
 from collections.abc import Awaitable, Callable
-from concurrent.futures import Future, ProcessPoolExecutor, ThreadPoolExecutor
+from concurrent.futures import Future, ProcessPoolExecutor
 from pathlib import Path
 from typing import Any
 

@@ -12,8 +12,8 @@ from itc_trace import Collector, Verdict
 from .support import WAIT, ProgramCase, run_traced
 
 STOPPED = """
-import glob, http.client, itc_trace, itc_trace.api.web, os, signal, sys, time
-itc_trace.api.web.ANSWER_WAIT = 0.2
+import glob, http.client, itc_trace, itc_trace.record.messages, os, signal, sys, time
+itc_trace.record.messages.ANSWER_WAIT = 0.2
 collector, port = map(int, sys.argv[1:])
 
 def is_stopped():
@@ -42,17 +42,17 @@ finally:
     os.killpg(collector, signal.SIGCONT)
 """
 GONE = f"""
-import itc_trace, itc_trace.api.web
+import itc_trace, itc_trace.record.messages
 from itc_trace.model.lines import state
 from itc_trace.model.verdict import Cause
-itc_trace.api.web.ANSWER_WAIT = {2 * WAIT}.0
-tracer, place = state.tracer, itc_trace.api.web.place
+itc_trace.record.messages.ANSWER_WAIT = {2 * WAIT}.0
+tracer, place = state.tracer, itc_trace.record.messages.place
 
 def place_behind_the_end(frame):
     tracer._give_up(Cause.COLLECTOR, "the collector is gone")
     return place(frame)
 
-itc_trace.api.web.place = place_behind_the_end
+itc_trace.record.messages.place = place_behind_the_end
 print(itc_trace.outgoing())
 """
 

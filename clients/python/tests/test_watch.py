@@ -20,13 +20,13 @@ import traceback
 import types
 import unittest
 import weakref
-from collections.abc import Callable, Iterator
+from collections.abc import Iterator
 from pathlib import Path
 from typing import Any
 from unittest import mock
 
 from itc_trace import tracing
-from itc_trace.model.stretches import STRETCHES, Stretch
+from itc_trace.model.stretches import STRETCHES
 from itc_trace.watch import hooks, late, stored, things
 from itc_trace.watch.rewrite import rewritten
 from itc_trace.watch.scopes import Scopes

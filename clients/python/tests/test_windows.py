@@ -395,7 +395,6 @@ class Threads(TracedCase):
                     write()
                     condition.notify()
 
-            lock: Any = condition._lock  # type: ignore[attr-defined]
             restore = condition._acquire_restore  # type: ignore[attr-defined]
 
             def acquire_restore(saved: Any) -> None:
@@ -444,7 +443,7 @@ class Ends(TracedCase):
             touch("page", write=True)
             tracer = state.tracer
             assert tracer is not None
-            tracer._outstanding = Emptied([None])
+            tracer._reports.outstanding = Emptied([None])
             tracer._give_up(Cause.TRACER, "a test")
 
         self.assertTrue(self.unseen(scenario))

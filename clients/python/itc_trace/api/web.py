@@ -2,26 +2,17 @@
 
 from __future__ import annotations
 
-import re
 import sys
 import urllib.request
 from collections.abc import Callable, Iterable
 from http.client import HTTPResponse
-from types import CodeType, FrameType
 from typing import Any
 
-from ..model.file_names import name_of_file
-from ..record.journal import line_of
-from ..model.lines import RECV, SEND, state
-from ..record.noting import current, place
-from ..record.tracer import ANSWER_WAIT, Tracer, Waiter
-from ..model.verdict import Cause, Unseen
+from ..record.messages import HEADER, Sending, incoming_at
 
-HEADER = "Itc-Trace"
 VARIABLE = "HTTP_ITC_TRACE"
 ASGI_HEADER = HEADER.lower().encode()
 STARTS_OF_RESPONSES = ("http.response.start", "websocket.accept")
-NAME = re.compile(r"[A-Za-z0-9_]{1,24}")
 
 
 def outgoing() -> str | None:
@@ -33,47 +24,9 @@ def outgoing() -> str | None:
     return None if sending is None else sending.name()
 
 
-class Sending:
-    """A message that is on its way to the collector. Its name is handed on once the collector has it."""
-
-    def __init__(self, message: str, waiter: Waiter, tracer: Tracer, where: tuple[CodeType | None, int]) -> None:
-        self._message = message
-        self._waiter = waiter
-        self._tracer = tracer
-        self._where = where
-
-    @staticmethod
-    def begin(frame: FrameType | None) -> Sending | None:
-        """Sends a message from here. None where tracing is off."""
-        note, tracer = state.note, state.tracer
-        if note is None or tracer is None:
-            return None
-        message, waiter, where = tracer.fresh_message(), Waiter(), place(frame)
-        note((SEND, current(), message, waiter, *where))
-        tracer.look_after(waiter)
-        return Sending(message, waiter, tracer, where)
-
-    def name(self) -> str | None:
-        """It waits for the collector. None if that does not answer: then nobody comes after the message, and that is told."""
-        if self._waiter.wait(ANSWER_WAIT):
-            return self._message
-        self._tracer.miss(Unseen(Cause.COLLECTOR, f"{self._words()} was not followed: the collector did not answer within {ANSWER_WAIT:g} s"))
-        return None
-
-    def _words(self) -> str:
-        code, instruction = self._where
-        return "a message" if code is None else f"the message of {name_of_file(code.co_filename)}:{line_of(code, instruction)}"
-
-
 def incoming(message: str | None) -> None:
     """From now on the current task comes after the place where this message was sent. What is no message is passed over."""
     incoming_at(message, sys._getframe(1))
-
-
-def incoming_at(message: str | None, frame: FrameType | None) -> None:
-    note = state.note
-    if note is not None and message is not None and NAME.fullmatch(message):
-        note((RECV, current(), message, *place(frame)))
 
 
 class Opener(urllib.request.BaseHandler):

@@ -23,7 +23,7 @@ from typing import IO, Any
 from ..analyse.benign import Looking
 from ..record.collector import HOST, Collector
 from .ending import name_of
-from ..record.environment import OWN_TENANT, Reporting
+from ..record.environment import Reporting
 from ..record.faults import Fault
 from ..record.journal import NoJournal, read_whole
 from .launch import REFUSED

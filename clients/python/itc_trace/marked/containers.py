@@ -8,7 +8,6 @@ from __future__ import annotations
 
 import operator
 import sys
-import types
 from _thread import get_ident
 from collections import Counter, OrderedDict, defaultdict, deque
 from collections.abc import Callable, ItemsView, Iterator, KeysView, ValuesView
@@ -16,7 +15,8 @@ from typing import Any
 
 from ..model.conflicts import READ, WRITE
 from ..model.lines import state
-from ..record.noting import frame_at, is_internal, place_of, touch_at
+from ..record.noting import touch_at
+from ..model.frames import frame_at, is_internal, place_of
 from ..model.stretches import STRETCHES
 
 READS = frozenset(

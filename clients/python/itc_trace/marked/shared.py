@@ -10,7 +10,8 @@ from typing import Any, TypeVar, cast
 from ..model.conflicts import MAKING
 from .containers import is_noted_by_type, noted
 from ..model.lines import state
-from ..record.noting import frame_at, place_of, touch_at
+from ..record.noting import touch_at
+from ..model.frames import frame_at, place_of
 from .stand_ins import stand_in
 from ..model.stretches import Across
 
@@ -39,7 +40,7 @@ def shared(value: T, name: str, across: bool = False) -> T:
     Use what it returns in place of the value. Where tracing is off it is the value itself. So is a number, a text or a tuple
     while a program is traced: a warning says so.
     """
-    if state.note is None and state.witness is None and not _patched():
+    if state.note is None and state.witness is None and not state.is_patched:
         return value
     if isinstance(value, NEVER_WRAPPED):
         _warn_of_unwatched(value, name)
@@ -61,8 +62,3 @@ def _warn_of_unwatched(value: object, name: str) -> None:
         f"call touch({name!r}) where it is read, and touch({name!r}, write=True) where it is replaced",
         stacklevel=3,
     )
-
-
-def _patched() -> bool:
-    from .. import sync
-    return sync._patches is not None

@@ -7,16 +7,13 @@ from __future__ import annotations
 
 import itertools
 import weakref
-from collections.abc import Callable
+from collections.abc import Callable, Hashable, Iterable
+from itertools import islice
 from types import CodeType
-from typing import TYPE_CHECKING, Any
+from typing import Any, NamedTuple, Protocol
 
-if TYPE_CHECKING:
-    from .lock_identity import LockIdentity, Signal
-    from .loop_runs import LoopRun
-    from .stretches import Stretch
-    from ..record.touch_rows import TouchEvent
-    from ..record.tracer import Tracer
+from .lock_identity import LockIdentity, Signal
+from .verdict import Unseen
 
 MARK, TAKE, TAKE_END, SPAWN, FINISH, JOIN, TOUCH, LATE, GONE, SEND, RECV, STOP, CHILD, LEAVE_LOOP = range(14)
 
@@ -60,6 +57,49 @@ WORKER = What("ready", "initialise worker", "run in worker")
 OUTSIDE = What("out", "send to another process", "receive from another process")
 
 
+class Waiting(Protocol):
+    """A thread of the program that waits for an answer of the collector."""
+
+    def answer(self, is_answered: bool) -> None: ...
+
+
+class Reporter(Protocol):
+    """Whoever takes notes and reports them, as the program's own threads know it."""
+
+    main: Line
+    parent_of_strangers: Line
+    """Whose child a task is that nobody is seen to start."""
+    prefix: str
+    """So begin the names of this process."""
+    port: int
+    next_job: Callable[[], int]
+    """Gives each job of a pool a number of its own."""
+    most_lines: int
+
+    @property
+    def part(self) -> int:
+        """The number of the part that is reported now. It is 0 if the run is not divided."""
+
+    def fresh_message(self) -> str: ...
+
+    def look_after(self, waiter: Waiting) -> None:
+        """Has the note with this waiter reported at once. If nothing is reported any more, nobody waits."""
+
+    def miss(self, unseen: Unseen) -> None:
+        """Tells of something that is not seen of the run, while tracing goes on."""
+
+    def fail(self, fault: Exception) -> None:
+        """A hook in the program's own thread failed."""
+
+
+class Gathering(Protocol):
+    """A run of a loop, and the tasks that took a step in it."""
+
+    lines: set[Line]
+    keeper: Line | None
+    """It knows the ends of those that nobody has waited for, from earlier parts of the run."""
+
+
 class Line:
     """The events of one task, in their order. All but the first eleven fields belong to the thread that reports.
 
@@ -73,7 +113,7 @@ class Line:
         "is_forgotten", "is_process",
     )
 
-    def __init__(self, tracer: Tracer | None, hint: str) -> None:
+    def __init__(self, tracer: Reporter | None, hint: str) -> None:
         self.number = next(_numbers)
         self.tracer = tracer
         self.hint = hint
@@ -82,7 +122,7 @@ class Line:
         self.must_finish = False
         self.job: LateJob | None = None
         """The pool's job that is done in it, if there are too many jobs for each to be a task of its own."""
-        self.loop_run: LoopRun | None = None
+        self.loop_run: Gathering | None = None
         """The run of a loop in which a task of asyncio took its last step."""
         self.held: tuple[LockIdentity, ...] = ()
         self.lent: tuple[LockIdentity, ...] = ()
@@ -163,6 +203,80 @@ class Token:
         """When it was noted, in seconds since 1970, once the note is looked at."""
 
 
+Touched = tuple[Any, str, Any]
+"""A thing, which is a text if the program has named it; the kind of the touch; and a site, or where a marked touch stands."""
+
+
+class Stretch(dict[Hashable, Touched]):
+    """The touches of a task between two synchronizations, by any key that is the same for the same touch."""
+
+    __slots__ = ("line", "held", "loop", "turn", "thread", "read", "events")
+
+    def __init__(self, line: Line | LateJob, loop: int, turn: int, thread: int) -> None:
+        self.line = line
+        self.held = line.held
+        self.loop = loop
+        self.turn = turn
+        self.thread = thread
+        self.read = 0
+        self.events: tuple[TouchEvent, ...] = ()
+        """Those that stand for it, for the thread that reports."""
+
+
+class Touch(NamedTuple):
+    """A touch as the tracer knows it."""
+
+    thing: Any
+    kind: str
+    site: Any
+    held: tuple[LockIdentity, ...]
+    loop: int
+    turn: int
+    job: int = 0
+    """The number of a pool's job that is no task of its own."""
+
+
+class TouchEvent:
+    """An event that stands for what a task touches, up to the next event of this task."""
+
+    __slots__ = ("task", "part", "time", "event", "stretches", "touches", "looked_at", "has_row", "is_open", "is_waiting")
+
+    def __init__(self, task: str, part: int = 1, time: float = 0.0) -> None:
+        self.task = task
+        self.part = part
+        self.time = time
+        self.event = 0
+        """Its number, once the collector has answered."""
+        self.stretches: list[Stretch] = []
+        self.touches: dict[Hashable, Touch] = {}
+        self.looked_at = 0
+        self.has_row = False
+        self.is_open = True
+        self.is_waiting = False
+        """Whether it waits for its rows to be written."""
+
+    def read_stretches(self, is_whole: bool = True) -> None:
+        """Takes over what was noted in its stretches. Of those but the last nothing more is to come.
+
+        If it need not be whole, the last one is read only once it has twice as much as before.
+        """
+        for stretch in self.stretches:
+            if not is_whole and len(stretch) < 2 * stretch.read:
+                continue
+            read = stretch.copy()  # A copy is made at once. The program may add more while it is gone through.
+            self.add(stretch, islice(read.items(), stretch.read, None))
+            stretch.read = len(read)
+        del self.stretches[:-1]
+
+    def add(self, stretch: Stretch, touches: Iterable[tuple[Hashable, Touched]]) -> None:
+        """Takes over what was touched in one of its stretches."""
+        held, loop, turn = stretch.held, stretch.loop, stretch.turn
+        job = stretch.line.number if isinstance(stretch.line, LateJob) else 0
+        when = held, loop, turn, job
+        for key, (thing, kind, site) in touches:
+            self.touches[key, when] = Touch(thing, kind, site, held, loop, turn, job)
+
+
 class Section:
     """What a task did with a lock held, and the token of its release.
 
@@ -184,13 +298,15 @@ class State:
     `witness` is told of touches in a child process that is not traced, by thing and site.
     """
 
-    __slots__ = ("note", "tracer", "witness", "lines")
+    __slots__ = ("note", "tracer", "witness", "lines", "is_patched")
 
     def __init__(self) -> None:
         self.note: Callable[[Note], object] | None = None
         self.witness: Callable[[Any, Any], object] | None = None
-        self.tracer: Tracer | None = None
+        self.tracer: Reporter | None = None
         self.lines = 0
+        self.is_patched = False
+        """Whether the methods of the library are those that are traced."""
 
 
 state = State()

@@ -7,8 +7,7 @@ import itertools
 from types import CodeType, FrameType
 
 from .file_names import name_of_file
-from ..record.journal import line_of
-from ..record.noting import is_internal
+from .frames import is_internal, line_of
 
 _VARIABLES = ("NAME", "GLOBAL", "FAST", "DEREF")
 _STORES = {f"STORE_{one}" for one in _VARIABLES}

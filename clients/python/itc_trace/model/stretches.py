@@ -8,12 +8,10 @@ from __future__ import annotations
 
 from _thread import get_ident
 from bisect import bisect_right
-from collections.abc import Callable, Hashable, Sequence
-from typing import TYPE_CHECKING, Any, NamedTuple
+from collections.abc import Callable, Sequence
+from typing import NamedTuple
 
-if TYPE_CHECKING:
-    from .lines import LateJob, Line
-    from ..record.touch_rows import TouchEvent
+from .lines import Stretch
 
 
 class Site(NamedTuple):
@@ -60,26 +58,6 @@ class Across(str):
     """The name of a thing that several processes share. Any other name is of a thing of its own process."""
 
     __slots__ = ()
-
-
-Touched = tuple[Any, str, Any]
-"""A thing, which is a text if the program has named it; the kind of the touch; and a site, or where a marked touch stands."""
-
-
-class Stretch(dict[Hashable, Touched]):
-    """The touches of a task between two synchronizations, by any key that is the same for the same touch."""
-
-    __slots__ = ("line", "held", "loop", "turn", "thread", "read", "events")
-
-    def __init__(self, line: Line | LateJob, loop: int, turn: int, thread: int) -> None:
-        self.line = line
-        self.held = line.held
-        self.loop = loop
-        self.turn = turn
-        self.thread = thread
-        self.read = 0
-        self.events: tuple[TouchEvent, ...] = ()
-        """Those that stand for it, for the thread that reports."""
 
 
 STRETCHES: dict[int, Stretch] = {}

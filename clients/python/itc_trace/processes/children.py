@@ -11,7 +11,7 @@ from ..record import own_files, plain
 from .. import watch
 from ..model.file_names import name_of_file
 from ..record.following import not_traced, place_of_start
-from ..record.journal import line_of
+from ..model.frames import line_of
 from ..record.journal_file import JournalFile
 from ..model.lines import state
 from ..sync.base import like

@@ -13,17 +13,15 @@ import threading
 from collections.abc import Callable, Iterator
 from dataclasses import dataclass, field
 from types import FrameType
-from typing import TYPE_CHECKING, Any, NamedTuple
+from typing import Any, NamedTuple, Protocol
 
 from ..model.file_names import name_of_file
-from ..model.lines import CHILD, JOIN, Line, state
-from .noting import current, frame_at, place_of
+from ..model.lines import CHILD, JOIN, Line, Reporter, state
+from .noting import current
+from ..model.frames import frame_at, place_of
 from .shared_names import PREFIX, SharedNames
+from .waiting import Waiter
 from ..model.verdict import Cause, Unseen, child_begun_row, child_ended_row
-
-if TYPE_CHECKING:
-    from .tracer import Tracer
-    from ..api.tracing import Tracing
 
 MOST_TAG = 8
 NOWHERE = "?"
@@ -59,15 +57,43 @@ class ChildProcess(NamedTuple):
     """The file of the names that processes share."""
 
 
+class Traced(Protocol):
+    """The tracing of this process, as its children need it."""
+
+    host: str
+    tenant: str
+    journal: str
+
+    @property
+    def is_child(self) -> bool:
+        """Whether the process that is traced is the child of one that is traced, too."""
+
+    def tell(self, unseen: Unseen) -> None:
+        """Says in the journal what of the run is not seen."""
+
+    def write(self, row: str) -> None:
+        """Adds a line to the journal."""
+
+
+class Ways(NamedTuple):
+    """How processes begin to be traced, which only those know who stand above."""
+
+    begin: Callable[[ChildProcess], None]
+    """Begins to trace in a forked process that is a child."""
+    unpickled: Callable[[ChildProcess], object]
+    """Gives what begins to trace where it is unpickled: in the child, before that has imported a module of the program."""
+    program_of: Callable[[Any, str], str | None]
+    """The program or module of a watched folder that a command runs in a folder, if it runs one by Python."""
+
+
 @dataclass
 class _Following:
     """What is known in this process of its children, and of itself as one."""
 
-    traced: Tracing | None = None
+    traced: Traced | None = None
     folders: list[str] = field(default_factory=list)
     packages: list[str] | None = None
-    begin: Callable[[ChildProcess], None] | None = None
-    """Begins to trace in the process that is a child."""
+    ways: Ways | None = None
     is_unfollowed: bool = False
     """Whether the program has made what orders processes, or what they share, and is not followed."""
     has_children: bool = False
@@ -82,7 +108,7 @@ _own = threading.local()
 
 
 def follow(
-    traced: Tracing, folders: list[str], packages: list[str] | None, begin: Callable[[ChildProcess], None], names: str | None = None
+    traced: Traced, folders: list[str], packages: list[str] | None, ways: Ways, names: str | None = None
 ) -> None:
     """From here on the children of this process are traced. The names that it shares with its parent are there already."""
     global _following
@@ -91,7 +117,7 @@ def follow(
         shared.after_fork()
     elif names is not None:
         shared = SharedNames(names)
-    _following = _Following(traced, folders, packages, begin, names=shared)
+    _following = _Following(traced, folders, packages, ways, names=shared)
 
 
 def is_not_followed(what: str) -> None:
@@ -166,8 +192,6 @@ def begin(hint: str, how: str, depth: int) -> Begun | None:
 
     It returns once the collector has the start, so that nothing of the child comes before.
     """
-    from .tracer import Waiter
-
     note, tracer, traced = state.note, state.tracer, _following.traced
     if note is None or tracer is None or traced is None or not is_on():
         return None
@@ -217,7 +241,7 @@ def as_child_of(line: Line | None) -> Iterator[None]:
         _own.parent = None
 
 
-def _fresh_tag(tracer: Tracer) -> str:
+def _fresh_tag(tracer: Reporter) -> str:
     tag = f"{tracer.prefix.rstrip('_')}c{next(_following.numbers)}"
     return tag if len(tag) <= MOST_TAG else "c" + "".join(random.SystemRandom().choices(DIGITS, k=MOST_TAG - 1))
 
@@ -251,8 +275,18 @@ def forks(begun: Begun | None) -> None:
 def begin_here(process: ChildProcess) -> None:
     """In the child: from here on it is traced."""
     forks(None)
-    if _following.begin is not None:
-        _following.begin(process)
+    if _following.ways is not None:
+        _following.ways.begin(process)
+
+
+def beginning(process: ChildProcess) -> object:
+    """What begins to trace the child where it is unpickled."""
+    return None if _following.ways is None else _following.ways.unpickled(process)
+
+
+def program_of(command: Any, folder: str) -> str | None:
+    """The program or module that a command runs in a folder, if it is one that is watched."""
+    return None if _following.ways is None else _following.ways.program_of(command, folder)
 
 
 def has_ended(line: Line | None) -> None:
@@ -260,19 +294,3 @@ def has_ended(line: Line | None) -> None:
     note = state.note
     if note is not None and line is not None and line.tracer is state.tracer:
         note((JOIN, current(), line, *place_of(frame_of_start(2))))
-
-
-class Beginning:
-    """Begins to trace where it is unpickled: in the child, before that has imported a module of the program."""
-
-    def __init__(self, process: ChildProcess) -> None:
-        self._process = process
-
-    def __reduce__(self) -> Any:
-        return begin_unpickled, tuple(self._process)
-
-
-def begin_unpickled(*words: Any) -> None:
-    from ..cli import launch
-
-    launch.begin_as_child(ChildProcess(*words))

@@ -7,16 +7,16 @@ from collections.abc import Iterable, Iterator
 from dataclasses import dataclass
 from json.encoder import encode_basestring_ascii as text_of
 from types import CodeType
-from typing import TYPE_CHECKING, Any, NamedTuple
+from typing import Any, NamedTuple
 
 from ..model.conflicts import CHANGING
 from .dividing import Border
 from ..model.file_names import name_of_file
+from ..model.frames import line_of
+from ..model.lines import Touch
+from ..model.lock_identity import LockIdentity
 from ..model.stretches import SITES, Across
 from ..model.verdict import BREAKS_OFF, Cause, PassedOver, Unseen
-
-if TYPE_CHECKING:
-    from ..model.lock_identity import LockIdentity
 
 MOST_NAMED = 4096
 """So many texts of named things are kept, not to make each anew."""
@@ -261,19 +261,6 @@ class Places:
         return text
 
 
-class Touch(NamedTuple):
-    """A touch as the tracer knows it."""
-
-    thing: Any
-    kind: str
-    site: Any
-    held: tuple[LockIdentity, ...]
-    loop: int
-    turn: int
-    job: int = 0
-    """The number of a pool's job that is no task of its own."""
-
-
 class TouchTexts:
     """The rows of touches, behind the number and the task of their event. Each thing and each site is told once."""
 
@@ -345,11 +332,3 @@ def _text(code: CodeType | None, instruction: int) -> str:
     if code is None:
         return '"file":null,"line":0'
     return f'"file":{json.dumps(name_of_file(code.co_filename))},"line":{line_of(code, instruction)}'
-
-
-def line_of(code: CodeType, instruction: int) -> int:
-    """The source line of an instruction."""
-    for start, end, line in code.co_lines():
-        if start <= instruction < end and line is not None:
-            return line
-    return code.co_firstlineno

@@ -5,7 +5,7 @@ from __future__ import annotations
 from collections.abc import Hashable
 
 from ..model.conflicts import CHANGING
-from .journal import Touch
+from ..model.lines import Touch
 from ..model.lock_identity import LockIdentity
 
 MOST_THINGS = 50_000

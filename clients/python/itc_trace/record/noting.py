@@ -14,24 +14,14 @@ from types import CodeType, FrameType
 from typing import Any
 
 from ..model.conflicts import MAKING, READ, WRITE
-from ..model.lines import MARK, RESULT, SPAWN, TAKE, TOUCH, Line, Note, Section, Token, What, state
+from ..model.frames import frame_at, place, place_of
+from ..model.lines import MARK, RESULT, SPAWN, TAKE, TOUCH, Line, Note, Section, Stretch, Token, Touched, What, state
 from ..model.loop_runs import begun_here
 from ..model.verdict import Cause, Unseen
-from ..model.stretches import STRETCHES, TURNS, Across, Stretch, Touched, leave
+from ..model.stretches import STRETCHES, TURNS, Across, leave
 
 local = threading.local()
 """`line` is the thread's own line, and that of a pool's job while it runs there."""
-
-INTERNAL = frozenset({
-    "threading", "queue", "concurrent", "asyncio", "logging", "functools", "importlib", "_frozen_importlib", "atexit", "itc_trace",
-})
-"""Library modules whose own locks and queues are not traced: what they promise is traced as a whole."""
-
-INTERNAL_MODULES = frozenset(f"multiprocessing.{one}" for one in ("queues", "resource_tracker", "forkserver", "util", "heap"))
-"""Modules of a package that is not internal as a whole."""
-
-_internal_names: dict[Any, bool] = {}
-
 
 def _task_getter() -> Callable[[Any], Any]:
     if sys.version_info < (3, 12):
@@ -41,25 +31,6 @@ def _task_getter() -> Callable[[Any], Any]:
 
 
 _task_of = _task_getter()
-
-
-def frame_at(depth: int) -> FrameType | None:
-    """The frame so many calls above the caller. None, where the interpreter itself has called, as at the program's end."""
-    try:
-        return _getframe(depth + 1)
-    except ValueError:
-        return None
-
-
-def is_internal(frame: FrameType | None) -> bool:
-    """Whether this is code of the library modules that are traced as a whole, or of this package."""
-    if frame is None:
-        return False
-    name = frame.f_globals.get("__name__")
-    known = _internal_names.get(name)
-    if known is None:
-        known = _internal_names[name] = isinstance(name, str) and (name.partition(".")[0] in INTERNAL or name in INTERNAL_MODULES)
-    return known
 
 
 def are_replaced() -> bool:
@@ -73,16 +44,6 @@ def not_followed() -> list[Unseen]:
         return []
     library = str(getattr(threading.get_ident, "__module__", "another library")).partition(".")[0]
     return [Unseen(Cause.MODULE, f"{library} has put tasks in the place of threads, and what these do to each other was not seen")]
-
-
-def place(frame: FrameType | None) -> tuple[CodeType | None, int]:
-    """Where the program itself stands: the innermost frame that is not internal."""
-    while frame is not None:
-        is_known = _internal_names.get(frame.f_globals.get("__name__"))
-        if not (is_internal(frame) if is_known is None else is_known):
-            return frame.f_code, frame.f_lasti
-        frame = frame.f_back
-    return None, 0
 
 
 def current() -> Line:
@@ -303,10 +264,6 @@ def touch(thing: str, write: bool = False, label: str | None = None, across: boo
             touch_at(Across(thing) if across else thing, WRITE if write else READ, *place_of(frame), label)
         except Exception as fault:
             failed(fault)
-
-
-def place_of(frame: FrameType | None) -> tuple[CodeType | None, int]:
-    return (None, 0) if frame is None else (frame.f_code, frame.f_lasti)
 
 
 def touch_at(thing: str, kind: str, code: CodeType | None, instruction: int, label: str | None = None) -> None:

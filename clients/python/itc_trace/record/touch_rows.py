@@ -2,15 +2,12 @@
 
 from __future__ import annotations
 
-from collections.abc import Hashable, Iterable
-from itertools import islice
 from typing import Any
 
 from ..model.conflicts import CHANGING
-from .journal import Touch, TouchTexts
-from ..model.lines import LateJob
+from .journal import TouchTexts
+from ..model.lines import Touch, TouchEvent
 from .many_jobs import ManyJobs
-from ..model.stretches import Stretch, Touched
 
 MOST_PRIVATE = 10000
 
@@ -23,47 +20,6 @@ def part_text(part: int) -> str:
 def time_text(time: float) -> str:
     """How a row tells when its event was, in seconds since 1970 by the clock of its process. Without a time it does not tell."""
     return f'"time":{time:.6f},' if time else ""
-
-
-class TouchEvent:
-    """An event that stands for what a task touches, up to the next event of this task."""
-
-    __slots__ = ("task", "part", "time", "event", "stretches", "touches", "looked_at", "has_row", "is_open", "is_waiting")
-
-    def __init__(self, task: str, part: int = 1, time: float = 0.0) -> None:
-        self.task = task
-        self.part = part
-        self.time = time
-        self.event = 0
-        """Its number, once the collector has answered."""
-        self.stretches: list[Stretch] = []
-        self.touches: dict[Hashable, Touch] = {}
-        self.looked_at = 0
-        self.has_row = False
-        self.is_open = True
-        self.is_waiting = False
-        """Whether it waits for its rows to be written."""
-
-    def read_stretches(self, is_whole: bool = True) -> None:
-        """Takes over what was noted in its stretches. Of those but the last nothing more is to come.
-
-        If it need not be whole, the last one is read only once it has twice as much as before.
-        """
-        for stretch in self.stretches:
-            if not is_whole and len(stretch) < 2 * stretch.read:
-                continue
-            read = stretch.copy()  # A copy is made at once. The program may add more while it is gone through.
-            self.add(stretch, islice(read.items(), stretch.read, None))
-            stretch.read = len(read)
-        del self.stretches[:-1]
-
-    def add(self, stretch: Stretch, touches: Iterable[tuple[Hashable, Touched]]) -> None:
-        """Takes over what was touched in one of its stretches."""
-        held, loop, turn = stretch.held, stretch.loop, stretch.turn
-        job = stretch.line.number if isinstance(stretch.line, LateJob) else 0
-        when = held, loop, turn, job
-        for key, (thing, kind, site) in touches:
-            self.touches[key, when] = Touch(thing, kind, site, held, loop, turn, job)
 
 
 class _Alone:

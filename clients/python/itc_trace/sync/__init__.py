@@ -6,6 +6,7 @@ from . import (
     asynchronous, cached, callbacks, commands, descriptors, entry_queue, exits, fork_warnings, futures, handlers, heaps, http,
     importlib_bootstrap, pipes, process_pools, process_signals, processes, queues, starts, thread_pools, threads, tracebacks, unfollowed, values,
 )
+from ..model.lines import state
 from .base import Patches
 
 _TRACED = (
@@ -21,6 +22,7 @@ def put_all() -> None:
     global _patches
     if _patches is None:
         _patches = Patches()
+        state.is_patched = True
         for module in _TRACED:
             module.put(_patches)
 
@@ -31,3 +33,4 @@ def take_all_back() -> None:
     if _patches is not None:
         _patches.take_back()
         _patches = None
+        state.is_patched = False

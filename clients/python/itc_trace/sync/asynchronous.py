@@ -27,7 +27,8 @@ from ..model.lines import (
 )
 from ..model.lock_identity import LockIdentity
 from ..model.loop_runs import BEGINS, RUNS, LoopRun, begun_here, take_step
-from ..record.noting import current, frame_at, is_internal, joining, mark, place, starting, take, without_own_frame
+from ..record.noting import current, joining, mark, starting, take, without_own_frame
+from ..model.frames import frame_at, is_internal, place
 from ..model.stretches import STRETCHES, TURNS, leave
 from .base import Patches, like, name_as, named_like
 from .futures import is_settled_by_source, take_any
@@ -430,10 +431,10 @@ def _group_leave(original: Any) -> Any:
         finally:
             note = state.note
             if note is not None:
-                for line, called in self.__dict__.pop("_itc_lines", ()):
+                for line, calls in self.__dict__.pop("_itc_lines", ()):
                     if line.tracer is state.tracer:
                         note((TAKE_END, joining(line), line, *place(frame_at(1))))
-                    for token in called:
+                    for token in calls:
                         take(token)
 
     return __aexit__

@@ -8,7 +8,7 @@ from types import BuiltinFunctionType, CodeType, FunctionType
 from typing import Any
 from weakref import WeakValueDictionary
 
-from ..record.noting import INTERNAL
+from ..model.frames import INTERNAL
 
 _MISSING: Any = object()
 STAND_INS: WeakValueDictionary[int, CodeType] = WeakValueDictionary()

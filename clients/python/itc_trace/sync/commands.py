@@ -11,7 +11,6 @@ from types import ModuleType
 from typing import Any
 
 from ..record import following
-from .. import watch
 from .base import Patches
 from .later import once_imported
 
@@ -53,7 +52,7 @@ def _begun(args: Any, named: dict[str, Any]) -> following.Begun | None:
         return None
     try:
         place = _place_of_program(args)
-        program = watch.program_of(args, os.fspath(named.get("cwd") or os.getcwd()))
+        program = following.program_of(args, os.fspath(named.get("cwd") or os.getcwd()))
     except (TypeError, ValueError):
         return None
     if place is None or program is None:

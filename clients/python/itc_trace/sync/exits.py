@@ -4,44 +4,24 @@ from __future__ import annotations
 
 import atexit
 import threading
-from collections.abc import Callable
 from types import MethodType
 from typing import Any
 
-from ..model.lines import END, EXIT, TAKE_END, Line, Token, state
-from ..record.noting import current, frame_at, mark, place, take
+from ..model.lines import END, EXIT, TAKE_END, Token, state
+from ..record.noting import current, mark, take
+from ..record.awaited import await_nobody, awaited
+from ..model.frames import frame_at, place
 from .base import Patches, like
 
-_awaited: list[Line] = []
-"""The lines of threads and of jobs that the end of the program waits for."""
 _registered: list[Token | None] = []
 """For each function that is to run at the end, the place of its registration. None stands for the main thread's."""
 
 
 def put(patches: Patches) -> None:
-    _awaited.clear()
+    await_nobody()
     _registered.clear()
     patches.replace(atexit, "register", like(atexit.register, _register(atexit.register)))
     patches.wrap(threading, "_shutdown", _shutdown)
-
-
-def await_at_exit(line: Line) -> None:
-    _awaited.append(line)
-
-
-def await_nobody() -> None:
-    """Where tracing begins: the threads of an earlier tracing have no task in this one."""
-    _awaited.clear()
-
-
-def take_awaited(is_over: Callable[[Line], bool]) -> list[Line]:
-    """Takes out those that are over. Others may be added meanwhile."""
-    count = len(_awaited)
-    known = _awaited[:count]
-    over = [line for line in known if is_over(line)]
-    left = set(known).difference(over)
-    _awaited[:count] = [line for line in known if line in left]
-    return over
 
 
 def _register(original: Any) -> Any:
@@ -73,7 +53,7 @@ def _shutdown(original: Any) -> Any:
 def _take_all() -> None:
     for token in _registered:
         take(token)
-    for line in _awaited:
+    for line in awaited():
         note = state.note
         if note is not None and line.tracer is state.tracer:
             note((TAKE_END, current(), line, *place(frame_at(1))))

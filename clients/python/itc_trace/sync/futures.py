@@ -14,10 +14,11 @@ from typing import Any
 
 from .handed_on import called, handed_at, watched_place
 from ..model.lines import CALLBACK, FINISH, RESULT, SPAWN, SUBMIT, TAKE_END, WORKER, LateJob, Line, Token, state
-from ..record.noting import current, enter, frame_at, is_internal, joining, local, mark, place, starting, take, without_own_frame
-from ..api.web import incoming_at
+from ..record.noting import current, enter, joining, local, mark, starting, take, without_own_frame
+from ..model.frames import frame_at, is_internal, place
+from ..record.messages import incoming_at
 from .base import Patches, like, named_like
-from .exits import await_at_exit
+from ..record.awaited import await_at_exit
 
 _DONE = {base.CANCELLED, base.CANCELLED_AND_NOTIFIED, base.FINISHED}
 _WAITING = (base.PENDING, base.RUNNING)
@@ -140,7 +141,7 @@ def _result(original: Any) -> Any:
             if error is self._exception or isinstance(error, base.CancelledError) and self._state in _DONE:
                 take_result(self)
             without_own_frame(error)
-            del self  # The future's exception refers to this frame.
+            self = None  # The future's exception refers to this frame.
             raise
         take_result(self)
         return told

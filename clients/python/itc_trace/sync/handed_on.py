@@ -14,7 +14,8 @@ from contextvars import Context
 from types import CodeType, FrameType
 from typing import Any, NamedTuple
 
-from ..record.noting import frame_at, is_internal, lost, without_own_frame
+from ..record.noting import lost, without_own_frame
+from ..model.frames import frame_at, is_internal
 
 BOUND = (types.BuiltinMethodType, types.MethodWrapperType)
 UNBOUND = (types.MethodDescriptorType, types.WrapperDescriptorType)

@@ -5,7 +5,7 @@ from __future__ import annotations
 import logging
 from typing import Any
 
-from ..record.noting import frame_at
+from ..model.frames import frame_at
 from .base import Patches
 from .locks import traced_rlock
 

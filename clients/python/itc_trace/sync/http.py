@@ -12,11 +12,11 @@ from typing import Any
 
 from ..record import following
 from ..model.file_names import name_of_file
-from ..record.journal import line_of
 from ..model.lines import MARK, Token, state
 from ..model.lock_identity import Asking
-from ..record.noting import current, failed, frame_at, is_internal, place, take_at
-from ..api.web import HEADER, Sending, incoming_at
+from ..record.noting import current, failed, take_at
+from ..model.frames import frame_at, is_internal, line_of, place
+from ..record.messages import HEADER, Sending, incoming_at
 from .base import Patches
 from .later import once_imported
 

@@ -15,10 +15,11 @@ from _thread import get_ident
 from types import FrameType
 from typing import Any
 
-from ..model.lines import MARK, TAKE, Line, Section, Token, state
+from ..model.lines import MARK, TAKE, Line, Section, Stretch, Token, state
 from ..model.lock_identity import LockIdentity, Signal
-from ..record.noting import current, frame_at, is_internal, line_of_now, place
-from ..model.stretches import STRETCHES, TURNS, Stretch
+from ..record.noting import current, line_of_now
+from ..model.frames import frame_at, is_internal, place
+from ..model.stretches import STRETCHES, TURNS
 from .base import name_as
 
 _WAITS = re.compile(r"\.(wait|wait_for|notify|notify_all|notifyAll)\b")

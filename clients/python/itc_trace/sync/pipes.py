@@ -12,8 +12,8 @@ from typing import Any
 
 from ..record import following
 from ..model.lines import state
-from ..record.noting import frame_at
-from ..api.web import Sending, incoming_at
+from ..model.frames import frame_at
+from ..record.messages import Sending, incoming_at
 from .base import Patches, like
 from .later import once_imported
 

@@ -12,8 +12,9 @@ from typing import Any
 
 from ..record import following
 from ..model.lines import FINISH, JOIN, SPAWN, Line, state
-from ..record.noting import current, enter, local, place_of
-from ..api.web import Sending, incoming_at
+from ..record.noting import current, enter, local
+from ..model.frames import place_of
+from ..record.messages import Sending, incoming_at
 from .base import Patches
 from .later import once_imported
 

@@ -12,7 +12,8 @@ from typing import Any
 from ..record import following
 from ..model.lines import SEMAPHORE, Line, Token, state
 from ..model.lock_identity import LockIdentity
-from ..record.noting import frame_at, is_internal, mark, take
+from ..record.noting import mark, take
+from ..model.frames import frame_at, is_internal
 from .base import Patches
 from .later import forget_all, once_imported
 from .locks import gave, took

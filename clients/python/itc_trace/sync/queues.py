@@ -12,7 +12,8 @@ from types import FunctionType
 from typing import Any
 
 from ..model.lines import DONE_ITEM, QUEUE, ROOM, Token, state
-from ..record.noting import frame_at, is_internal, mark, take
+from ..record.noting import mark, take
+from ..model.frames import frame_at, is_internal
 from .base import Patches, name_as
 from .locks import TracedLock, gave, took, traced_lock
 

@@ -10,7 +10,7 @@ from concurrent.futures import Future, ThreadPoolExecutor
 from time import sleep
 from typing import Any
 
-from ..record.noting import is_internal
+from ..model.frames import is_internal
 from .base import like
 from .locks import TracedLock, TracedRLock
 

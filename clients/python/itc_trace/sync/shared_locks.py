@@ -6,7 +6,7 @@ import itertools
 
 from ..record import following
 from ..model.lines import state
-from ..api.web import Sending, incoming_at
+from ..record.messages import Sending, incoming_at
 
 _numbers = itertools.count(1)
 

@@ -9,7 +9,7 @@ from typing import Any
 
 from ..record import following
 from ..model.lines import Line
-from ..record.noting import frame_at, is_internal
+from ..model.frames import frame_at, is_internal
 from .base import Patches
 from .fork_warnings import forked
 from .later import once_imported
@@ -104,7 +104,7 @@ def _get_preparation_data(original: Any) -> Any:
         elif process is not None:
             begun = _own.begun = following.begin(_name_of(process), process._start_method or told["start_method"], 2)
             if begun is not None:
-                told["itc_trace"] = following.Beginning(begun.process)
+                told["itc_trace"] = following.beginning(begun.process)
         return told
 
     return get_preparation_data

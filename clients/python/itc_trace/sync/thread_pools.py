@@ -16,7 +16,8 @@ from typing import Any
 
 from .handed_on import HANDED, called, handed_at, watched_place
 from ..model.lines import CALLED, FINISH, MARK, RESULT, SPAWN, SUBMIT, TAKE_END, WORKER, LateJob, Line, Token, What, state
-from ..record.noting import current, enter, frame_at, joining, line_of_now, local, mark, place, take
+from ..record.noting import current, enter, joining, line_of_now, local, mark, take
+from ..model.frames import frame_at, place
 from .base import Patches, like
 from .later import once_imported
 from .queues import plain_simple_queue

@@ -10,9 +10,10 @@ from typing import Any
 
 from .handed_on import called, handed_at
 from ..model.lines import BARRIER, EVENT, FINISH, JOIN, NOTIFY, SEMAPHORE, SPAWN, Line, state
-from ..record.noting import are_replaced, enter, frame_at, is_internal, joining, local, mark, place, starting, take, thread_name
+from ..record.noting import are_replaced, enter, joining, local, mark, starting, take, thread_name
+from ..model.frames import frame_at, is_internal, place
 from .base import Patches, like
-from .exits import await_at_exit
+from ..record.awaited import await_at_exit
 from .locks import IS_CALLED, TracedLock, TracedRLock, allocate_lock, is_of_condition, new_rlock, traced_rlock
 from .waiters import Waiters
 

@@ -12,7 +12,8 @@ from ..record import following
 from ..model.conflicts import READ, WRITE
 from ..model.lines import state
 from ..model.lock_identity import variable_of_result
-from ..record.noting import place_of, touch_at
+from ..record.noting import touch_at
+from ..model.frames import place_of
 from ..model.stretches import Across
 from .base import Patches
 from .later import once_imported

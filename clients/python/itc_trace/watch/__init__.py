@@ -13,7 +13,7 @@ from types import CodeType
 from typing import Any
 
 from ..model.lines import Line, state
-from ..record.noting import INTERNAL
+from ..model.frames import INTERNAL
 from ..model.verdict import PassedOver, Unseen
 from ..sync.base import like
 from . import handed, hooks, leaving, passed_over, things
@@ -26,6 +26,8 @@ __all__ = ["Prepare", "begin", "code_of", "end", "program_of", "selection", "unw
 
 MAIN_OF_CHILD = "__mp_main__"
 """The name of the program's main module in a process that `multiprocessing` has started anew."""
+
+handed.begin()
 
 _finder: Finder | None = None
 _plain_line_begin: Any = None

@@ -15,7 +15,7 @@ import threading
 import types
 import weakref
 from array import array
-from builtins import any, dict, enumerate, filter, frozenset, id, int, issubclass, iter, len, list, map, next, reversed, set, str, tuple, type, zip
+from builtins import any, dict, enumerate, filter, frozenset, id, int, issubclass, iter, list, map, next, reversed, set, str, tuple, type, zip
 from collections import ChainMap, Counter, OrderedDict, UserDict, UserList, defaultdict, deque
 from collections.abc import Iterable
 from typing import Any

@@ -7,7 +7,7 @@ from typing import Any
 
 from ..model.conflicts import REWRITE
 from ..sync.handed_on import ATTRGETTER, Method, Place, Watcher, watch_with
-from ..record.journal import line_of
+from ..model.frames import line_of
 from . import hooks
 from .decisions import value_of_field
 from .finder import FILES
@@ -75,4 +75,6 @@ def _arguments(name: str) -> slice | None:
     return slice(changed, changed + 1) if kinds == REWRITE else slice(1 if name in _KEEPING_FIRST else 0, None)
 
 
-watch_with(Watcher(_touch, FILES, METHODS | frozenset(_FIELDS) | frozenset(_WHOLE), _arguments))
+def begin() -> None:
+    """From here on what the program hands on is looked into."""
+    watch_with(Watcher(_touch, FILES, METHODS | frozenset(_FIELDS) | frozenset(_WHOLE), _arguments))

@@ -6,7 +6,7 @@ import csv
 import io
 import weakref
 from builtins import (
-    any, bool, bytes, dict, enumerate, float, frozenset, getattr, id, int, issubclass, iter, len, list, min, next, range, set, str, tuple, type,
+    any, bool, bytes, dict, enumerate, float, frozenset, getattr, id, int, issubclass, len, list, min, next, range, set, str, tuple, type,
 )
 from collections import deque
 from collections.abc import Iterator

@@ -8,15 +8,15 @@ from __future__ import annotations
 
 import os
 from _thread import allocate_lock, get_ident
-from builtins import id, len, list, type
+from builtins import id, len, list
 from collections.abc import Callable, Iterable
 from itertools import islice
 from typing import Any
 
 from ..model.conflicts import ADDITION, LENGTH, LOOKUP, MAKING, READ, REPLACEMENT, WRITE
-from ..model.lines import LATE, LateJob, Line, state
+from ..model.lines import LATE, LateJob, Line, Stretch, Touched, state
 from ..record.noting import begin_stretch, touched_all
-from ..model.stretches import AT_BORDER, STRETCHES, Stretch, Touched
+from ..model.stretches import AT_BORDER, STRETCHES
 from .places import ACCESSES
 from .seen import Late, Seen
 from .things import OWNERS, Owner, element_of, field_of, shape_of

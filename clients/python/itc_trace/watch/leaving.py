@@ -14,9 +14,9 @@ from sys import _getframe
 from types import CodeType, ModuleType
 from typing import Any
 
-from ..record.noting import is_internal
-from ..sync.base import like
+from ..model.frames import is_internal
 from ..model.verdict import MOST_LISTED, Cause, PassedOver, Unseen
+from ..sync.base import like
 from . import passed_over
 from .finder import FILES
 from .loaded import code_by_mark, mark_of

@@ -1073,10 +1073,10 @@ class Rewriter:
         else:
             node.func = func
         function = self._form_of_function(node.func)
-        forms = {place: on_stack.form_of_call(node, function, place) for place, _, at in wanting if at is not None}
-        for place, hook, at in wanting:
-            if at is not None:
-                hook.args[at] = on_stack.copy(forms[place], hook.args[at])
+        forms = {place: on_stack.form_of_call(node, function, place) for place, _, word in wanting if word is not None}
+        for place, hook, word in wanting:
+            if word is not None:
+                hook.args[word] = on_stack.copy(forms[place], hook.args[word])
         return self._hook("S", node, self._owner_taken(node, func, function), node)
 
     @staticmethod

@@ -4,7 +4,7 @@ from __future__ import annotations
 
 from typing import Any
 
-from ..model.stretches import Stretch
+from ..model.lines import Stretch
 from .helper import quick
 
 Late = tuple[Any, ...] | None

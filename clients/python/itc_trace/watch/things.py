@@ -17,10 +17,10 @@ from types import CodeType, FunctionType
 from typing import Any, NamedTuple
 
 from ..model.conflicts import MAKING
-from ..record.journal import line_of
-from ..model.lines import Line, state
+from ..model.frames import line_of
+from ..model.lines import Line, Touched, state
 from ..record.noting import line_of_now
-from ..model.stretches import SITES, Touched
+from ..model.stretches import SITES
 from .decisions import name_of
 from .helper import quick
 from .keys import UNKNOWN

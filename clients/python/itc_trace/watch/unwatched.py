@@ -6,7 +6,7 @@ import gc
 import os
 from types import CodeType, FunctionType
 
-from ..record.journal import line_of
+from ..model.frames import line_of
 from ..record.noting import LOST
 from ..model.verdict import Cause, Unseen
 from .finder import FILES, LIBRARY_FOLDERS, Selection

@@ -1,0 +1,185 @@
+"""A process that is traced, from its beginning to its end."""
+
+from __future__ import annotations
+
+import _thread
+import atexit
+import os
+import signal
+import threading
+from types import FrameType
+from typing import Any
+
+from .. import watch
+from ..api.tracing import Tracing
+from ..model.verdict import Cause, Unseen
+from ..record.following import ChildProcess, Ways, follow, is_beginning
+from ..record.following import end as end_following
+from ..record.journal_file import JournalFile
+from ..sync.base import like
+from ..sync.process_pools import take_done
+
+ANOTHER_PROGRAM = Unseen(Cause.KILLED, "tracing stopped where the process was to go on as another program")
+_set_handler, _handler_of, _interrupt = signal.signal, signal.getsignal, _thread.interrupt_main
+"""As they are before any program is traced."""
+ENDING_SIGNALS = [getattr(signal, name) for name in ("SIGTERM", "SIGHUP") if hasattr(signal, name)]
+
+
+def begin_as_child(process: ChildProcess) -> None:
+    """In a process that `multiprocessing` has started anew, before it imports the program: from here on it is traced."""
+    if process.packages is not None:
+        watch.watch_loaded(process.folders, process.packages)
+    traced = _tracing_of(process)
+    try:
+        traced.start()
+    except OSError:
+        return  # The journal of its parent has no end of it.
+    Ending(traced).begin(process.folders, process.packages, process.names)
+    watch.watch_path_runs()
+
+
+class Beginning:
+    """Begins to trace where it is unpickled: in the child, before that has imported a module of the program."""
+
+    def __init__(self, process: ChildProcess) -> None:
+        self._process = process
+
+    def __reduce__(self) -> Any:
+        return begin_unpickled, tuple(self._process)
+
+
+def begin_unpickled(*words: Any) -> None:
+    begin_as_child(ChildProcess(*words))
+
+
+def _tracing_of(process: ChildProcess) -> Tracing:
+    return Tracing(process.port, process.tenant, process.journal, host=process.host, child=process)
+
+
+class Ending:
+    """Has all that was noted reported before the process ends, also where it ends without the interpreter's own end."""
+
+    def __init__(self, traced: Tracing) -> None:
+        self._traced = traced
+        self._process = os.getpid()
+        self._waiting_signal: int | None = None
+        self._masks = threading.local()
+        self._show_no_handler()
+        self._before_the_end("_exit")
+        for name in ("execv", "execve"):
+            self._before_another_program(name)
+        for number in ENDING_SIGNALS:
+            if _handler_of(number) == signal.SIG_DFL:
+                _set_handler(number, self._end_by)
+        if hasattr(os, "register_at_fork"):
+            os.register_at_fork(before=self._hold_signals, after_in_parent=self._let_signals, after_in_child=self._in_child)
+
+    def begin(self, folders: list[str], packages: list[str] | None, names: str | None = None) -> None:
+        """From here on the end of this process is looked after, and its children are traced."""
+        atexit.register(self.finish)
+        follow(self._traced, folders, packages, self._ways(), names)
+
+    def _ways(self) -> Ways:
+        return Ways(self._go_on_as, Beginning, watch.program_of)
+
+    def _go_on_as(self, process: ChildProcess) -> None:
+        """In a forked child, which is traced as its parent."""
+        traced = _tracing_of(process)
+        try:
+            traced.start()
+        except OSError:
+            self._let_signals()
+            return  # The journal of its parent has no end of it.
+        self._traced, self._process, self._waiting_signal = traced, os.getpid(), None
+        follow(traced, process.folders, process.packages, self._ways(), process.names)
+        for number in ENDING_SIGNALS:
+            if _handler_of(number) == signal.SIG_DFL:
+                _set_handler(number, self._end_by)
+        self._let_signals()
+
+    def finish(self) -> None:
+        if os.getpid() == self._process:
+            self._traced.tell_of_children()
+            take_done()
+            self._traced.stop()
+            end_following()
+            if self._waiting_signal is not None:
+                self._die(self._waiting_signal)
+
+    def _before_the_end(self, name: str) -> None:
+        original = getattr(os, name)
+
+        def leave(status: int) -> None:
+            self.finish()
+            original(status)
+
+        setattr(os, name, like(original, leave))
+
+    def _before_another_program(self, name: str) -> None:
+        original = getattr(os, name)
+
+        def replace(*words: Any, **named: Any) -> Any:
+            if os.getpid() != self._process or words and not os.access(words[0], os.X_OK):
+                return original(*words, **named)
+            if not self._traced.is_child or watch.program_of(words[1] if len(words) > 1 else (), os.getcwd()) is not None:
+                self._traced.tell(ANOTHER_PROGRAM)
+            journal = self._traced.journal
+            self.finish()
+            try:
+                return original(*words, **named)
+            except BaseException:
+                JournalFile(journal, adds=True).write(ANOTHER_PROGRAM.row())
+                raise
+
+        setattr(os, name, like(original, replace))
+
+    def _show_no_handler(self) -> None:
+        """The program sees the effect of a signal by itself where the package has a handler, and asks for that one by this effect."""
+
+        def shown(handler: Any) -> Any:
+            return signal.SIG_DFL if handler == self._end_by else handler
+
+        def set_handler(signalnum: Any, handler: Any) -> Any:
+            is_ours = handler == signal.SIG_DFL and signalnum in ENDING_SIGNALS and os.getpid() == self._process
+            return shown(_set_handler(signalnum, self._end_by if is_ours else handler))
+
+        def interrupt_main(signum: int = signal.SIGINT, /) -> None:
+            if _handler_of(signum) != self._end_by:  # A signal that the program does not handle is not simulated, either.
+                _interrupt(signum)
+
+        signal.signal = like(_set_handler, set_handler)
+        signal.getsignal = like(_handler_of, lambda signalnum: shown(_handler_of(signalnum)))
+        _thread.interrupt_main = like(_interrupt, interrupt_main)
+
+    def _hold_signals(self) -> None:
+        """Until the child has the signals' own effects back, none of them comes: it would be lost."""
+        self._masks.before = signal.pthread_sigmask(signal.SIG_BLOCK, ENDING_SIGNALS)
+
+    def _let_signals(self) -> None:
+        signal.pthread_sigmask(signal.SIG_SETMASK, self._masks.before)
+
+    def _in_child(self) -> None:
+        for number in ENDING_SIGNALS:
+            if _handler_of(number) == self._end_by:
+                _set_handler(number, signal.SIG_DFL)
+        if not is_beginning():
+            self._let_signals()
+
+    def _end_by(self, number: int, _: FrameType | None) -> None:
+        """Reports what was noted, before the signal ends the process as it would untraced."""
+        if self._waiting_signal is not None:
+            return
+        self._waiting_signal = number
+        if not self._traced.is_child:  # What ends a child is part of the program.
+            self._traced.tell(ended_by(number))
+        if not self._traced.is_stopping:  # Else whoever stops it looks for the signal.
+            self._traced.stop()
+            self._die(number)
+
+    def _die(self, number: int) -> None:
+        _set_handler(number, signal.SIG_DFL)
+        os.kill(os.getpid(), number)
+
+
+def ended_by(number: int) -> Unseen:
+    return Unseen(Cause.KILLED, f"the program was ended by {signal.Signals(number).name}")

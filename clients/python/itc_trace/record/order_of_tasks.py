@@ -1,0 +1,349 @@
+"""The order of tasks: which notes become messages, spawns, ends and joins, and which are known already."""
+
+from __future__ import annotations
+
+import itertools
+from collections import defaultdict, deque
+from collections.abc import Callable
+from sys import getrefcount
+from types import CodeType
+
+from ..model.lines import END, GONE, JOIN, RESULT, TAKE, TAKE_END, Line, Note, Reporter, Token
+from ..model.lock_identity import LockIdentity
+from ..model.loop_runs import STOPS, LoopRun
+from ..model.verdict import Cause
+from .awaited import await_at_exit, take_awaited
+from .names import Names
+from .reports import Outstanding, Reports
+from .tracer_parts import Parts
+from .waiting import Waiter
+
+KEEPER = "ended threads"
+"""What the task is called that comes after the threads that nobody joins."""
+KEEPER_OF_LOOP = "ended tasks"
+"""What the task is called that comes after the tasks of a loop that nobody waits for."""
+
+
+def _references_of_nobody() -> int:
+    """How many references a thing has that only one list knows, while it is looked at."""
+    things = [object()]
+    for thing in things:
+        return getrefcount(thing)
+    return 0
+
+
+REFERENCES_OF_NOBODY = _references_of_nobody()
+
+
+def _number(line: Line) -> int:
+    return line.number
+
+
+class OrderOfTasks:
+    """Reports what orders tasks. A release becomes a message once somebody may still take it and its task goes on."""
+
+    def __init__(
+        self, reporter: Reporter, reports: Reports, names: Names, parts: Parts | None, give_up: Callable[[Cause, str], object]
+    ) -> None:
+        self._reporter = reporter
+        self._reports = reports
+        self._names = names
+        self._parts = parts
+        self._give_up = give_up
+        self._message_numbers = itertools.count(1)
+        self._finished: list[Line] = []
+        self._takes_left: defaultdict[Line, int] = defaultdict(int)
+        """How often each task is still waited for, by the notes that are looked at."""
+        self._gone_soon: set[Line] = set()
+        self._keeper: Line | None = None
+
+    def look_ahead(self, batch: deque[tuple[float, Note]]) -> None:
+        """Looks notes through for how often each task is waited for, and which ones nobody can wait for after that."""
+        takes = self._takes_left
+        for _, note in batch:
+            kind = note[0]
+            if kind == TAKE:
+                takes[note[2].line] += 1
+            elif kind in (TAKE_END, JOIN):
+                takes[note[2]] += 1
+            elif kind == GONE:
+                self._gone_soon.add(note[1])
+
+    def looked_at(self) -> None:
+        """All notes that were looked ahead at have been reported."""
+        self._gone_soon.clear()
+
+    def end_finished(self) -> None:
+        """At the end of the session: the tasks that are done have their ends."""
+        for line in self._finished:
+            if not line.has_ended and line.name:
+                line.pending.clear()
+                self.end(line, END.giving)
+
+    def forget_ended(self) -> None:
+        """At a border: what has ended is finished for good."""
+        self._finished = [line for line in self._finished if not line.has_ended]
+
+    def _is_waited_for(self, line: Line) -> None:
+        """One of those who wait for it is being looked after."""
+        self._takes_left[line] -= 1
+        if not self._takes_left[line]:
+            del self._takes_left[line]
+
+    def may_be_asked_for(self, line: Line) -> bool:
+        """Whether somebody may still wait for the task, after those who were looked after."""
+        return line in self._takes_left or not (line.is_gone or line in self._gone_soon)
+
+    def _send(self, line: Line, token: Token) -> None:
+        """Reports a message for all tokens of the same kind that were noted at the place where the line is.
+
+        A message of a lock is for tokens of this lock alone, so that the order without locks is told in full beside it.
+        """
+        message = f"{self._reporter.prefix}{token.what.hint}_{next(self._message_numbers)}"
+        lock = token.what.lock
+        self._reports.report(line, "send", message, token.code, token.instruction, token.what.giving, lock, token.time)
+        self._sent(line, message, lock)
+
+    def _sent(self, line: Line, message: str, lock: LockIdentity | None) -> None:
+        line.message, line.lock = message, lock
+        if lock is None:
+            line.sent.append((line.count, message))
+        if self._parts is not None:
+            self._parts.sent(message, lock, [token for token in line.pending if token.what.lock is lock])
+        others = []
+        for token in line.pending:
+            if token.what.lock is lock:
+                token.message = message
+                token.count = line.count
+            else:
+                others.append(token)
+        line.pending = others
+
+    def leave(self, line: Line, only_locks: bool = False) -> None:
+        """Before the line goes on: where somebody may still take one of its tokens, they become a message."""
+        while line.pending:
+            for token in line.pending:
+                if getrefcount(token) > REFERENCES_OF_NOBODY and (token.what.lock is not None or not only_locks):
+                    break
+            else:
+                break
+            self._send(line, token)
+        line.pending.clear()
+
+    def _receive(self, line: Line, token: Token, code: CodeType | None, instruction: int) -> None:
+        self.leave(line)
+        assert token.message is not None
+        lock = token.what.lock
+        self._reports.report(line, "recv", token.message, code, instruction, token.what.taking, lock)
+        if lock is None:
+            line.known[token.line] = token.count
+        else:
+            line.known_by_locks[token.line, lock] = token.count
+
+    def mark(self, token: Token) -> None:
+        line = token.line
+        token.count, token.time = line.count, self._reports.time
+        if line.message is not None and line.lock is token.what.lock:
+            token.message = line.message
+            if self._parts is not None:
+                self._parts.sent(line.message, line.lock, [token])
+        else:
+            line.pending.append(token)
+
+    def take(self, line: Line, token: Token, code: CodeType | None, instruction: int) -> None:
+        self._is_waited_for(token.line)
+        self._come_after(line, token, code, instruction)
+
+    def _come_after(self, line: Line, token: Token, code: CodeType | None, instruction: int) -> None:
+        source = token.line
+        if source is line or self._knows(line, source, token.count) or self._knows_by_lock(line, token):
+            return
+        if token.message is None:
+            if source.has_ended:
+                self._take_ended(line, source, code, instruction, token.what.taking)
+                return
+            if self._is_last_taker(source, token):
+                self.leave(source, only_locks=True)
+                self.end(source, token.what.giving)
+                self._join_now(line, source, code, instruction, token.what.taking)
+                return
+            self._send(source, token)
+        if source.first_taker is None and token is source.end_token:
+            source.first_taker = line
+        self._receive(line, token, code, instruction)
+
+    def _knows(self, line: Line, source: Line, count: int) -> bool:
+        """Whether it is plain that the line comes after so many events of the other. Others are asked for."""
+        if count > 0:
+            return line.known.get(source, 0) >= count
+        parent = source.parent
+        return parent is None or parent is line or line.known.get(parent, 0) >= source.parent_count
+
+    def _knows_by_lock(self, line: Line, token: Token) -> bool:
+        """Whether the line has taken the lock from the other one since."""
+        lock = token.what.lock
+        return lock is not None and line.known_by_locks.get((token.line, lock), -1) >= token.count
+
+    def _is_last_taker(self, source: Line, token: Token) -> bool:
+        """Whether the task is finished, and nobody but whoever asks now can wait for it."""
+        is_at_end = source.is_finished and token.count == source.count and token.what.lock is None
+        return is_at_end and not self.may_be_asked_for(source)
+
+    def take_end(self, line: Line, source: Line, code: CodeType | None, instruction: int) -> None:
+        """The line has seen that the other one is done."""
+        self._is_waited_for(source)
+        self._is_done(source)
+        if source.end_token is None:
+            source.end_token = Token(source, RESULT, code, instruction)
+            self.mark(source.end_token)
+        self._come_after(line, source.end_token, code, instruction)
+
+    def _is_done(self, line: Line) -> None:
+        if not line.is_finished:
+            line.is_finished = True
+            self._finished.append(line)
+
+    def spawn(self, parent: Line, child: Line, code: CodeType | None, instruction: int) -> Outstanding:
+        self.leave(parent)
+        child.name = self._names.new(child.hint)
+        report = self._reports.report(parent, "spawn", child.name, code, instruction, f"start {child.name}")
+        if self._parts is not None:
+            self._parts.add(child)
+        child.parent, child.parent_count = parent, parent.count
+        child.known[parent] = parent.count
+        return report
+
+    def finish(self, line: Line, ends: bool, is_awaited: bool) -> None:
+        """The task does nothing more. A thread ends at once, where several wait for it with a message for all of them."""
+        self._is_done(line)
+        if not ends:
+            if line.is_gone:
+                self.gone(line)
+            return
+        if is_awaited:
+            line.end_token = Token(line, END, None, 0)
+            self.mark(line.end_token)
+            if line.end_token.message is None:
+                self._send(line, line.end_token)
+        elif self._tells_of_others(line):
+            self._send(line, Token(line, END, None, 0))
+        self.leave(line)
+        self.end(line, END.giving)
+
+    def _tells_of_others(self, line: Line) -> bool:
+        """Whether somebody may still wait for a task that this one has taken in, and finds no message sent since."""
+        last = line.sent[-1][0] if line.sent else 0
+        return any(child.joined_at > last and self.may_be_asked_for(child) for child in line.joined)
+
+    def end(self, line: Line, label: str) -> None:
+        if not line.has_ended:
+            line.has_ended = True
+            self._reports.report(line, "end", "", None, 0, label)
+            line.pending.clear()
+
+    def join(self, line: Line, child: Line, code: CodeType | None, instruction: int) -> None:
+        self._is_waited_for(child)
+        if child.is_process:
+            child.has_ended, child.count = True, 1
+        if not child.has_ended or child is line or self._knows(line, child, max(child.count, 1)):
+            return
+        if child.joined_by is not None and child.end_token is not None:
+            self._come_after(line, child.end_token, code, instruction)
+        else:
+            self._take_ended(line, child, code, instruction, f"join {child.name}")
+
+    def _join_now(self, line: Line, child: Line, code: CodeType | None, instruction: int, label: str) -> None:
+        self.leave(line)
+        report = self._reports.report(line, "join", child.name, code, instruction, label)
+        report.may_be_refused = child.is_process
+        child.joined_by, child.joined_at = line, line.count
+        if child.loop_run is not None:
+            child.loop_run.lines.discard(child)
+        line.joined.append(child)
+        line.known[child] = child.count
+
+    def _take_ended(self, line: Line, child: Line, code: CodeType | None, instruction: int, label: str) -> None:
+        if child.is_forgotten:
+            self._give_up(Cause.FULL, f"{child.name} was waited for long after its end, when its part of the trace had been left")
+        elif child.joined_by is None:
+            self._join_now(line, child, code, instruction, label)
+        else:
+            self._take_late(line, child, code, instruction)
+
+    def _take_late(self, line: Line, child: Line, code: CodeType | None, instruction: int) -> None:
+        """Another task has joined this one already: the line comes after the first message that the joiner sent since."""
+        joiner = child.joined_by
+        if joiner is None or joiner is line:
+            return
+        token = Token(joiner, END, code, instruction)
+        token.count = child.joined_at
+        for count, message in joiner.sent:
+            if count >= child.joined_at:
+                token.count, token.message = count, message
+                break
+        if token.message is None and not joiner.has_ended:
+            self.mark(token)
+        if token.message is not None or not joiner.has_ended:
+            self._come_after(line, token, code, instruction)
+
+    def gone(self, line: Line) -> None:
+        """Nobody can wait for the task any more: it ends, and its place in the clock goes to whoever waited first."""
+        line.is_gone = True
+        if line.must_finish and not line.is_finished:
+            return  # It still runs; its finish will be noted.
+        self._is_done(line)
+        if line.has_ended or not line.name:
+            return
+        self.leave(line, only_locks=True)
+        self.end(line, END.giving)
+        taker = line.first_taker
+        if taker is not None and not taker.is_finished and not taker.has_ended:
+            self._join_now(taker, line, None, 0, f"join {line.name}")
+
+    def leave_loop(self, line: Line, run: LoopRun, code: CodeType | None, instruction: int) -> None:
+        """The line's thread goes on behind the run of a loop, after all that the loop's tasks did."""
+        keeper = run.keeper
+        for task in sorted(run.lines, key=_number):
+            if task.has_ended:
+                self._join_now(line, task, code, instruction, f"join {task.name}")
+            elif task.name:
+                token = Token(task, STOPS, code, instruction)
+                self.mark(token)
+                self._come_after(line, token, code, instruction)
+        run.lines.clear()
+        if keeper is not None:
+            self.end(keeper, END.giving)
+            self._join_now(line, keeper, code, instruction, f"join {keeper.name}")
+
+    def send_outside(self, line: Line, message: str, waiter: Waiter, code: CodeType | None, instruction: int) -> None:
+        self._reports.answer_to(waiter, self._reports.report(line, "send", message, code, instruction, "send to another process"))
+        self._sent(line, message, None)
+        if self._parts is not None:
+            self._parts.sent_outside(message)
+
+    def receive_outside(self, line: Line, message: str, code: CodeType | None, instruction: int) -> None:
+        self.leave(line)
+        report = self._reports.report(line, "recv", message, code, instruction, "receive from another process")
+        report.may_be_refused = True
+
+    def keep_ended(self) -> None:
+        """Has a task of its own take the ends of those that the end of the program waits for, in place of all of them."""
+        ended = [line for line in take_awaited(lambda line: line.has_ended) if not self._knows(self._reporter.main, line, max(line.count, 1))]
+        if ended and self._keeper is None:
+            self._keeper = Line(self._reporter, KEEPER)
+            self.spawn(self._reporter.main, self._keeper, None, 0)
+            await_at_exit(self._keeper)
+        for line in ended:
+            assert self._keeper is not None
+            self._takes_left[line] += 1
+            self.take_end(self._keeper, line, None, 0)
+
+    def keep_ended_of_loops(self, lines: list[Line]) -> None:
+        """Has a task for each run of a loop take the ends of those of the loop's tasks that nobody has waited for."""
+        for line in lines:
+            run = line.loop_run
+            if run is not None and line.has_ended and line in run.lines:
+                if run.keeper is None:
+                    run.keeper = Line(self._reporter, KEEPER_OF_LOOP)
+                    self.spawn(self._reporter.main, run.keeper, None, 0)
+                self._join_now(run.keeper, line, None, 0, f"join {line.name}")
