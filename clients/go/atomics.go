@@ -8,7 +8,7 @@ import (
 // stored is the last change of an atomic value. Whoever sees what was stored comes after it.
 type stored struct {
 	mutex sync.Mutex
-	last  *token
+	last  *holder
 }
 
 var storing = &what{hint: "atomic", giving: "store", taking: "load"}
@@ -22,15 +22,19 @@ func (s *stored) do(goroutine uint64, counter uintptr, looks bool, act func() (c
 	by, at := own(goroutine), siteAt(counter)
 	s.mutex.Lock()
 	defer s.mutex.Unlock()
-	if looks && s.last != nil {
-		by.take(s.last, at)
+	if s.last == nil {
+		s.last = newHolder()
+	}
+	last := s.last.token
+	if looks && last != nil {
+		by.take(last, at)
 	}
 	if act() {
 		by.mutex.Lock()
-		if s.last != nil && s.last.task == by {
-			by.drop(s.last)
+		if last != nil && last.task == by {
+			by.drop(last)
 		}
-		s.last = by.mark(storing, at)
+		s.last.token = by.mark(storing, at)
 		by.mutex.Unlock()
 	}
 }

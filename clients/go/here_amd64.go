@@ -12,6 +12,9 @@ const (
 // not known, or if the frames of calls are not as they are expected.
 var numberAt uintptr
 
+// framesUp is 1 if a frame of the compiler lies between here and the function that calls it, and else 0.
+var framesUp uintptr
+
 // here tells which goroutine calls, and the counter behind the call of the function that calls this one. Both are 0 if they are to be
 // looked for in a stack. The function that calls here must not be inlined.
 func here() (goroutine uint64, counter uintptr)
@@ -35,11 +38,14 @@ func lookWhereWeAre() {
 			break
 		}
 	}
-	isRight := true
-	inGoroutines(func() { isRight = isRight && isAsInStack() })
-	if !isRight {
-		numberAt = 0
+	for framesUp = 0; framesUp < 2; framesUp++ {
+		isRight := true
+		inGoroutines(func() { isRight = isRight && isAsInStack() })
+		if isRight {
+			return
+		}
 	}
+	numberAt, framesUp = 0, 0
 }
 
 func inGoroutines(look func()) {

@@ -8,7 +8,13 @@ TEXT ·here(SB), NOSPLIT, $0-16
 	MOVQ (TLS), AX
 	MOVQ (AX)(CX*1), AX
 	MOVQ AX, goroutine+0(FP)
-	MOVQ (BP), DX
+	MOVQ BP, DX
+	MOVQ ·framesUp(SB), CX
+	TESTQ CX, CX
+	JEQ  found
+	MOVQ (DX), DX
+
+found:
 	MOVQ 8(DX), AX
 	MOVQ AX, counter+8(FP)
 	RET

@@ -30,9 +30,9 @@ func newLock(at *site) *lock {
 type hand struct {
 	lock   *lock
 	holder *task
-	given  *token
-	// spare is a token that nobody can take any more.
-	spare *token
+	// last has the token of the last release, which nobody can take any more once isTaken is true.
+	last    *holder
+	isTaken bool
 	// isSignal tells whether others wait for more than the lock, as for a condition. Then its hand-over is meant, and no luck.
 	isSignal atomic.Bool
 }
@@ -46,16 +46,15 @@ func (h *hand) known(at *site) *lock {
 
 // acquire has the task come after who released the lock, and hold it.
 func (h *hand) acquire(by *task, at *site) {
-	acquired, given := h.known(at), h.given
-	h.given, h.holder = nil, by
+	acquired, given := h.known(at), h.given()
+	h.holder, h.isTaken = by, true
 	if given != nil && given.task != by {
 		by.take(given, at)
-		given = nil
+		h.last.token, given = nil, nil
 	}
 	by.mutex.Lock()
 	if given != nil { // Nobody else can come after it any more.
 		by.drop(given)
-		h.spare = given
 	}
 	by.held = by.held.with(acquired)
 	by.mutex.Unlock()
@@ -78,14 +77,24 @@ func (h *hand) release(by *task, at *site) {
 	if h.isSignal.Load() {
 		called = &released.signal
 	}
-	made := h.spare
-	if h.spare = nil; made == nil || made.task != by {
-		made = &token{task: by}
+	if h.last == nil {
+		h.last = newHolder()
 	}
-	made.what, made.site = called, at
-	by.markBy(made)
+	if h.last.token == nil || h.last.token.task != by {
+		h.last.token = &token{task: by}
+	}
+	h.last.token.what, h.last.token.site = called, at
+	by.markBy(h.last.token)
 	by.mutex.Unlock()
-	h.given = made
+	h.isTaken = false
+}
+
+// given is the token of the last release, if somebody may still take it.
+func (h *hand) given() *token {
+	if h.last == nil || h.isTaken {
+		return nil
+	}
+	return h.last.token
 }
 
 func (of *task) letGo(released *lock) {
@@ -164,8 +173,8 @@ func (m *RWMutex) reads(by *task, at *site) {
 	m.mutex.Lock()
 	defer m.mutex.Unlock()
 	acquired, own := m.hand.known(at), m.readerOf(by)
-	if m.hand.given != nil {
-		by.take(m.hand.given, at)
+	if given := m.hand.given(); given != nil {
+		by.take(given, at)
 	}
 	by.mutex.Lock()
 	if own != nil { // What this one has read is told by its next release, or by this one.
@@ -177,7 +186,7 @@ func (m *RWMutex) reads(by *task, at *site) {
 
 func (m *RWMutex) readerOf(by *task) *token {
 	if m.lastReader == nil || m.lastReader.task != by {
-		m.lastReader = m.readers.tokens[by]
+		m.lastReader = m.readers.of(by)
 	}
 	return m.lastReader
 }

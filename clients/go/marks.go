@@ -22,7 +22,7 @@ func Before(token *Token) {
 func (t *Token) before(of *task, at *site) {
 	t.mutex.Lock()
 	defer t.mutex.Unlock()
-	if known := t.places.tokens[of]; known != nil {
+	if known := t.places.of(of); known != nil {
 		dropped(known)
 	}
 	t.places.put(markOf(of, telling, at))

@@ -1,6 +1,7 @@
 package itctrace
 
 import (
+	"runtime"
 	"sort"
 	"sync"
 	"sync/atomic"
@@ -442,8 +443,27 @@ func (of *task) know(from source, count int) {
 	of.knownSwept = len(of.known)
 }
 
+// holder has a token for something that may be no more one day. Nobody can take the token then.
+type holder struct {
+	token *token
+}
+
+func newHolder() *holder {
+	made := &holder{}
+	runtime.SetFinalizer(made, func(gone *holder) {
+		if gone.token != nil {
+			tracing.dropSoon(gone.token)
+		}
+	})
+	return made
+}
+
 // gathered has the last places of tasks, all of which somebody may come after.
 type gathered struct {
+	all *allPlaces
+}
+
+type allPlaces struct {
 	tokens map[*task]*token
 	swept  int
 	// keeper is a task of the tracer. It comes after the places of tasks that have ended, in place of each.
@@ -451,61 +471,77 @@ type gathered struct {
 	kept   *token
 }
 
-func (g *gathered) put(made *token) {
-	if g.tokens == nil {
-		g.tokens = map[*task]*token{}
+// of is the token of a task, if there is one.
+func (g *gathered) of(one *task) *token {
+	if g.all == nil {
+		return nil
 	}
-	g.tokens[made.task] = made
-	if len(g.tokens) > 2*g.swept+mostKnown {
-		g.sweep(made.what)
+	return g.all.tokens[one]
+}
+
+func (g *gathered) put(made *token) {
+	if g.all == nil {
+		g.all = &allPlaces{tokens: map[*task]*token{}}
+		runtime.SetFinalizer(g.all, func(gone *allPlaces) {
+			for _, one := range gone.tokens {
+				tracing.dropSoon(one)
+			}
+		})
+	}
+	g.all.tokens[made.task] = made
+	if len(g.all.tokens) > 2*g.all.swept+mostKnown {
+		g.all.sweep(made.what)
 	}
 }
 
 // sweep keeps the places of ended tasks by one token.
-func (g *gathered) sweep(called *what) {
-	for of, one := range g.tokens {
+func (a *allPlaces) sweep(called *what) {
+	for of, one := range a.tokens {
 		if !of.isEnded.Load() {
 			continue
 		}
-		if g.keeper == nil {
-			g.keeper = tracing.stranger("keeper")
+		if a.keeper == nil {
+			a.keeper = tracing.stranger("keeper")
 		}
-		g.keeper.take(one, nowhere)
-		delete(g.tokens, of)
+		a.keeper.take(one, nowhere)
+		delete(a.tokens, of)
 	}
-	if g.keeper != nil {
-		g.keeper.mutex.Lock()
-		if g.kept != nil {
-			g.keeper.drop(g.kept)
+	if a.keeper != nil {
+		a.keeper.mutex.Lock()
+		if a.kept != nil {
+			a.keeper.drop(a.kept)
 		}
-		g.kept = g.keeper.mark(called, nowhere)
-		g.keeper.mutex.Unlock()
+		a.kept = a.keeper.mark(called, nowhere)
+		a.keeper.mutex.Unlock()
 	}
-	g.swept = len(g.tokens)
+	a.swept = len(a.tokens)
 }
 
 // takeAll has the task come after all places.
 func (g *gathered) takeAll(by *task, at *site) {
-	if g.kept != nil {
-		by.take(g.kept, at)
+	if g.all == nil {
+		return
 	}
-	for _, one := range g.tokens {
+	if g.all.kept != nil {
+		by.take(g.all.kept, at)
+	}
+	for _, one := range g.all.tokens {
 		by.take(one, at)
 	}
 }
 
 // clear forgets all places.
 func (g *gathered) clear() {
-	for of, one := range g.tokens {
-		of.mutex.Lock()
-		of.drop(one)
-		of.mutex.Unlock()
+	if g.all != nil {
+		g.all.clear()
 	}
-	if g.kept != nil {
-		g.keeper.mutex.Lock()
-		g.keeper.drop(g.kept)
-		g.keeper.mutex.Unlock()
-		g.kept = nil
+}
+
+func (a *allPlaces) clear() {
+	for of, one := range a.tokens {
+		delete(a.tokens, of)
+		dropped(one)
 	}
-	g.tokens, g.swept = nil, 0
+	dropped(a.kept)
+	a.kept, a.swept = nil, 0
 }

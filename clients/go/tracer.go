@@ -20,6 +20,7 @@ const (
 	// mostHints is how many names that the program has given are known at most. Later ones have a number.
 	mostHints  = 8192
 	mostUnsent = 1 << 16
+	mostGone   = 1 << 10
 	// mostWaiting is how many reports are on their way before the program waits, and fewWaiting those at which it goes on.
 	mostWaiting = 40_000
 	fewWaiting  = 20_000
@@ -71,6 +72,8 @@ type tracer struct {
 	changed      chan struct{}
 	hurried      chan struct{}
 	sent         chan struct{}
+	goneMutex    sync.Mutex
+	gone         []*token
 	listMutex    sync.Mutex
 	listed       []*touches
 	mutex        sync.Mutex
@@ -282,6 +285,37 @@ func (t *tracer) list(one *touches) {
 	t.listed = append(t.listed, one)
 	t.listMutex.Unlock()
 	t.wake()
+}
+
+// dropSoon has a token be one that nobody can take any more. Many of them are dropped together, so that their task seldom waits.
+func (t *tracer) dropSoon(gone *token) {
+	t.goneMutex.Lock()
+	defer t.goneMutex.Unlock()
+	t.gone = append(t.gone, gone)
+	if len(t.gone) == mostGone {
+		t.wake()
+	}
+}
+
+func (t *tracer) dropGone() {
+	t.goneMutex.Lock()
+	gone := t.gone
+	t.gone = nil
+	t.goneMutex.Unlock()
+	var locked *task
+	for _, one := range gone {
+		if one.task != locked {
+			if locked != nil {
+				locked.mutex.Unlock()
+			}
+			locked = one.task
+			locked.mutex.Lock()
+		}
+		locked.drop(one)
+	}
+	if locked != nil {
+		locked.mutex.Unlock()
+	}
 }
 
 func (t *tracer) newMessage(called *what) *message {
@@ -602,11 +636,11 @@ func (t *tracer) hasSomething() bool {
 	return isListed || len(t.unsent) > 0 || len(t.unwritten) > 0
 }
 
-// lookAtAll reports places that nobody has come after for long, so that what was touched behind them is in the journal soon.
+// lookAtAll reports places that nobody has come after for long, if anything was touched behind them: it is in the journal soon then.
 func (t *tracer) lookAtAll() {
 	for _, one := range t.liveTasks() {
 		one.mutex.Lock()
-		if one.first != nil {
+		if one.first != nil && (one.first != one.last || one.sincePlace != nil) {
 			if one.first.age++; one.first.age >= oldAge {
 				one.leave()
 			}
@@ -620,6 +654,7 @@ func (t *tracer) lookAtAll() {
 
 // sendSome tells whether that was the last of it.
 func (t *tracer) sendSome() bool {
+	t.dropGone()
 	t.writeTouches()
 	t.mutex.Lock()
 	isDone := t.isClosing && len(t.outstanding) == 0 && len(t.unsent) == 0
