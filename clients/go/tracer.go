@@ -566,6 +566,14 @@ func (t *tracer) close() {
 	}
 }
 
+// endBy tells by what the process is about to end, and ends the trace.
+func (t *tracer) endBy(reason string) {
+	t.mutex.Lock()
+	t.unwritten = append(t.unwritten, unseenRow(causeKilled, reason)...)
+	t.mutex.Unlock()
+	Trace{}.End()
+}
+
 // giveUp ends tracing in the middle. The program goes on.
 func (t *tracer) giveUp(cause, reason string) {
 	t.mutex.Lock()

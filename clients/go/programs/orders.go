@@ -25,8 +25,8 @@ func init() {
 		"atomic_values":    atomicValues,
 		"map":              func() { sharedMap(false) },
 		"map_race":         func() { sharedMap(true) },
-		"signal":           func() { signal(false) },
-		"signal_race":      func() { signal(true) },
+		"signal":           func() { signalled(false) },
+		"signal_race":      func() { signalled(true) },
 		"choose":           func() { choose(false) },
 		"choose_race":      func() { choose(true) },
 		"choose_send":      func() { chooseSend(false) },
@@ -237,8 +237,8 @@ func sharedMap(isLate bool) {
 	})
 }
 
-// signal wakes by a condition without its lock.
-func signal(isLate bool) {
+// signalled wakes by a condition without its lock.
+func signalled(isLate bool) {
 	var lock itctrace.Mutex
 	woken := itctrace.NewCond(&lock)
 	isWaiting := make(chan bool)
