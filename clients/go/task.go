@@ -424,6 +424,7 @@ func (of *task) take(taken *token, at *site) {
 	of.mutex.Lock()
 	of.report(&report{kind: "recv", name: message.name, site: at, label: taken.what.taking, lock: lock})
 	of.mutex.Unlock()
+	runtime.KeepAlive(message) // Else it may be forgotten before its receipt is reported.
 	of.know(source{from, lock}, count)
 }
 
