@@ -56,8 +56,11 @@ OWN_LINES = {"java": ("executor",), "rust": ("scope", "rendezvous"),
 """Programs whose events each have a line of their own."""
 THINGS = {"odd_names": {ODD_THING}, "wait_group": {"first", "second"}, "context": {"stock", "prices"}, "scope": {"stock", "joined"}}
 """What they touch, if it is not the stock alone."""
-ODD_TASKS = ("a" * 12, "a" * 12 + "_2", "task", "task_2", "1_2", "root", "others_2")
-"""What the tasks of `odd_names` are called, behind the name of their process."""
+ODD_TASKS = ("task", "task_2", "1_2", "root", "others_2")
+"""What the tasks of `odd_names` are called, behind the name of their process and two that are cut."""
+OWN_NAME = "my-shop_1"
+FULL_NAMES = ("go",)
+"""Clients that tell the name of a process in full. The names of its threads begin with eight letters and digits of it."""
 PYTHON = """import itc_trace
 itc_trace.touch("row", across=True)  # race: across
 itc_trace.touch("row", write=True, across=True)  # race: across
@@ -243,17 +246,16 @@ def check_journal(programs: Programs) -> None:
     """The environment names tenant, process and journal. The journal has each event as the collector has it, with its line."""
     with Collector("shop") as collector, tempfile.TemporaryDirectory() as name:
         kept = written(name, "journal", "kept")
-        environment = {"ITC_TRACE_TENANT": "shop", "ITC_TRACE_PROCESS": "my-shop_1", "ITC_TRACE_JOURNAL": str(kept)}
+        environment = {"ITC_TRACE_TENANT": "shop", "ITC_TRACE_PROCESS": OWN_NAME, "ITC_TRACE_JOURNAL": str(kept)}
         rows: list[dict[str, Any]] = []
         for number, program in enumerate((*LINES, *OWN_LINES.get(programs.language, ())), 2):
-            process = "mysho" if number == 2 else f"mysho{number - 1}"
             subprocess.run(
                 programs.words(program), env={**os.environ, **environment, "ITC_TRACE_PORT": str(collector.port)}, check=True,
                 capture_output=True, timeout=MOST_SECONDS)
             *own, last = map(json.loads, Path(f"{kept}.{number}").read_text().splitlines())
             if last != {"end": True}:
-                raise Wrong(f"the journal of {process} ends with {last}")
-            check_names(program, process, own)
+                raise Wrong(f"the journal of {program} ends with {last}")
+            check_names(programs.language, program, number - 1, own)
             rows += own
         with Session("shop", collector.port, "view") as session:
             count = session.count()[0]
@@ -273,13 +275,19 @@ def check_events(rows: list[dict[str, Any]], told: dict[int, tuple[str, str]]) -
             raise Wrong(f"{row} is of {told[row['event']]}")
 
 
-def check_names(program: str, process: str, rows: list[dict[str, Any]]) -> None:
-    """What is touched, and by which task."""
+def check_names(language: str, program: str, start: int, rows: list[dict[str, Any]]) -> None:
+    """What is touched, and by which task. The process was started so many times."""
+    if language in FULL_NAMES:
+        process, prefix, room = (OWN_NAME if start == 1 else f"{OWN_NAME} {start}"), "myshop1_", 16
+    else:
+        process = "mysho" if start == 1 else f"mysho{start}"
+        prefix, room = f"{process}_", 12
     things = {row["thing"] for row in rows if row["thing"] is not None}
     if things != {f"{thing} of {process}" for thing in THINGS.get(program, {"stock"})}:
         raise Wrong(f"the journal of {process}, which is {program}, has {things}")
     tasks = [row["task"] for row in sorted(rows, key=lambda row: row["event"]) if row["thing"] is not None]
-    if program == "odd_names" and tasks != [f"{process}_{name}" for name in ODD_TASKS]:
+    second = "a" * room + "_2" if language not in FULL_NAMES else "a" * (room - 2) + "_2"
+    if program == "odd_names" and tasks != [f"{prefix}{name}" for name in ("a" * room, second, *ODD_TASKS)]:
         raise Wrong(f"the tasks of {program} are {tasks}")
 
 
@@ -287,7 +295,7 @@ def check_lines(programs: Programs, rows: list[dict[str, Any]]) -> None:
     """What the program's own lines do has that line. An end has none but by hand, and neither has what nobody calls."""
     source = programs.source.read_text().splitlines()
     for row in rows:
-        is_called = not row["label"].startswith("start process") and "_others" not in (row["label"][-7:], row["task"][-7:])
+        is_called = not row["label"].startswith(("start process", "take over")) and "_others" not in (row["label"][-7:], row["task"][-7:])
         is_there = row["file"] is not None and Path(row["file"]).name == programs.source.name and 0 < row["line"] <= len(source)
         if is_called != is_there and (row["label"], row["file"]) != ("end", None):
             raise Wrong(f"the line of {row}")

@@ -18,6 +18,11 @@ type cancelled struct {
 
 type cancelledKey struct{}
 
+var (
+	cancelling = &what{hint: "cancel", giving: "cancel", taking: "see that it is cancelled"}
+	afterwards = &what{hint: "after", giving: "wait for context", taking: "go on after context"}
+)
+
 // WithCancel gives a context that may be cancelled. Whoever sees by Done that it is cancelled comes after that. So does who sees it by a
 // context of this package below it, or by one that only adds a value. Another context of the language below it gives no order, since it
 // may have been done before.
@@ -53,7 +58,7 @@ func followed(parent context.Context, derived derive) (context.Context, context.
 		own.mutex.Lock()
 		defer own.mutex.Unlock()
 		if ctx.Err() == nil {
-			own.token = mark(what{hint: "cancel", giving: "cancel", taking: "see that it is cancelled"}, siteOf(1))
+			own.token = markedHere(cancelling)
 			cancel()
 			if parent.Err() != nil || ctx.Err() != context.Canceled {
 				own.token = nil // What is above, or the deadline, may have been faster.
@@ -62,11 +67,18 @@ func followed(parent context.Context, derived derive) (context.Context, context.
 	}
 }
 
+// markedHere makes a token for the place of this goroutine, at the line of the program that has called. It is nil without a trace.
+func markedHere(called *what) *token {
+	if !isOn() {
+		return nil
+	}
+	return markOf(own(numberNow()), called, siteAbove())
+}
+
 // AfterFunc calls the function in a goroutine of its own once the context is done. It comes after the call of AfterFunc, and after the
 // cancelling as with Done. What is given has it called no more, and tells whether that was in time.
 func AfterFunc(ctx context.Context, body func()) (stop func() bool) {
-	at := siteOf(1)
-	made := mark(what{hint: "after", giving: "wait for context", taking: "go on after context"}, at)
+	made, at := markedHere(afterwards), siteIfOn(0)
 	var isDecided atomic.Bool
 	stopped := make(chan struct{})
 	go func() {
@@ -75,10 +87,10 @@ func AfterFunc(ctx context.Context, body func()) (stop func() bool) {
 		case <-ctx.Done():
 			switch {
 			case !isDecided.CompareAndSwap(false, true):
-			case isOn():
-				as(tracing.stranger("after"), func() {
-					take(made, at)
-					seeDone(ctx, at)
+			case made != nil && isOn():
+				as(tracing.stranger(nameOf(body)), false, func() {
+					take(numberNow(), made, at)
+					seeDone(ctx, numberNow(), at)
 					body()
 				})
 			default:
@@ -89,6 +101,7 @@ func AfterFunc(ctx context.Context, body func()) (stop func() bool) {
 	return func() bool {
 		isStopped := ctx.Err() == nil && isDecided.CompareAndSwap(false, true)
 		if isStopped {
+			dropped(made)
 			close(stopped)
 		}
 		return isStopped
@@ -96,13 +109,16 @@ func AfterFunc(ctx context.Context, body func()) (stop func() bool) {
 }
 
 // Done waits until the context is done, and tells why.
+//
+//go:noinline
 func Done(ctx context.Context) error {
+	goroutine, counter := here()
 	<-ctx.Done()
-	return seeDone(ctx, siteOf(1))
+	return seeDone(ctx, goroutine, siteIfOn(counter))
 }
 
 // seeDone comes after the cancelling of the lowest context that was cancelled: the others above it came too late, or it before them.
-func seeDone(ctx context.Context, at site) error {
+func seeDone(ctx context.Context, goroutine uint64, at *site) error {
 	one, _ := ctx.Value(cancelledKey{}).(*cancelled)
 	if one == nil || one.done != ctx.Done() || ctx.Err() != context.Canceled {
 		return ctx.Err()
@@ -111,7 +127,7 @@ func seeDone(ctx context.Context, at site) error {
 	defer one.mutex.Unlock()
 	for ; one != nil; one = one.above {
 		if one.token != nil {
-			take(one.token, at)
+			take(goroutine, one.token, at)
 			break
 		}
 	}

@@ -2,75 +2,108 @@ package itctrace
 
 import (
 	"encoding/json"
-	"runtime"
+	"strconv"
 	"strings"
-	"sync"
-	"time"
+	"unicode/utf8"
 )
 
 // endRow is the last line of a journal whose process reported all that it noted.
 const endRow = "{\"end\":true}\n"
 
-// site is a line of the program.
-type site struct {
-	File     *string `json:"file"`
-	Line     int     `json:"line"`
-	Function string  `json:"function,omitempty"`
-}
+const (
+	causeFull      = "full"
+	causeCollector = "collector"
+	causeChild     = "child"
+	causeJournal   = "journal"
+	causeKilled    = "killed"
+	causeTracer    = "tracer"
+)
 
-// row is what the journal says of one event, or of one of the touches that an event stands for. A thing is what was touched. The time is
-// that of the event, in seconds since 1970. It is 0 if another row tells it.
+// row is what the journal says of one event, or of one of the touches that an event stands for. The time is that of the event, in seconds
+// since 1970. It is 0 if another row tells it.
 type row struct {
-	Event int     `json:"event"`
-	Time  float64 `json:"time,omitempty"`
-	Task  string  `json:"task"`
-	Thing *string `json:"thing"`
-	Kind  string  `json:"kind"`
-	site
-	Label string   `json:"label"`
-	Held  []string `json:"held,omitempty"`
-	Lock  string   `json:"lock,omitempty"`
+	event, part int
+	time        float64
+	task, kind  string
+	// thing is what was touched, if the row is of a touch.
+	thing   string
+	isTouch bool
+	site    *site
+	label   string
+	held    string
+	lock    string
+	// of is the task or the message that the report names. It is told of runs that may be divided into parts.
+	of string
 }
 
-// now is the time by the clock of this process, to a microsecond.
-func now() float64 { return float64(time.Now().UnixMicro()) / 1e6 }
-
-func (r row) text() string {
-	text, err := json.Marshal(r)
-	if err != nil {
-		panic(err) // A row has texts and numbers alone.
+func (r row) appendTo(text []byte) []byte {
+	text = strconv.AppendInt(append(text, `{"event":`...), int64(r.event), 10)
+	if r.part > 1 {
+		text = strconv.AppendInt(append(text, `,"part":`...), int64(r.part), 10)
 	}
-	return string(text) + "\n"
+	if r.time != 0 {
+		text = strconv.AppendFloat(append(text, `,"time":`...), r.time, 'f', 6, 64)
+	}
+	text = appendText(append(text, `,"task":`...), r.task)
+	if r.isTouch {
+		text = appendText(append(text, `,"thing":`...), r.thing)
+	} else {
+		text = append(text, `,"thing":null`...)
+	}
+	text = appendText(append(text, `,"kind":`...), r.kind)
+	if r.site == nil {
+		r.site = nowhere
+	}
+	text = append(text, r.site.text...)
+	text = appendText(append(text, `,"label":`...), r.label)
+	if r.held != "" {
+		text = append(text, `,"held":[`...)
+		for place, one := range strings.Split(r.held[1:], "\n") {
+			if place > 0 {
+				text = append(text, ',')
+			}
+			text = appendText(text, one)
+		}
+		text = append(text, ']')
+	}
+	if r.lock != "" {
+		text = appendText(append(text, `,"lock":`...), r.lock)
+	}
+	if r.of != "" {
+		text = appendText(append(text, `,"of":`...), r.of)
+	}
+	return append(text, "}\n"...)
+}
+
+// appendText adds a text as JSON.
+func appendText(to []byte, text string) []byte {
+	for place := 0; place < len(text); place++ {
+		if next := text[place]; next < ' ' || next == '"' || next == '\\' || next >= utf8.RuneSelf {
+			quoted, err := json.Marshal(text)
+			if err != nil {
+				panic(err) // A text is always one of JSON.
+			}
+			return append(to, quoted...)
+		}
+	}
+	return append(append(append(to, '"'), text...), '"')
 }
 
 // unseenRow is the line that says what was not seen, and why.
 func unseenRow(cause, reason string) string {
-	text, err := json.Marshal(map[string]string{"unseen": cause, "text": reason})
-	if err != nil {
-		panic(err)
-	}
-	return string(text) + "\n"
+	text := appendText([]byte(`{"unseen":`), cause)
+	text = appendText(append(text, `,"text":`...), reason)
+	return string(append(text, "}\n"...))
 }
 
-// sites has the line of each place in the program that was asked for. Two counters tell a place also where calls are inlined.
-var sites sync.Map
+// childRow says that a child process adds to this journal.
+func childRow(child, how string) string {
+	text := appendText([]byte(`{"child":`), child)
+	text = appendText(append(text, `,"begun":`...), how)
+	return string(append(text, "}\n"...))
+}
 
-// siteAbove is the line so many calls above the one that calls this.
-func siteAbove(calls int) site {
-	var counters [2]uintptr
-	count := runtime.Callers(calls+2, counters[:])
-	if known, isKnown := sites.Load(counters); isKnown {
-		return known.(site)
-	}
-	if count == 0 {
-		return site{}
-	}
-	frames := runtime.CallersFrames(counters[:count])
-	frame, hasMore := frames.Next()
-	for hasMore && strings.HasPrefix(frame.Function, "sync.") { // A condition calls the lock.
-		frame, hasMore = frames.Next()
-	}
-	found := site{&frame.File, frame.Line, frame.Function[strings.LastIndex(frame.Function, "/")+1:]}
-	sites.Store(counters, found)
-	return found
+// childEndRow is the last line of a child process that reported all that it noted.
+func childEndRow(child string) string {
+	return string(append(appendText([]byte(`{"child":`), child), ",\"ended\":true}\n"...))
 }

@@ -4,70 +4,103 @@ import (
 	"fmt"
 	"path/filepath"
 	"sync"
+	"sync/atomic"
 )
 
-// hand is what a lock hands over. It is named by the line that acquires it first.
+// lock is what tells a lock from others. It is named by the line that acquires it first.
+type lock struct {
+	name    string
+	release what
+	signal  what
+}
+
+func newLock(at *site) *lock {
+	called := "lock"
+	if at.file != nil {
+		called = fmt.Sprintf("lock (%s:%d)", filepath.Base(*at.file), at.line)
+	}
+	made := &lock{name: fmt.Sprintf("#%s%d %s", tracing.prefix, tracing.locks.Add(1), called)}
+	made.signal = what{hint: fmt.Sprintf("lock%d", at.line), giving: "release " + called, taking: "acquire " + called}
+	made.release = made.signal
+	made.release.lock = made
+	return made
+}
+
+// hand is what a lock hands over from one who held it alone to whoever acquires it next. It is looked at by whoever holds the lock alone.
 type hand struct {
-	mutex     sync.Mutex
-	name      string
-	release   what
-	holder    *task
-	byWriter  *token
-	byReaders []*token
+	lock   *lock
+	holder *task
+	// last has the token of the last release, which nobody can take any more once isTaken is true.
+	last    *holder
+	isTaken bool
 	// isSignal tells whether others wait for more than the lock, as for a condition. Then its hand-over is meant, and no luck.
-	isSignal bool
-	isShared bool
+	isSignal atomic.Bool
 }
 
-func (h *hand) acquired(isWriter bool, at site) {
-	if !isOn() {
-		return
+func (h *hand) known(at *site) *lock {
+	if h.lock == nil {
+		h.lock = newLock(at)
 	}
-	h.mutex.Lock()
-	defer h.mutex.Unlock()
-	by := own()
-	if h.name == "" {
-		told := "lock"
-		if at.File != nil {
-			told = fmt.Sprintf("lock (%s:%d)", filepath.Base(*at.File), at.Line)
-		}
-		h.name = tracing.lockName(told)
-		h.release = what{hint: fmt.Sprintf("lock%d", at.Line), giving: "release " + told, taking: "acquire " + told, lock: h.name}
-	}
-	takeBy(by, h.byWriter, at)
-	if isWriter {
-		for _, one := range h.byReaders {
-			takeBy(by, one, at)
-		}
-		h.byReaders, h.holder = nil, by
-	}
-	tracing.hold(by, h.name)
+	return h.lock
 }
 
-func (h *hand) releasing(isWriter bool, at site) {
-	if !isOn() {
-		return
+// acquire has the task come after who released the lock, and hold it.
+func (h *hand) acquire(by *task, at *site) {
+	acquired, given := h.known(at), h.given()
+	h.holder, h.isTaken = by, true
+	if given != nil && given.task != by {
+		by.take(given, at)
+		h.last.token, given = nil, nil
 	}
-	h.mutex.Lock()
-	defer h.mutex.Unlock()
-	by := own()
-	if isWriter && h.holder != nil && h.holder != by {
-		h.isSignal = true // A lock that another goroutine releases tells it something.
-		tracing.letGo(h.holder, h.name)
-	} else if tracing.letGo(by, h.name) {
-		h.isSignal = true // One that was acquired later stays, as in a lock made of two.
+	by.mutex.Lock()
+	if given != nil { // Nobody else can come after it any more.
+		by.drop(given)
 	}
-	called := h.release
-	called.isForOne = !isWriter || !h.isShared
-	if h.isSignal {
-		called.lock = ""
+	by.held = by.held.with(acquired)
+	by.mutex.Unlock()
+}
+
+// release has the task no longer hold the lock, which is handed over.
+func (h *hand) release(by *task, at *site) {
+	released := h.known(at)
+	if h.holder != nil && h.holder != by {
+		h.isSignal.Store(true) // A lock that another goroutine releases tells it something.
+		h.holder.letGo(released)
 	}
-	made := tracing.mark(by, called, at)
-	if isWriter {
-		h.byWriter, h.holder = made, nil
-	} else {
-		h.byReaders = append(h.byReaders, made)
+	h.holder = nil
+	by.mutex.Lock()
+	var isLaterHeld bool
+	if by.held, isLaterHeld = by.held.without(released); isLaterHeld {
+		h.isSignal.Store(true) // One that was acquired later stays, as in a lock made of two.
 	}
+	called := &released.release
+	if h.isSignal.Load() {
+		called = &released.signal
+	}
+	if h.last == nil {
+		h.last = newHolder()
+	}
+	if h.last.token == nil || h.last.token.task != by {
+		h.last.token = &token{task: by}
+	}
+	h.last.token.what, h.last.token.site = called, at
+	by.markBy(h.last.token)
+	by.mutex.Unlock()
+	h.isTaken = false
+}
+
+// given is the token of the last release, if somebody may still take it.
+func (h *hand) given() *token {
+	if h.last == nil || h.isTaken {
+		return nil
+	}
+	return h.last.token
+}
+
+func (of *task) letGo(released *lock) {
+	of.mutex.Lock()
+	defer of.mutex.Unlock()
+	of.held, _ = of.held.without(released)
 }
 
 // Mutex is a lock whose release comes before the next time that it is acquired. Its zero value is ready.
@@ -77,83 +110,302 @@ type Mutex struct {
 }
 
 // Lock acquires it.
+//
+//go:noinline
 func (m *Mutex) Lock() {
 	m.mutex.Lock()
-	m.hand.acquired(true, siteOf(1))
+	if goroutine, counter := here(); isOn() {
+		m.hand.acquire(own(goroutine), siteAt(counter))
+	}
 }
 
 // TryLock tells whether it could acquire it at once.
+//
+//go:noinline
 func (m *Mutex) TryLock() bool {
 	isLocked := m.mutex.TryLock()
-	if isLocked {
-		m.hand.acquired(true, siteOf(1))
+	if goroutine, counter := here(); isLocked && isOn() {
+		m.hand.acquire(own(goroutine), siteAt(counter))
 	}
 	return isLocked
 }
 
 // Unlock releases it.
+//
+//go:noinline
 func (m *Mutex) Unlock() {
-	m.hand.releasing(true, siteOf(1))
+	if goroutine, counter := here(); isOn() {
+		m.hand.release(own(goroutine), siteAt(counter))
+	}
 	m.mutex.Unlock()
 }
 
-// NewCond makes a condition of the lock. Whoever waits comes after the one who has signalled, by the lock.
-func NewCond(lock *Mutex) *sync.Cond {
-	lock.hand.mutex.Lock()
-	defer lock.hand.mutex.Unlock()
-	lock.hand.isSignal = true
-	return sync.NewCond(lock)
-}
+// becomeSignal has the hand-over of the lock be meant, as others wait for more than the lock.
+func (m *Mutex) becomeSignal() { m.hand.isSignal.Store(true) }
 
 // RWMutex is a lock that several goroutines may read under at once. They come after the last one that wrote, and before the next one.
 // Its zero value is ready.
 type RWMutex struct {
-	mutex sync.RWMutex
-	hand  hand
+	lock    sync.RWMutex
+	mutex   sync.Mutex
+	hand    hand
+	readers gathered
+	// lastReader is the token of the last one that read.
+	lastReader *token
+}
+
+func (m *RWMutex) acquired(by *task, at *site) {
+	m.mutex.Lock()
+	defer m.mutex.Unlock()
+	m.readers.takeAll(by, at)
+	m.readers.clear()
+	m.lastReader = nil
+	m.hand.acquire(by, at)
+}
+
+func (m *RWMutex) releasing(by *task, at *site) {
+	m.mutex.Lock()
+	defer m.mutex.Unlock()
+	m.hand.release(by, at)
+}
+
+func (m *RWMutex) reads(by *task, at *site) {
+	m.mutex.Lock()
+	defer m.mutex.Unlock()
+	acquired, own := m.hand.known(at), m.readerOf(by)
+	if given := m.hand.given(); given != nil {
+		by.take(given, at)
+	}
+	by.mutex.Lock()
+	if own != nil { // What this one has read is told by its next release, or by this one.
+		by.drop(own)
+	}
+	by.held = by.held.with(acquired)
+	by.mutex.Unlock()
+}
+
+func (m *RWMutex) readerOf(by *task) *token {
+	if m.lastReader == nil || m.lastReader.task != by {
+		m.lastReader = m.readers.of(by)
+	}
+	return m.lastReader
+}
+
+func (m *RWMutex) hasRead(by *task, at *site) {
+	m.mutex.Lock()
+	defer m.mutex.Unlock()
+	released, own := m.hand.known(at), m.readerOf(by)
+	by.mutex.Lock()
+	var isLaterHeld bool
+	if by.held, isLaterHeld = by.held.without(released); isLaterHeld {
+		m.hand.isSignal.Store(true)
+	}
+	made := own
+	if made == nil {
+		made = &token{task: by}
+	} else {
+		by.drop(made)
+	}
+	made.site, made.what = at, &released.release
+	if m.hand.isSignal.Load() {
+		made.what = &released.signal
+	}
+	by.markBy(made)
+	by.mutex.Unlock()
+	if own == nil {
+		m.readers.put(made)
+		m.lastReader = nil
+	}
 }
 
 // Lock acquires it for writing.
+//
+//go:noinline
 func (m *RWMutex) Lock() {
-	m.mutex.Lock()
-	m.hand.isShared = true
-	m.hand.acquired(true, siteOf(1))
+	m.lock.Lock()
+	if goroutine, counter := here(); isOn() {
+		m.acquired(own(goroutine), siteAt(counter))
+	}
 }
 
 // TryLock tells whether it could acquire it at once for writing.
+//
+//go:noinline
 func (m *RWMutex) TryLock() bool {
-	isLocked := m.mutex.TryLock()
-	if isLocked {
-		m.hand.isShared = true
-		m.hand.acquired(true, siteOf(1))
+	isLocked := m.lock.TryLock()
+	if goroutine, counter := here(); isLocked && isOn() {
+		m.acquired(own(goroutine), siteAt(counter))
 	}
 	return isLocked
 }
 
 // Unlock releases it after writing.
+//
+//go:noinline
 func (m *RWMutex) Unlock() {
-	m.hand.releasing(true, siteOf(1))
-	m.mutex.Unlock()
+	if goroutine, counter := here(); isOn() {
+		m.releasing(own(goroutine), siteAt(counter))
+	}
+	m.lock.Unlock()
 }
 
 // RLock acquires it for reading.
+//
+//go:noinline
 func (m *RWMutex) RLock() {
-	m.mutex.RLock()
-	m.hand.acquired(false, siteOf(1))
+	m.lock.RLock()
+	if goroutine, counter := here(); isOn() {
+		m.reads(own(goroutine), siteAt(counter))
+	}
 }
 
 // TryRLock tells whether it could acquire it at once for reading.
+//
+//go:noinline
 func (m *RWMutex) TryRLock() bool {
-	isLocked := m.mutex.TryRLock()
-	if isLocked {
-		m.hand.acquired(false, siteOf(1))
+	isLocked := m.lock.TryRLock()
+	if goroutine, counter := here(); isLocked && isOn() {
+		m.reads(own(goroutine), siteAt(counter))
 	}
 	return isLocked
 }
 
 // RUnlock releases it after reading.
+//
+//go:noinline
 func (m *RWMutex) RUnlock() {
-	m.hand.releasing(false, siteOf(1))
-	m.mutex.RUnlock()
+	if goroutine, counter := here(); isOn() {
+		m.hasRead(own(goroutine), siteAt(counter))
+	}
+	m.lock.RUnlock()
+}
+
+// RLocker gives a lock that is acquired for reading.
+func (m *RWMutex) RLocker() sync.Locker { return (*reading)(m) }
+
+type reading RWMutex
+
+//go:noinline
+func (r *reading) Lock() {
+	m := (*RWMutex)(r)
+	m.lock.RLock()
+	if goroutine, counter := here(); isOn() {
+		m.reads(own(goroutine), siteAt(counter))
+	}
+}
+
+//go:noinline
+func (r *reading) Unlock() {
+	m := (*RWMutex)(r)
+	if goroutine, counter := here(); isOn() {
+		m.hasRead(own(goroutine), siteAt(counter))
+	}
+	m.lock.RUnlock()
+}
+
+// Cond is a condition. Whoever waits comes after the one who has signalled, also if that one does not hold the lock.
+type Cond struct {
+	// L is held while the condition is looked at.
+	L       sync.Locker
+	mutex   sync.Mutex
+	waiting []chan *token
+}
+
+var signalling = &what{hint: "signal", giving: "signal", taking: "wake up"}
+
+// NewCond makes a condition of the lock.
+func NewCond(lock sync.Locker) *Cond {
+	if meant, canBeMeant := lock.(interface{ becomeSignal() }); canBeMeant {
+		meant.becomeSignal()
+	}
+	return &Cond{L: lock}
+}
+
+func (m *RWMutex) becomeSignal() { m.hand.isSignal.Store(true) }
+
+func (r *reading) becomeSignal() { (*RWMutex)(r).becomeSignal() }
+
+// Wait releases the lock, waits until somebody signals, and acquires the lock again.
+//
+//go:noinline
+func (c *Cond) Wait() {
+	goroutine, counter := here()
+	woken := make(chan *token, 1)
+	c.mutex.Lock()
+	c.waiting = append(c.waiting, woken)
+	c.mutex.Unlock()
+	c.L.Unlock()
+	given := <-woken
+	c.L.Lock()
+	if given != nil && isOn() {
+		own(goroutine).take(given, siteAt(counter))
+	}
+}
+
+// Signal wakes the one who has waited longest, if somebody waits.
+//
+//go:noinline
+func (c *Cond) Signal() {
+	goroutine, counter := here()
+	c.wake(1, goroutine, counter)
+}
+
+// Broadcast wakes all who wait.
+//
+//go:noinline
+func (c *Cond) Broadcast() {
+	goroutine, counter := here()
+	c.wake(-1, goroutine, counter)
+}
+
+func (c *Cond) wake(most int, goroutine uint64, counter uintptr) {
+	c.mutex.Lock()
+	defer c.mutex.Unlock()
+	if most < 0 || most > len(c.waiting) {
+		most = len(c.waiting)
+	}
+	if most == 0 {
+		return
+	}
+	var given *token
+	if isOn() {
+		given = markOf(own(goroutine), signalling, siteAt(counter))
+	}
+	for _, woken := range c.waiting[:most] {
+		woken <- given
+	}
+	c.waiting = append([]chan *token(nil), c.waiting[most:]...)
+}
+
+// markOf makes a token for the place where the task is.
+func markOf(of *task, called *what, at *site) *token {
+	of.mutex.Lock()
+	defer of.mutex.Unlock()
+	return of.mark(called, at)
+}
+
+// marked is the same for the goroutine that here has told of. It is nil without a trace.
+func marked(goroutine uint64, called *what, at *site) *token {
+	if !isOn() {
+		return nil
+	}
+	return markOf(own(goroutine), called, at)
+}
+
+// take has the goroutine come after the token's place, if there is a trace.
+func take(goroutine uint64, taken *token, at *site) {
+	if taken != nil && isOn() {
+		own(goroutine).take(taken, at)
+	}
+}
+
+// dropped has a token be one that nobody can take any more.
+func dropped(gone *token) {
+	if gone != nil && isOn() {
+		gone.task.mutex.Lock()
+		gone.task.drop(gone)
+		gone.task.mutex.Unlock()
+	}
 }
 
 // WaitGroup waits for goroutines. Whoever has waited comes after all that are done. Its zero value is ready.
@@ -161,38 +413,52 @@ type WaitGroup struct {
 	group    sync.WaitGroup
 	mutex    sync.Mutex
 	count    int
-	tokens   []*token
+	done     gathered
 	isWaited bool
 }
 
+var doing = &what{hint: "done", giving: "done", taking: "all are done"}
+
 // Add adds to the count of those that are waited for.
-func (w *WaitGroup) Add(count int) { w.add(count, siteOf(1)) }
+//
+//go:noinline
+func (w *WaitGroup) Add(count int) {
+	goroutine, counter := here()
+	w.add(count, goroutine, counter)
+}
 
 // Done counts one that is done.
-func (w *WaitGroup) Done() { w.add(-1, siteOf(1)) }
+//
+//go:noinline
+func (w *WaitGroup) Done() {
+	goroutine, counter := here()
+	w.add(-1, goroutine, counter)
+}
 
-func (w *WaitGroup) add(count int, at site) {
+func (w *WaitGroup) add(count int, goroutine uint64, counter uintptr) {
 	w.mutex.Lock()
 	if w.count == 0 && w.isWaited {
-		w.tokens, w.isWaited = nil, false // All who waited for the ones before have returned.
+		w.done.clear() // All who waited for the ones before have returned.
+		w.isWaited = false
 	}
 	w.count += count
-	if count < 0 {
-		if made := mark(what{hint: "done", giving: "done", taking: "all are done"}, at); made != nil {
-			w.tokens = append(w.tokens, made)
-		}
+	if count < 0 && isOn() {
+		w.done.put(markOf(own(goroutine), doing, siteAt(counter)))
 	}
 	w.mutex.Unlock()
 	w.group.Add(count)
 }
 
 // Wait waits until all are done.
+//
+//go:noinline
 func (w *WaitGroup) Wait() {
+	goroutine, counter := here()
 	w.group.Wait()
 	w.mutex.Lock()
 	defer w.mutex.Unlock()
 	w.isWaited = true
-	for _, one := range w.tokens {
-		take(one, siteOf(1))
+	if isOn() {
+		w.done.takeAll(own(goroutine), siteAt(counter))
 	}
 }

@@ -43,20 +43,23 @@ func answer(door net.Listener) {
 	}
 }
 
-// isEarly tells whether a goroutine that has prepared is done with the act while nothing can be reported.
-func isEarly(prepare, act func(), isDone func() bool) bool {
-	isReady, begin, ended := make(chan bool), make(chan bool), make(chan bool)
+// isEarly tells whether a goroutine that has prepared is done with the act while its task can note nothing, or that of a routine.
+func isEarly(routine *Routine, prepare, act func(), isDone func() bool) bool {
+	isReady, begin, ended := make(chan *task), make(chan bool), make(chan bool)
 	go func() {
 		prepare()
-		close(isReady)
+		isReady <- own(numberOf())
 		<-begin
 		act()
 		close(ended)
 	}()
-	<-isReady
+	of := <-isReady
+	if routine != nil {
+		of = routine.task
+	}
 	defer func() { <-ended }()
-	tracing.mutex.Lock()
-	defer tracing.mutex.Unlock()
+	of.mutex.Lock()
+	defer of.mutex.Unlock()
 	close(begin)
 	for begun := time.Now(); time.Since(begun) < longEnough; time.Sleep(time.Millisecond) {
 		if isDone() {
@@ -103,18 +106,19 @@ func TestReportsComeFirst(t *testing.T) {
 		close(isDone)
 	}()
 	for name, one := range map[string]struct {
+		routine      *Routine
 		prepare, act func()
 		isDone       func() bool
 	}{
-		"Mutex.Unlock":    {lock.Lock, lock.Unlock, isFree(lock.mutex.TryLock, lock.mutex.Unlock)},
-		"RWMutex.Unlock":  {readLock.Lock, readLock.Unlock, isFree(readLock.mutex.TryRLock, readLock.mutex.RUnlock)},
-		"RWMutex.RUnlock": {readLock.RLock, readLock.RUnlock, isFree(readLock.mutex.TryLock, readLock.mutex.Unlock)},
-		"WaitGroup.Done":  {func() {}, group.Done, isClosed(isDone)},
-		"Chan.Close":      {func() {}, channel.Close, isClosed(channel.items)},
-		"cancel":          {func() {}, cancel, isClosed(ctx.Done())},
-		"the end of Go":   {func() {}, func() { close(end) }, isClosed(routine.done)},
+		"Mutex.Unlock":    {nil, lock.Lock, lock.Unlock, isFree(lock.mutex.TryLock, lock.mutex.Unlock)},
+		"RWMutex.Unlock":  {nil, readLock.Lock, readLock.Unlock, isFree(readLock.lock.TryRLock, readLock.lock.RUnlock)},
+		"RWMutex.RUnlock": {nil, readLock.RLock, readLock.RUnlock, isFree(readLock.lock.TryLock, readLock.lock.Unlock)},
+		"WaitGroup.Done":  {nil, func() {}, group.Done, isClosed(isDone)},
+		"Chan.Close":      {nil, func() {}, channel.Close, isClosed(channel.items)},
+		"cancel":          {nil, func() {}, cancel, isClosed(ctx.Done())},
+		"the end of Go":   {routine, func() {}, func() { close(end) }, isClosed(routine.done)},
 	} {
-		if isEarly(one.prepare, one.act, one.isDone) {
+		if isEarly(one.routine, one.prepare, one.act, one.isDone) {
 			t.Errorf("%s is done before it is reported", name)
 		}
 	}

@@ -2,10 +2,10 @@ package itctrace
 
 import (
 	"errors"
-	"fmt"
 	"io"
 	"os"
 	"sync"
+	"time"
 )
 
 const taskExists = 402
@@ -16,6 +16,7 @@ const taskExists = 402
 type Reporter struct {
 	// Task is the task of this process, and the first part of the names of its other tasks.
 	Task    string
+	process string
 	session *Session
 	mutex   sync.Mutex
 	journal *os.File
@@ -28,7 +29,7 @@ func FromEnvironment() (*Reporter, error) {
 		return nil, err
 	}
 	reporter := &Reporter{}
-	if reporter.journal, err = environment.freshJournal(); err != nil {
+	if reporter.journal, _, err = environment.freshJournal(); err != nil {
 		return nil, err
 	}
 	if reporter.session, err = Open("report", environment.tenant, environment.port); err != nil {
@@ -43,10 +44,7 @@ func FromEnvironment() (*Reporter, error) {
 
 func (r *Reporter) begin(name string) error {
 	for number := 1; ; number++ {
-		tried := name
-		if number > 1 {
-			tried = fmt.Sprintf("%s%d", name, number)
-		}
+		tried := numbered(taskOf(name), number, mostName)
 		event, err := r.session.Spawn("root", tried)
 		var refused Refused
 		if errors.As(err, &refused) && refused.Code == taskExists {
@@ -55,17 +53,17 @@ func (r *Reporter) begin(name string) error {
 		if err != nil {
 			return err
 		}
-		r.Task = tried
-		return r.write(row{Event: event, Time: now(), Task: "root", Kind: "spawn", Label: "start process " + tried})
+		r.Task, r.process = tried, processOf(name, number)
+		return r.write(row{event: event, time: now(), task: "root", kind: "spawn", label: "start process " + tried})
 	}
 }
 
 // Name gives the name of another task of this process, as of a goroutine.
-func (r *Reporter) Name(of string) string { return r.Task + "_" + of }
+func (r *Reporter) Name(of string) string { return tagOf(r.Task) + "_" + of }
 
 // Touch reports that the task reads or writes the thing, which is of this process, at the line that calls this.
 func (r *Reporter) Touch(task, thing string, writes bool) (int, error) {
-	return r.touch(task, thing+" of "+r.Task, writes)
+	return r.touch(task, thing+" of "+r.process, writes)
 }
 
 // TouchAcross is the same of a thing that all processes call by this name, as a file.
@@ -78,44 +76,44 @@ func (r *Reporter) touch(task, thing string, writes bool) (int, error) {
 	if writes {
 		kind = "write"
 	}
-	told := row{Time: now(), Task: task, Thing: &thing, Kind: kind, Label: kind + " " + thing}
+	told := row{time: now(), task: task, thing: thing, isTouch: true, kind: kind, label: kind + " " + thing}
 	event, err := r.session.Local(task)
-	return r.at(event, err, told, 3)
+	return r.at(event, err, told)
 }
 
 // Spawn reports that the task starts another.
 func (r *Reporter) Spawn(task, child string) (int, error) {
-	told := row{Time: now(), Task: task, Kind: "spawn", Label: "start " + child}
+	told := row{time: now(), task: task, kind: "spawn", label: "start " + child}
 	event, err := r.session.Spawn(task, child)
-	return r.at(event, err, told, 2)
+	return r.at(event, err, told)
 }
 
 // Send reports that the task sends a message.
 func (r *Reporter) Send(task, message string) (int, error) {
-	told := row{Time: now(), Task: task, Kind: "send", Label: "send " + message}
+	told := row{time: now(), task: task, kind: "send", label: "send " + message}
 	event, err := r.session.Send(task, message)
-	return r.at(event, err, told, 2)
+	return r.at(event, err, told)
 }
 
 // Recv reports that the task has received a message.
 func (r *Reporter) Recv(task, message string) (int, error) {
-	told := row{Time: now(), Task: task, Kind: "recv", Label: "receive " + message}
+	told := row{time: now(), task: task, kind: "recv", label: "receive " + message}
 	event, err := r.session.Recv(task, message)
-	return r.at(event, err, told, 2)
+	return r.at(event, err, told)
 }
 
 // End reports that the task ends.
 func (r *Reporter) End(task string) (int, error) {
-	told := row{Time: now(), Task: task, Kind: "end", Label: "end"}
+	told := row{time: now(), task: task, kind: "end", label: "end"}
 	event, err := r.session.End(task)
-	return r.at(event, err, told, 2)
+	return r.at(event, err, told)
 }
 
 // Join reports that the task takes in the ended task.
 func (r *Reporter) Join(task, child string) (int, error) {
-	told := row{Time: now(), Task: task, Kind: "join", Label: "join " + child}
+	told := row{time: now(), task: task, kind: "join", label: "join " + child}
 	event, err := r.session.Join(task, child)
-	return r.at(event, err, told, 2)
+	return r.at(event, err, told)
 }
 
 // Close ends the session. The journal says that all was reported.
@@ -131,12 +129,12 @@ func (r *Reporter) Close() error {
 	return r.session.Close()
 }
 
-// at writes the row of an event at the line so many calls above.
-func (r *Reporter) at(event int, err error, told row, above int) (int, error) {
+// at writes the row of an event at the line of the program that has called.
+func (r *Reporter) at(event int, err error, told row) (int, error) {
 	if err != nil {
 		return 0, err
 	}
-	told.Event, told.site = event, siteAbove(above)
+	told.event, told.site = event, siteAbove()
 	return event, r.write(told)
 }
 
@@ -146,6 +144,9 @@ func (r *Reporter) write(told row) error {
 	}
 	r.mutex.Lock()
 	defer r.mutex.Unlock()
-	_, err := io.WriteString(r.journal, told.text())
+	_, err := r.journal.Write(told.appendTo(nil))
 	return err
 }
+
+// now is the time by the clock of this process, in seconds since 1970.
+func now() float64 { return float64(time.Now().UnixMicro()) / 1e6 }

@@ -1,23 +1,31 @@
 package itctrace
 
 import (
-	"bytes"
-	"context"
 	"fmt"
 	"os"
-	"runtime"
-	"runtime/pprof"
-	"strconv"
 	"sync"
+	"sync/atomic"
+	"time"
 )
 
-// label is the label of pprof that names the task of a goroutine.
-const label = "task"
+const (
+	// notBegun is before the first call of this package.
+	notBegun = iota
+	isUntraced
+	isTracing
+	// isEnded is after End: what is noted from then on is not seen.
+	isEnded
+)
+
+// grace is how long a goroutine waits that goes on after End, before that is told. The process ends within this time if main has ended.
+const grace = time.Second
 
 var (
 	tracing *tracer
 	begun   sync.Once
-	current sync.Map // The task of each goroutine, by the goroutine's number.
+	phase   atomic.Int32
+	endedBy atomic.Uint64
+	late    sync.Once
 )
 
 // Trace is the trace of this process.
@@ -25,55 +33,129 @@ type Trace struct{}
 
 // Begin begins to report where the environment says. If it names no port, nothing is reported. The trace may end before the program
 // does, as when it is full. Then one line on standard error says so, and the program goes on. `defer itctrace.Begin().End()` at the
-// beginning of main is all that is needed.
+// beginning of main is all that is needed. The first other call of this package begins by itself.
 func Begin() Trace {
 	begun.Do(func() {
 		environment, err := readEnvironment()
+		var made *tracer
 		if err == nil && environment != nil {
-			tracing, err = newTracer(environment)
+			lookWhereWeAre()
+			made, err = newTracer(environment)
 		}
 		if err != nil {
 			fmt.Fprintf(os.Stderr, "itc_trace: nothing is traced: %v\n", err)
-		} else if tracing != nil {
-			current.Store(goroutine(), tracing.main)
 		}
+		if made == nil {
+			phase.Store(isUntraced)
+			return
+		}
+		tracing = made
+		become(numberOf(), tracing.main)
+		tracing.start()
+		phase.Store(isTracing)
 	})
 	return Trace{}
 }
 
-// End reports what was noted, and writes the journal's last line.
+// End reports what was noted, and writes the journal's last line. What the program does afterwards is not seen: if it goes on, one line
+// says so, and the run counts as not seen whole.
 func (Trace) End() {
-	if tracing != nil {
+	if phase.CompareAndSwap(isTracing, isEnded) {
+		endedBy.Store(numberOf())
+		time.Sleep(rest) // Whoever is about to note something is done then.
 		tracing.close()
 	}
 }
 
-// Touch notes that this goroutine reads or writes the thing, which is of this process, at the line that calls this.
-func Touch(thing string, writes bool) {
+// Exit ends the trace and the process, as os.Exit does without the trace.
+func Exit(status int) {
+	Begin().End()
+	os.Exit(status)
+}
+
+// Flush waits until what was noted by now is in the journal. It is for a program that may be about to end by other means than End.
+func Flush() {
 	if isOn() {
-		tracing.touch(own(), thing, writes, false, siteAbove(1))
+		tracing.flush(answerWait)
+	}
+}
+
+func isOn() bool { return phase.Load() == isTracing || isOnAfterAll() }
+
+func isOnAfterAll() bool {
+	switch phase.Load() {
+	case notBegun:
+		Begin()
+		return phase.Load() == isTracing
+	case isEnded:
+		tellLate(siteAbove())
+	}
+	return false
+}
+
+// tellLate tells that the trace has ended before the program. If another goroutine than the one that called End goes on, it waits first:
+// the process may be about to end, which ends this goroutine, too.
+func tellLate(at *site) {
+	if numberOf() != endedBy.Load() {
+		time.Sleep(grace)
+	}
+	late.Do(func() {
+		where := ""
+		if at.file != nil {
+			where = fmt.Sprintf(", from %s:%d on", *at.file, at.line)
+		}
+		reason := "the trace ended before the program" + where + ": let main begin with defer itctrace.Begin().End()"
+		fmt.Fprintf(os.Stderr, "itc_trace: %s\n", reason)
+		if tracing.journal != nil {
+			tracing.journal.WriteString(unseenRow(causeTracer, reason))
+		}
+		phase.Store(isUntraced)
+	})
+}
+
+// Touch notes that this goroutine reads or writes the thing, which is of this process, at the line that calls this.
+//
+//go:noinline
+func Touch(thing string, writes bool) {
+	if goroutine, counter := here(); isOn() {
+		own(goroutine).touch(touch{thing: thing, site: siteAt(counter), writes: writes})
 	}
 }
 
 // TouchAcross is the same of a thing that all processes call by this name, as a file.
+//
+//go:noinline
 func TouchAcross(thing string, writes bool) {
-	if isOn() {
-		tracing.touch(own(), thing, writes, true, siteAbove(1))
+	if goroutine, counter := here(); isOn() {
+		own(goroutine).touch(touch{thing: thing, site: siteAt(counter), writes: writes, isAcross: true})
 	}
 }
 
 // Outgoing gives the name of a new message from here, or none without a trace: hand it to another process, which calls Incoming with it.
+//
+//go:noinline
 func Outgoing() string {
+	goroutine, counter := here()
 	if !isOn() {
 		return ""
 	}
-	return tracing.outgoing(own(), siteAbove(1))
+	return outgoing(own(goroutine), siteAt(counter))
+}
+
+func outgoing(of *task, at *site) string {
+	named := tracing.outside()
+	if !tracing.outgoing(of, named, at) {
+		return ""
+	}
+	return named
 }
 
 // Incoming has this goroutine come after the place where the message was sent. What is no message is passed over.
+//
+//go:noinline
 func Incoming(message string) {
-	if isOn() && isName(message) {
-		tracing.incoming(own(), message, siteAbove(1))
+	if goroutine, counter := here(); isOn() && isName(message) {
+		tracing.incoming(own(goroutine), message, siteAt(counter))
 	}
 }
 
@@ -84,119 +166,4 @@ func isName(message string) bool {
 		}
 	}
 	return message != "" && len(message) <= mostName
-}
-
-func isOn() bool { return tracing != nil && !tracing.isOver.Load() }
-
-// goroutine is the number of the goroutine that calls this, which no other one ever has. The head of a stack tells it.
-func goroutine() int {
-	var head [64]byte
-	words := bytes.Fields(head[:runtime.Stack(head[:], false)])
-	number, err := strconv.Atoi(string(words[1]))
-	if err != nil {
-		panic("itctrace: a stack begins with no number of a goroutine")
-	}
-	return number
-}
-
-// own is the task of this goroutine.
-func own() *task {
-	number := goroutine()
-	if known, isKnown := current.Load(number); isKnown {
-		return known.(*task)
-	}
-	made := tracing.stranger("goroutine")
-	current.Store(number, made)
-	return made
-}
-
-// as does this as the task, which ends with it.
-func as(made *task, body func()) {
-	number := goroutine()
-	before, wasKnown := current.Load(number)
-	current.Store(number, made)
-	defer func() {
-		if isOn() {
-			tracing.end(made)
-		}
-		if wasKnown {
-			current.Store(number, before)
-		} else {
-			current.Delete(number)
-		}
-	}()
-	body()
-}
-
-// Routine is a goroutine whose start and end are reported.
-type Routine struct {
-	task *task
-	done chan struct{}
-}
-
-// Go starts a goroutine, which comes after what its starter did before. Its task is named by the label "task" that pprof has in the
-// context, and has this label itself.
-func Go(ctx context.Context, body func(ctx context.Context)) *Routine {
-	routine := &Routine{done: make(chan struct{})}
-	if !isOn() {
-		go func() {
-			defer close(routine.done)
-			body(ctx)
-		}()
-		return routine
-	}
-	parent := own()
-	hint, isNamed := pprof.Label(ctx, label)
-	if !isNamed || hint == parent.name {
-		hint = "go"
-	}
-	routine.task = tracing.spawn(parent, hint, siteAbove(1))
-	go func() {
-		defer close(routine.done)
-		pprof.Do(ctx, pprof.Labels(label, routine.task.name), func(ctx context.Context) {
-			as(routine.task, func() { body(ctx) })
-		})
-	}()
-	return routine
-}
-
-// Named gives a context by which the next goroutine is named.
-func Named(ctx context.Context, name string) context.Context {
-	return pprof.WithLabels(ctx, pprof.Labels(label, name))
-}
-
-// Wait waits for the end of the goroutine, and comes after it.
-func (r *Routine) Wait() {
-	<-r.done
-	if r.task != nil && isOn() {
-		tracing.join(own(), r.task, siteAbove(1))
-	}
-}
-
-// mark makes a place in this goroutine that somebody may come after. It is nil without a trace.
-func mark(called what, at site) *token {
-	if !isOn() {
-		return nil
-	}
-	return tracing.mark(own(), called, at)
-}
-
-func take(taken *token, at site) {
-	if taken != nil && isOn() {
-		takeBy(own(), taken, at)
-	}
-}
-
-// takeBy does so for this goroutine, if its task is known.
-func takeBy(by *task, taken *token, at site) {
-	if taken != nil {
-		tracing.take(by, taken, at)
-	}
-}
-
-func siteOf(calls int) site {
-	if !isOn() {
-		return site{}
-	}
-	return siteAbove(calls + 1)
 }

@@ -2,10 +2,12 @@ package itctrace
 
 import (
 	"bufio"
+	"bytes"
 	"fmt"
 	"io"
 	"net"
 	"os"
+	"runtime"
 	"strconv"
 	"strings"
 	"sync"
@@ -14,96 +16,78 @@ import (
 )
 
 const (
-	mostEvents  = 16384
-	mostName    = 24
-	mostDigits  = 6
-	rest        = 10 * time.Millisecond
+	mostEvents = 16384
+	// mostHints is how many names that the program has given are known at most. Later ones have a number.
+	mostHints  = 8192
+	mostUnsent = 1 << 16
+	mostGone   = 1 << 10
+	// mostWaiting is how many reports are on their way before the program waits, and fewWaiting those at which it goes on.
+	mostWaiting = 40_000
+	fewWaiting  = 20_000
+	// mostMessages is how many messages are kept before it is looked which of them nobody can receive any more.
+	mostMessages = 6_000
+	rest         = 2 * time.Millisecond
+	// oldAge is after how many looks at all tasks a place is reported that nobody has come after.
+	oldAge      = 2
+	lookAgain   = time.Second
 	answerWait  = 10 * time.Second
 	endWait     = 60 * time.Second
 	goneMessage = "the collector is gone"
 )
 
-// task is the events of one goroutine, in their order. It is looked at with the tracer's mutex held.
-type task struct {
-	name string
-	// held has the locks that it holds, in the order of their acquiring. It is never changed in place.
-	held []string
-	// pending has the places behind the last event that somebody may come after. They become messages before the task goes on.
-	pending []*token
-	// touches is the last event, if it stands for touches.
-	touches  *touches
-	end      *token
-	joinedBy *task
-}
-
-// what an order is called: its message, its sending and its receiving. A lock that only luck hands over is named.
-type what struct {
-	hint, giving, taking, lock string
-	isForOne                   bool
-}
-
-// token is a place in a task, behind the events that it had when the token was made. Whoever takes it comes after these.
-type token struct {
-	task    *task
-	what    what
-	site    site
-	time    float64
-	message *message
-}
-
-type message struct {
-	name   string
-	takers map[*task]bool
-}
-
-// touches is an event that stands for all that its task touches up to its next event. Each touch is told once.
-type touches struct {
-	event    int
-	isClosed bool
-	seen     map[touch]bool
-	fresh    []row
-}
-
-// touch is what tells one touch of a task from the others.
-type touch struct {
-	thing            string
-	writes, isAcross bool
-	file             *string
-	line             int
-	held             string
-}
-
-// report is on its way.
+// report is on its way. Its name is that of a task or a message, if it has one.
 type report struct {
-	request      string
-	row          row
-	touches      *touches
-	mayBeRefused bool
-	answered     chan struct{}
+	kind, task, name string
+	time             float64
+	site             *site
+	label            string
+	lock             *lock
+	touches          *touches
+	mayBeRefused     bool
+	answered         chan struct{}
 }
 
 // tracer reports for one process to one tenant. The program's goroutines only add to what is to be sent. A goroutine of the tracer sends
 // it and writes the journal, and another one reads the replies.
 type tracer struct {
-	isOver       atomic.Bool
+	begun        time.Time
 	main, others *task
+	// process is what the process is called in full, and tag what its tasks begin with if that is free.
+	process, tag string
 	connection   net.Conn
 	replies      *bufio.Reader
 	journal      *os.File
+	hasParts     bool
+	parent       *parentProcess
+	strangers    strangers
+	tasksMutex   sync.Mutex
+	tasks        map[*task]bool
+	locks        atomic.Int64
+	children     atomic.Int64
+	isOver       atomic.Bool
+	waiting      atomic.Int64
+	messages     atomic.Int64
+	live         atomic.Int64
+	isIdle       atomic.Bool
 	changed      chan struct{}
+	hurried      chan struct{}
 	sent         chan struct{}
-
-	mutex       sync.Mutex
-	prefix      string
-	names       map[string]int
-	unsent      strings.Builder
-	unwritten   strings.Builder
-	outstanding []report
-	growing     []*touches
-	reports     int
-	messages    int
-	locks       int
-	isClosing   bool
+	goneMutex    sync.Mutex
+	gone         []*token
+	listMutex    sync.Mutex
+	listed       []*touches
+	mutex        sync.Mutex
+	prefix       string
+	names        map[string]int
+	unsent       []byte
+	unwritten    []byte
+	outstanding  []*report
+	forgotten    []string
+	left         []string
+	reports      int
+	isClosing    bool
+	// lastRow is the last line of the journal, once it is known which.
+	lastRow string
 }
 
 func newTracer(from *environment) (*tracer, error) {
@@ -112,46 +96,120 @@ func newTracer(from *environment) (*tracer, error) {
 		return nil, err
 	}
 	t := &tracer{
-		connection: connection, replies: bufio.NewReader(connection), names: map[string]int{},
-		changed: make(chan struct{}, 1), sent: make(chan struct{}),
+		begun: time.Now(), connection: connection, replies: bufio.NewReaderSize(connection, mostUnsent), names: map[string]int{},
+		hasParts: from.hasParts, tasks: map[*task]bool{}, strangers: strangers{known: map[uint64]bool{}, limit: manyStrangers},
+		changed: make(chan struct{}, 1), hurried: make(chan struct{}, 1), sent: make(chan struct{}),
 	}
 	if err = t.begin(from); err != nil {
 		connection.Close()
 		return nil, err
 	}
-	t.others = t.spawn(t.main, "others", site{})
-	go t.sendAll()
-	go t.readAll()
 	return t, nil
 }
 
-// begin takes a task of its own under root, in a trace that others report to as well.
+// now is the time by the clock of this process, in seconds since 1970.
+func (t *tracer) now() float64 {
+	return float64(t.begun.UnixMicro()+time.Since(t.begun).Microseconds()) / 1e6
+}
+
+// begin takes a task of its own in a trace that others report to as well, and a first part for the names of all its tasks.
 func (t *tracer) begin(from *environment) error {
-	count, err := t.ask("report " + from.tenant + "\ncount")
-	if err == nil && !strings.HasPrefix(count, "200 ") {
-		err = fmt.Errorf("tenant %s at port %d: %s", from.tenant, from.port, count)
+	opening := "report " + from.tenant
+	if t.hasParts {
+		opening += "\nparts"
 	}
-	for number := 1; err == nil && t.main == nil; number++ {
-		tried := from.process
-		if number > 1 {
-			tried = fmt.Sprintf("%s%d", from.process, number)
-		}
-		var reply string
-		if reply, err = t.ask("spawn root " + tried); err != nil {
-			break
-		}
-		if event := eventOf(reply); event > 0 {
-			t.main, t.prefix = &task{name: tried}, tried+"_"
-			told := row{Event: event, Time: now(), Task: "root", Kind: "spawn", Label: "start process " + tried}
-			t.unwritten.WriteString(told.text())
-		} else if !strings.HasPrefix(reply, "402") {
-			err = fmt.Errorf("spawn root %s: %s", tried, reply)
-		}
+	count, err := t.ask(opening + "\ncount")
+	if err != nil {
+		return err
+	}
+	if !strings.HasPrefix(count, "200 ") {
+		return fmt.Errorf("tenant %s at port %d: %s", from.tenant, from.port, count)
+	}
+	var earlier []string
+	if t.parent = readParent(); t.parent != nil {
+		err = t.beginAsChild(from)
+	} else if t.journal, earlier, err = from.freshJournal(); err == nil {
+		err = t.spawnMain(from.process)
 	}
 	if err == nil {
-		t.journal, err = from.freshJournal()
+		err = t.spawnOthers()
+	}
+	if err == nil {
+		err = t.comeAfter(earlier)
+	}
+	if err == nil {
+		t.listenToChildren(from)
 	}
 	return err
+}
+
+func (t *tracer) spawnMain(process string) error {
+	for number := 1; ; number++ {
+		tried := numbered(taskOf(process), number, mostName)
+		isTaken, err := t.spawnFirst("root", tried, "start process "+tried)
+		if err != nil {
+			return err
+		}
+		if !isTaken {
+			t.main, t.process, t.tag = newTask(tried), processOf(process, number), tagOf(process)
+			return nil
+		}
+	}
+}
+
+// processOf is what a process is called that was started so many times.
+func processOf(name string, number int) string {
+	if number > 1 {
+		return fmt.Sprintf("%s %d", name, number)
+	}
+	return name
+}
+
+// spawnOthers starts the task that all goroutines are of that nobody was seen to start. It has the first part of all names for this process.
+func (t *tracer) spawnOthers() error {
+	for number := 1; ; number++ {
+		t.prefix = tagNumbered(t.tag, number) + "_"
+		isTaken, err := t.spawnFirst(t.main.name, t.prefix+"others", "start "+t.prefix+"others")
+		if err != nil {
+			return err
+		}
+		if !isTaken {
+			t.names["others"] = 1
+			t.main.events++
+			t.others = newTask(t.prefix + "others")
+			t.tasks[t.main], t.tasks[t.others] = true, true
+			return nil
+		}
+	}
+}
+
+func tagNumbered(tag string, number int) string {
+	if number == 1 {
+		return tag
+	}
+	behind := strconv.Itoa(number)
+	return tag[:min(len(tag), mostTag-len(behind))] + behind
+}
+
+// spawnFirst starts a task before all else is reported. It tells whether the name is taken.
+func (t *tracer) spawnFirst(parent, child, label string) (isTaken bool, err error) {
+	reply, isTold, err := t.reportFirst("spawn", parent, child, label)
+	if err == nil && !isTold && !strings.HasPrefix(reply, "402") {
+		err = fmt.Errorf("spawn %s %s: %s", parent, child, reply)
+	}
+	return !isTold, err
+}
+
+func (t *tracer) reportFirst(kind, task, name, label string) (reply string, isTold bool, err error) {
+	if reply, err = t.ask(strings.TrimSuffix(kind+" "+task+" "+name, " ")); err != nil {
+		return "", false, err
+	}
+	event, part := eventOf(reply)
+	if event > 0 {
+		told := row{event: event, part: part, time: t.now(), task: task, kind: kind, label: label, of: t.named(name)}
+		t.unwritten = told.appendTo(t.unwritten)
+	}
+	return reply, event > 0, nil
 }
 
 func (t *tracer) ask(lines string) (string, error) {
@@ -165,304 +223,355 @@ func (t *tracer) ask(lines string) (string, error) {
 	return strings.TrimSuffix(reply, "\n"), nil
 }
 
-// eventOf gives the number of the event that was reported, and 0 if the report was refused.
-func eventOf(reply string) int {
-	if !strings.HasPrefix(reply, "201 ") {
-		return 0
+// eventOf gives the number of the event that was reported, and its part of the trace. Both are 0 if the report was refused.
+func eventOf(reply string) (event, part int) {
+	words := strings.Split(reply, " ")
+	if words[0] != "201" || len(words) < 2 {
+		return 0, 0
 	}
-	event, _ := strconv.Atoi(reply[len("201 "):])
-	return event
+	event, _ = strconv.Atoi(words[1])
+	part = 1
+	if len(words) > 2 {
+		part, _ = strconv.Atoi(words[2])
+	}
+	return event, part
 }
 
-// What tasks do. Nothing is noted once tracing is over.
+// start begins to report what is noted.
+func (t *tracer) start() {
+	go t.sendAll()
+	go t.readAll()
+}
 
-// touch notes that the task reads or writes the thing, which is of this process if it is not one across all.
-func (t *tracer) touch(of *task, thing string, writes, isAcross bool, at site) {
+// What tasks do
+
+// put has a report sent with the next ones. The mutex of its task is held.
+func (t *tracer) put(told *report) {
 	t.mutex.Lock()
 	defer t.mutex.Unlock()
-	t.leave(of)
-	var begun float64 // The first row of the event tells it.
-	if of.touches == nil {
-		made := &touches{seen: map[touch]bool{}}
-		t.report(of, report{request: "local " + of.name, touches: made})
-		of.touches = made
-		t.growing = append(t.growing, made)
-		begun = now()
-	}
-	kind, named := "read", thing
-	if writes {
-		kind = "write"
-	}
-	key := touch{thing, writes, isAcross, at.File, at.Line, strings.Join(of.held, "\n")}
-	if of.touches.seen[key] {
-		return
-	}
-	of.touches.seen[key] = true
-	if !isAcross {
-		named = thing + " of " + t.main.name
-	}
-	told := row{Time: begun, Task: of.name, Thing: &named, Kind: kind, site: at, Label: kind + " " + thing, Held: of.held}
-	of.touches.fresh = append(of.touches.fresh, told)
-}
-
-// mark makes a place in the task that somebody may come after.
-func (t *tracer) mark(of *task, called what, at site) *token {
-	t.mutex.Lock()
-	defer t.mutex.Unlock()
-	return t.marked(of, called, at)
-}
-
-func (t *tracer) marked(of *task, called what, at site) *token {
-	made := &token{task: of, what: called, site: at, time: now()}
-	of.pending = append(of.pending, made)
-	return made
-}
-
-// take has the task come after the token's place.
-func (t *tracer) take(by *task, taken *token, at site) {
-	t.mutex.Lock()
-	defer t.mutex.Unlock()
-	t.taken(by, taken, at)
-}
-
-func (t *tracer) taken(by *task, taken *token, at site) {
-	if taken.task == by {
-		if taken.what.isForOne {
-			by.pending = without(by.pending, func(other *token) bool { return other == taken })
-		}
-		return
-	}
-	for taken.message == nil && isAmong(taken.task.pending, taken) {
-		t.send(taken.task.pending[0]) // Those that were made before come first, so that the times of a task increase.
-	}
-	if taken.message != nil && !taken.message.takers[by] {
-		taken.message.takers[by] = true
-		t.leave(by)
-		told := row{Task: by.name, Kind: "recv", site: at, Label: taken.what.taking, Lock: taken.what.lock}
-		t.report(by, report{request: "recv " + by.name + " " + taken.message.name, row: told})
-	}
-}
-
-func isAmong(tokens []*token, one *token) bool {
-	for _, other := range tokens {
-		if other == one {
-			return true
-		}
-	}
-	return false
-}
-
-func without(tokens []*token, isLeft func(*token) bool) []*token {
-	var kept []*token
-	for _, one := range tokens {
-		if !isLeft(one) {
-			kept = append(kept, one)
-		}
-	}
-	return kept
-}
-
-func (t *tracer) spawn(parent *task, hint string, at site) *task {
-	t.mutex.Lock()
-	defer t.mutex.Unlock()
-	t.leave(parent)
-	child := &task{name: t.freshName(hint)}
-	told := row{Task: parent.name, Kind: "spawn", site: at, Label: "start " + child.name}
-	t.report(parent, report{request: "spawn " + parent.name + " " + child.name, row: told})
-	return child
-}
-
-// stranger is the task of a goroutine that nobody was seen to start.
-func (t *tracer) stranger(hint string) *task { return t.spawn(t.others, hint, site{}) }
-
-func (t *tracer) end(of *task) {
-	t.mutex.Lock()
-	defer t.mutex.Unlock()
-	if of.end == nil {
-		of.end = t.marked(of, what{hint: "end", giving: "end", taking: "see the end"}, site{})
-		t.leave(of)
-		t.report(of, report{request: "end " + of.name, row: row{Task: of.name, Kind: "end", Label: "end"}})
-	}
-}
-
-// join has the task see that the child is done.
-func (t *tracer) join(by, child *task, at site) {
-	t.mutex.Lock()
-	defer t.mutex.Unlock()
-	switch {
-	case child.end == nil || child.joinedBy == by:
-	case child.joinedBy != nil:
-		t.taken(by, child.end, at)
-	default:
-		child.joinedBy = by
-		t.leave(by)
-		told := row{Task: by.name, Kind: "join", site: at, Label: "join " + child.name}
-		t.report(by, report{request: "join " + by.name + " " + child.name, row: told})
-	}
-}
-
-// outgoing sends a message to another process. It returns once the collector has it, so that no receipt can come before.
-func (t *tracer) outgoing(of *task, at site) string {
-	answered := make(chan struct{})
-	t.mutex.Lock()
-	t.leave(of)
-	t.messages++
-	named := fmt.Sprintf("%sout_%d", t.prefix, t.messages)
-	told := row{Task: of.name, Kind: "send", site: at, Label: "send to another process"}
-	t.report(of, report{request: "send " + of.name + " " + named, row: told, answered: answered})
-	t.mutex.Unlock()
-	t.hurry()
-	select {
-	case <-answered:
-	case <-time.After(answerWait):
-		return ""
-	}
-	if t.isOver.Load() {
-		return ""
-	}
-	return named
-}
-
-func (t *tracer) incoming(of *task, named string, at site) {
-	t.mutex.Lock()
-	defer t.mutex.Unlock()
-	t.leave(of)
-	told := row{Task: of.name, Kind: "recv", site: at, Label: "receive from another process"}
-	t.report(of, report{request: "recv " + of.name + " " + named, row: told, mayBeRefused: true})
-}
-
-// lockName tells a lock from others of the same name.
-func (t *tracer) lockName(name string) string {
-	t.mutex.Lock()
-	defer t.mutex.Unlock()
-	t.locks++
-	return fmt.Sprintf("#%s%d %s", t.prefix, t.locks, name)
-}
-
-// hold notes that the task holds the lock from now on.
-func (t *tracer) hold(of *task, lock string) {
-	t.mutex.Lock()
-	defer t.mutex.Unlock()
-	of.held = append(append([]string(nil), of.held...), lock)
-}
-
-// letGo notes that the task no longer holds the lock. It tells whether the task still holds one that it acquired later.
-func (t *tracer) letGo(of *task, lock string) bool {
-	t.mutex.Lock()
-	defer t.mutex.Unlock()
-	for place := len(of.held) - 1; place >= 0; place-- {
-		if of.held[place] == lock {
-			isLast := place == len(of.held)-1
-			of.held = append(append([]string(nil), of.held[:place]...), of.held[place+1:]...)
-			return !isLast
-		}
-	}
-	return false
-}
-
-// leave has the task's places become messages, before it goes on.
-func (t *tracer) leave(of *task) {
-	for len(of.pending) > 0 {
-		t.send(of.pending[0])
-	}
-}
-
-// send reports a message for all places of the same lock, or of none.
-func (t *tracer) send(given *token) {
-	of := given.task
-	t.messages++
-	sent := &message{fmt.Sprintf("%s%s_%d", t.prefix, given.what.hint, t.messages), map[*task]bool{}}
-	told := row{Time: given.time, Task: of.name, Kind: "send", site: given.site, Label: given.what.giving, Lock: given.what.lock}
-	t.report(of, report{request: "send " + of.name + " " + sent.name, row: told})
-	of.pending = without(of.pending, func(other *token) bool {
-		isSame := other.what.lock == given.what.lock
-		if isSame {
-			other.message = sent
-		}
-		return isSame
-	})
-}
-
-func (t *tracer) report(of *task, told report) {
-	if of.touches != nil {
-		of.touches.isClosed = true
-		of.touches = nil
-	}
 	t.reports++
-	if t.isOver.Load() || t.reports > mostEvents+1 { // No trace takes so many, and the reply that says so is on its way.
+	if t.isClosing {
+		go tellLate(nowhere) // It was noted while the trace ended.
+	}
+	if t.isClosing || t.isOver.Load() || !t.hasParts && t.reports > mostEvents+1 { // No trace takes so many: the reply that says so is on its way.
 		if told.answered != nil {
 			close(told.answered)
 		}
 		return
 	}
-	if told.row.Time == 0 {
-		told.row.Time = now()
+	if told.time == 0 {
+		told.time = t.now()
 	}
-	t.unsent.WriteString(told.request + "\n")
+	t.unsent = append(append(append(t.unsent, told.kind...), ' '), told.task...)
+	if told.name != "" {
+		t.unsent = append(append(t.unsent, ' '), told.name...)
+	}
+	t.unsent = append(t.unsent, '\n')
 	t.outstanding = append(t.outstanding, told)
+	t.waiting.Store(int64(len(t.outstanding)))
+	if len(t.unsent) > mostUnsent || told.answered != nil {
+		t.hurry()
+	}
+	t.wake()
+}
+
+// list has the touches of an event written to the journal. The mutex of their task is held.
+func (t *tracer) list(one *touches) {
+	if one.isListed || !one.isReported || len(one.fresh) == 0 {
+		return
+	}
+	one.isListed = true
+	t.listMutex.Lock()
+	t.listed = append(t.listed, one)
+	t.listMutex.Unlock()
+	t.wake()
+}
+
+// dropSoon has a token be one that nobody can take any more. Many of them are dropped together, so that their task seldom waits.
+func (t *tracer) dropSoon(gone *token) {
+	t.goneMutex.Lock()
+	defer t.goneMutex.Unlock()
+	t.gone = append(t.gone, gone)
+	if len(t.gone) == mostGone {
+		t.wake()
+	}
+}
+
+func (t *tracer) dropGone() {
+	t.goneMutex.Lock()
+	gone := t.gone
+	t.gone = nil
+	t.goneMutex.Unlock()
+	var locked *task
+	for _, one := range gone {
+		if one.task != locked {
+			if locked != nil {
+				locked.mutex.Unlock()
+			}
+			locked = one.task
+			locked.mutex.Lock()
+		}
+		locked.drop(one)
+	}
+	if locked != nil {
+		locked.mutex.Unlock()
+	}
+}
+
+func (t *tracer) newMessage(called *what) *message {
+	number := strconv.FormatInt(t.messages.Add(1), 10)
+	hint := called.hint
+	if room := mostName - len(t.prefix) - len(number) - 1; len(hint) > room {
+		hint = hint[:room]
+	}
+	made := &message{t.prefix + hint + "_" + number, called.lock}
+	if t.hasParts {
+		t.live.Add(1)
+		runtime.SetFinalizer(made, func(gone *message) { t.forget(gone.name) })
+	}
+	return made
+}
+
+// forget tells that nobody can receive a message any more.
+func (t *tracer) forget(message string) {
+	t.live.Add(-1)
+	t.mutex.Lock()
+	defer t.mutex.Unlock()
+	t.forgotten = append(t.forgotten, message)
+}
+
+// leaveTask tells that nobody can wait for a task any more.
+func (t *tracer) leaveTask(name string) {
+	if t.hasParts {
+		t.mutex.Lock()
+		defer t.mutex.Unlock()
+		t.left = append(t.left, name)
+	}
+}
+
+func (t *tracer) spawn(parent *task, hint string, at *site) *task {
+	child := newTask(t.freshName(hint))
+	t.tasksMutex.Lock()
+	t.tasks[child] = true
+	t.tasksMutex.Unlock()
+	parent.mutex.Lock()
+	defer parent.mutex.Unlock()
+	parent.report(&report{kind: "spawn", name: child.name, site: at, label: "start " + child.name})
+	child.know(source{parent, nil}, parent.events)
+	return child
+}
+
+// stranger is a task that comes after nothing but the beginning of the trace.
+func (t *tracer) stranger(hint string) *task { return t.spawn(t.others, hint, nowhere) }
+
+var ending = &what{hint: "end", giving: "end", taking: "see the end"}
+
+// end ends the task. If several may wait for it, a message tells them.
+func (t *tracer) end(of *task, isAwaited bool) {
+	t.tasksMutex.Lock()
+	delete(t.tasks, of)
+	t.tasksMutex.Unlock()
+	of.mutex.Lock()
+	defer of.mutex.Unlock()
+	if of.isEnded.Load() {
+		return
+	}
+	if isAwaited {
+		of.end = of.mark(ending, nowhere)
+	}
+	of.report(&report{kind: "end", label: "end"})
+	of.isEnded.Store(true)
+	if !isAwaited {
+		t.leaveTask(of.name)
+	}
+}
+
+// join has the task see that the child is done.
+func (t *tracer) join(by, child *task, at *site) {
+	child.mutex.Lock()
+	joinedBy, end := child.joinedBy, child.end
+	isFirst := child.isEnded.Load() && joinedBy == nil
+	if isFirst {
+		child.joinedBy = by
+	}
+	child.mutex.Unlock()
+	switch {
+	case isFirst:
+		by.mutex.Lock()
+		by.report(&report{kind: "join", name: child.name, site: at, label: "join " + child.name})
+		by.mutex.Unlock()
+		by.know(source{child, nil}, child.events)
+	case joinedBy != nil && joinedBy != by && end != nil:
+		by.take(end, at)
+	}
+}
+
+// outgoing sends a message to another process, of a name that was reserved. It returns once the collector has it, so that no receipt can
+// come before. It tells whether the collector has it.
+func (t *tracer) outgoing(of *task, named string, at *site) bool {
+	answered := make(chan struct{})
+	of.mutex.Lock()
+	of.report(&report{kind: "send", name: named, site: at, label: "send to another process", answered: answered})
+	of.mutex.Unlock()
+	select {
+	case <-answered:
+	case <-time.After(answerWait):
+		return false
+	}
+	return !t.isOver.Load()
+}
+
+// outside gives each message to another process a name.
+func (t *tracer) outside() string {
+	number := strconv.FormatInt(t.messages.Add(1), 10)
+	return t.prefix + "out_"[:min(len("out_"), mostName-len(t.prefix)-len(number))] + number
+}
+
+func (t *tracer) incoming(of *task, named string, at *site) {
+	of.mutex.Lock()
+	defer of.mutex.Unlock()
+	of.report(&report{kind: "recv", name: named, site: at, label: "receive from another process", mayBeRefused: true})
+}
+
+// holdBack has the program wait if it notes faster than the collector takes.
+func (t *tracer) holdBack() {
+	for t.waiting.Load() > fewWaiting && !t.isOver.Load() {
+		time.Sleep(time.Millisecond)
+	}
 }
 
 // freshName is a name that no other task of this process has, short and readable.
 func (t *tracer) freshName(hint string) string {
-	letters := strings.Map(func(next rune) rune {
-		if isLetterOrDigit(next) {
-			return next
-		}
-		return '_'
-	}, hint)
-	if room := mostName - len(t.prefix) - mostDigits; len(letters) > room {
-		letters = letters[:room]
+	t.mutex.Lock()
+	defer t.mutex.Unlock()
+	room := mostName - len(t.prefix)
+	base := lettersOf(hint, room)
+	for strings.Contains(base, "__") {
+		base = strings.ReplaceAll(base, "__", "_")
 	}
-	base := strings.Trim(letters, "_")
 	if base == "" {
 		base = "task"
 	}
-	for number := t.names[base] + 1; ; number++ {
-		t.names[base] = number
-		if number == 1 {
-			return t.prefix + base
+	if t.names[base] == 0 && len(t.names) < mostHints && !t.isNumbered(base) {
+		t.names[base] = 1
+		return t.prefix + base
+	}
+	if t.names[base] == 0 && len(t.names) >= mostHints {
+		base = "task" // So many names are not kept.
+	}
+	for number := 2; ; number++ {
+		stem := base[:min(len(base), room-len(numbered("", number, mostName)))]
+		if number <= t.names[stem] {
+			number = t.names[stem]
+			continue
 		}
-		if name := fmt.Sprintf("%s_%d", base, number); t.names[name] == 0 {
-			t.names[name] = 1
-			return t.prefix + name
+		t.names[stem] = number
+		if made := numbered(stem, number, room); t.names[made] == 0 {
+			return t.prefix + made
 		}
 	}
+}
+
+// isNumbered tells whether the name was given to a task with a number: "go_2" is the second task that is called "go".
+func (t *tracer) isNumbered(base string) bool {
+	place := strings.LastIndex(base, "_")
+	if place < 1 {
+		return false
+	}
+	number, err := strconv.Atoi(base[place+1:])
+	return err == nil && number > 1 && t.names[base[:place]] >= number
 }
 
 // The end
 
+func (t *tracer) wake() {
+	if t.isIdle.CompareAndSwap(true, false) {
+		select {
+		case t.changed <- struct{}{}:
+		default: // It is awake already.
+		}
+	}
+}
+
 func (t *tracer) hurry() {
 	select {
-	case t.changed <- struct{}{}:
+	case t.hurried <- struct{}{}:
 	default:
 	}
 }
 
-// close waits until all is answered, and writes the journal's last line.
+func (t *tracer) liveTasks() []*task {
+	t.tasksMutex.Lock()
+	defer t.tasksMutex.Unlock()
+	tasks := make([]*task, 0, len(t.tasks))
+	for one := range t.tasks {
+		tasks = append(tasks, one)
+	}
+	return tasks
+}
+
+// flush waits until all that was noted by now is in the journal, if the collector answers.
+func (t *tracer) flush(most time.Duration) {
+	for _, one := range t.liveTasks() {
+		one.mutex.Lock()
+		one.leave()
+		one.mutex.Unlock()
+	}
+	for until := time.Now().Add(most); t.isUnwritten() && time.Now().Before(until) && !t.isOver.Load(); {
+		t.wake()
+		t.hurry()
+		time.Sleep(rest / 4)
+	}
+}
+
+func (t *tracer) isUnwritten() bool {
+	t.listMutex.Lock()
+	isListed := len(t.listed) > 0
+	t.listMutex.Unlock()
+	t.mutex.Lock()
+	defer t.mutex.Unlock()
+	return isListed || len(t.outstanding) > 0 || len(t.unwritten) > 0
+}
+
+// close waits until all that was noted is answered, and writes the journal's last line.
 func (t *tracer) close() {
+	for _, one := range t.liveTasks() {
+		one.mutex.Lock()
+		one.settle()
+		one.mutex.Unlock()
+	}
+	if t.parent != nil {
+		t.main.mutex.Lock()
+		t.main.report(&report{kind: "end", label: "end"})
+		t.main.mutex.Unlock()
+	}
 	t.mutex.Lock()
 	t.isClosing = true
 	t.mutex.Unlock()
-	t.hurry()
-	for left := -1; left != t.waiting(); {
-		left = t.waiting()
+	defer t.parent.toldParent()
+	for left := int64(-1); left != t.waiting.Load(); {
+		left = t.waiting.Load()
+		t.wake()
+		t.hurry()
 		select {
 		case <-t.sent:
 			return
 		case <-time.After(endWait):
 		}
 	}
-	t.giveUp("collector", "the collector does not answer")
+	t.giveUp(causeCollector, "the collector does not answer")
 	select {
 	case <-t.sent:
 	case <-time.After(answerWait):
 	}
 }
 
-func (t *tracer) waiting() int {
+// endBy tells by what the process is about to end, and ends the trace.
+func (t *tracer) endBy(reason string) {
 	t.mutex.Lock()
-	defer t.mutex.Unlock()
-	return len(t.outstanding)
+	t.unwritten = append(t.unwritten, unseenRow(causeKilled, reason)...)
+	t.mutex.Unlock()
+	Trace{}.End()
 }
 
 // giveUp ends tracing in the middle. The program goes on.
@@ -474,18 +583,18 @@ func (t *tracer) giveUp(cause, reason string) {
 
 // giveUpNow is giveUp for whoever holds the mutex.
 func (t *tracer) giveUpNow(cause, reason string) {
-	if t.isOver.Load() {
+	if t.isOver.Swap(true) {
 		return
 	}
-	t.gatherRows()
-	t.isOver.Store(true)
-	t.unwritten.WriteString(unseenRow(cause, reason))
+	phase.CompareAndSwap(isTracing, isUntraced)
+	t.lastRow = unseenRow(cause, reason)
 	for _, one := range t.outstanding {
 		if one.answered != nil {
 			close(one.answered)
 		}
 	}
 	t.outstanding = nil
+	t.waiting.Store(0)
 	t.connection.Close()
 	fmt.Fprintf(os.Stderr, "itc_trace: tracing stops: %s\n", reason)
 	t.hurry()
@@ -496,103 +605,230 @@ func (t *tracer) giveUpNow(cause, reason string) {
 func (t *tracer) sendAll() {
 	defer close(t.sent)
 	defer t.connection.Close()
+	looking := time.NewTicker(lookAgain)
+	defer looking.Stop()
 	for !t.sendSome() {
+		t.isIdle.Store(true)
+		if t.hasSomething() {
+			t.wake()
+		}
 		select {
 		case <-t.changed:
-		case <-time.After(rest):
+			select {
+			case <-t.hurried:
+			case <-time.After(rest):
+			}
+		case <-t.hurried:
+			t.isIdle.Store(false)
+			select {
+			case <-t.changed:
+			default:
+			}
+		case <-looking.C:
+			t.isIdle.Store(false)
+			select {
+			case <-t.changed:
+			default:
+			}
+			t.lookAtAll()
 		}
 	}
-	if t.journal != nil {
-		t.journal.Close()
+}
+
+func (t *tracer) hasSomething() bool {
+	t.listMutex.Lock()
+	isListed := len(t.listed) > 0
+	t.listMutex.Unlock()
+	t.mutex.Lock()
+	defer t.mutex.Unlock()
+	return isListed || len(t.unsent) > 0 || len(t.unwritten) > 0
+}
+
+// lookAtAll reports places that nobody has come after for long, if anything was touched behind them: it is in the journal soon then.
+func (t *tracer) lookAtAll() {
+	for _, one := range t.liveTasks() {
+		one.mutex.Lock()
+		if one.first != nil && (one.first != one.last || one.sincePlace != nil) {
+			if one.first.age++; one.first.age >= oldAge {
+				one.leave()
+			}
+		}
+		one.mutex.Unlock()
+	}
+	if t.hasParts && t.live.Load() > mostMessages {
+		runtime.GC()
 	}
 }
 
 // sendSome tells whether that was the last of it.
 func (t *tracer) sendSome() bool {
+	t.dropGone()
+	t.writeTouches()
 	t.mutex.Lock()
-	t.gatherRows()
-	isDone := t.isClosing && len(t.outstanding) == 0
+	isDone := t.isClosing && len(t.outstanding) == 0 && len(t.unsent) == 0
 	isLast := isDone || t.isOver.Load()
-	if isLast && !t.isOver.Load() {
-		t.unwritten.WriteString(endRow)
-		t.isOver.Store(true)
-	}
-	lines, rows := t.unsent.String(), t.unwritten.String()
-	t.unsent.Reset()
-	t.unwritten.Reset()
-	t.mutex.Unlock()
-	if t.journal != nil && rows != "" {
-		if _, err := io.WriteString(t.journal, rows); err != nil {
-			t.giveUp("journal", "the journal cannot be written: "+err.Error())
+	if isLast && !t.isOver.Swap(true) {
+		t.lastRow = endRow
+		if t.parent != nil {
+			t.lastRow = childEndRow(t.main.name)
 		}
 	}
-	if !isLast && lines != "" {
-		if _, err := io.WriteString(t.connection, lines); err != nil {
-			t.giveUp("collector", goneMessage)
+	if isLast {
+		t.unwritten = append(t.unwritten, t.lastRow...)
+	}
+	lines, rows := t.unsent, t.unwritten
+	t.unsent, t.unwritten = nil, nil
+	if t.hasParts && !isLast {
+		lines = t.appendForgotten(lines)
+	}
+	t.mutex.Unlock()
+	if t.journal != nil && len(rows) > 0 {
+		if _, err := t.journal.Write(rows); err != nil {
+			t.giveUp(causeJournal, "the journal cannot be written: "+err.Error())
+		}
+	}
+	if !isLast && len(lines) > 0 {
+		if _, err := t.connection.Write(lines); err != nil {
+			t.giveUp(causeCollector, goneMessage)
 		}
 	}
 	return isLast
 }
 
-// gatherRows brings the journal up to what was touched by now.
-func (t *tracer) gatherRows() {
-	var growing []*touches
-	for _, one := range t.growing {
-		if one.event > 0 {
-			for _, told := range one.fresh {
-				told.Event = one.event
-				t.unwritten.WriteString(told.text())
-			}
-			one.fresh = nil
+// appendForgotten adds which messages and tasks give no order any more. A line has few of them, so that it is not too long.
+func (t *tracer) appendForgotten(lines []byte) []byte {
+	for _, one := range t.forgotten {
+		lines = append(append(append(lines, "forget "...), one...), '\n')
+	}
+	for _, one := range t.left {
+		lines = append(append(append(lines, "leave "...), one...), '\n')
+	}
+	t.forgotten, t.left = nil, nil
+	return lines
+}
+
+// writeTouches brings the journal up to what was touched by now.
+func (t *tracer) writeTouches() {
+	t.listMutex.Lock()
+	listed := t.listed
+	t.listed = nil
+	t.listMutex.Unlock()
+	var rows []byte
+	var unanswered []*touches
+	for _, one := range listed {
+		event := one.event.Load()
+		if event == 0 {
+			unanswered = append(unanswered, one)
+			continue
 		}
-		if one.event == 0 || !one.isClosed {
-			growing = append(growing, one)
+		one.task.mutex.Lock()
+		fresh := one.fresh
+		one.fresh, one.isListed = nil, false
+		one.task.mutex.Unlock()
+		for _, told := range fresh {
+			rows = t.rowOf(one, told, event).appendTo(rows)
 		}
 	}
-	t.growing = growing
+	t.listMutex.Lock()
+	t.listed = append(t.listed, unanswered...)
+	t.listMutex.Unlock()
+	t.mutex.Lock()
+	t.unwritten = append(t.unwritten, rows...)
+	t.mutex.Unlock()
+}
+
+const partBits = 32
+
+func (t *tracer) rowOf(all *touches, told touch, event int64) row {
+	kind, named := "read", told.thing
+	if told.writes {
+		kind = "write"
+	}
+	if !told.isAcross {
+		named = told.thing + " of " + t.process
+	}
+	made := row{
+		event: int(event & (1<<partBits - 1)), part: int(event >> partBits), task: all.task.name, thing: named, isTouch: true, kind: kind,
+		site: told.site, label: kind + " " + told.thing, held: told.held,
+	}
+	if !all.isTimeTold {
+		all.isTimeTold, made.time = true, all.begun
+	}
+	return made
 }
 
 // The goroutine that reads replies
 
 func (t *tracer) readAll() {
 	for {
-		reply, err := t.replies.ReadString('\n')
+		reply, err := t.replies.ReadSlice('\n')
 		if err != nil {
-			t.giveUp("collector", goneMessage)
+			t.giveUp(causeCollector, goneMessage)
 			return
 		}
-		t.replied(strings.TrimSuffix(reply, "\n"))
+		t.replied(string(bytes.TrimSuffix(reply, []byte("\n"))))
 	}
 }
 
 // replied takes over a reply. If it is a refusal, tracing ends before the mutex is free: else the goroutine that sends may take all
 // for answered in between, and end the journal as a whole one.
 func (t *tracer) replied(reply string) {
+	event, part := eventOf(reply)
 	t.mutex.Lock()
 	defer t.mutex.Unlock()
 	if len(t.outstanding) == 0 {
 		return
 	}
 	answered := t.outstanding[0]
+	t.outstanding[0] = nil
 	t.outstanding = t.outstanding[1:]
-	event := eventOf(reply)
+	t.waiting.Store(int64(len(t.outstanding)))
 	switch {
 	case event > 0 && answered.touches != nil:
-		answered.touches.event = event
+		answered.touches.event.Store(int64(part)<<partBits | int64(event))
 	case event > 0:
-		answered.row.Event = event
-		t.unwritten.WriteString(answered.row.text())
+		t.unwritten = t.rowOfReport(answered, event, part).appendTo(t.unwritten)
 	case strings.HasPrefix(reply, "413") || strings.HasPrefix(reply, "414") || strings.HasPrefix(reply, "415"):
-		t.giveUpNow("full", "the trace is full ("+reply+")")
-	case answered.mayBeRefused && (strings.HasPrefix(reply, "405") || strings.HasPrefix(reply, "407")):
-		// The message of another process was never sent, or this task has it.
+		t.giveUpNow(causeFull, "the trace is full ("+reply+")")
+	case answered.mayBeRefused && isNotMine(answered.kind, reply):
+		// The message of another process was never sent, or this task has it. A task of another process has ended, or was joined.
 	default:
-		t.giveUpNow("tracer", answered.request+": "+reply)
+		request := strings.TrimSuffix(answered.kind+" "+answered.task+" "+answered.name, " ")
+		t.giveUpNow(causeTracer, request+": "+reply)
 	}
 	if answered.answered != nil {
 		close(answered.answered)
 	}
-	if len(t.outstanding) == 0 && t.isClosing {
+	t.wake()
+	if len(t.outstanding) == 0 && t.isClosing || answered.answered != nil {
 		t.hurry()
 	}
+}
+
+func isNotMine(kind, reply string) bool {
+	codes := "405 407"
+	if kind != "recv" {
+		codes = "401 403 408 409"
+	}
+	code, _, _ := strings.Cut(reply, " ")
+	return code != "" && strings.Contains(codes, code)
+}
+
+func (t *tracer) rowOfReport(told *report, event, part int) row {
+	made := row{
+		event: event, part: part, time: told.time, task: told.task, kind: told.kind, site: told.site, label: told.label,
+		of: t.named(told.name),
+	}
+	if told.lock != nil {
+		made.lock = told.lock.name
+	}
+	return made
+}
+
+// named is what a row says of the name in a report.
+func (t *tracer) named(name string) string {
+	if t.hasParts {
+		return name
+	}
+	return ""
 }

@@ -513,7 +513,9 @@ func answerHere(begin func(http.ResponseWriter)) {
 		begin(response)
 	}))
 	response := httptest.NewRecorder()
-	handler.ServeHTTP(response, httptest.NewRequest("GET", "/", nil))
+	request := httptest.NewRequest("GET", "/", nil)
+	request.Header.Set(itctrace.Header, itctrace.Outgoing())
+	handler.ServeHTTP(response, request)
 	itctrace.Incoming(response.Result().Header.Get(itctrace.Header))
 	writeStock()
 }

@@ -21,19 +21,22 @@ from types import FrameType
 from typing import IO, Any
 
 from ..analyse.benign import Looking
-from ..record.collector import HOST, Collector
-from .ending import name_of
-from ..record.environment import Reporting
-from ..record.faults import Fault
-from ..record.journal import NoJournal, read_whole
-from .launch import REFUSED
+from ..analyse.parts import races_of_parts
 from ..analyse.progress import Bar
 from ..analyse.races import Races
-from ..processes.relay import Relaying
-from .run import check_writable, draw, environment_of_package, told
 from ..analyse.seeing import races_seen
-from ..session import Refused
 from ..analyse.snapshot import snapshot
+from ..processes.part_collectors import PartCollectors, ask_for_port
+from ..processes.relay import Relaying
+from ..processes.relay_parts import RelayParts
+from ..record.collector import HOST
+from ..record.environment import OWN_TENANT, PARTS, Reporting
+from ..record.faults import Fault
+from ..record.journal import NoJournal, read_whole
+from ..session import Refused
+from .ending import name_of
+from .launch import REFUSED
+from .run import NO_PICTURE_OF_PARTS, check_writable, draw, environment_of_package, told
 from .system_file import Described, System
 from ..model.verdict import END_OF_ALL, Cause, Unseen
 
@@ -151,7 +154,7 @@ class Running:
 
     def _start(self, described: Described) -> Process:
         said = Reporting(self._port, self._system.tenant, described.name, self._journal(described.name))
-        environment = {**environment_of_package(), "PYTHONUNBUFFERED": "1", **described.environment, **said.variables()}
+        environment = {**environment_of_package(), "PYTHONUNBUFFERED": "1", **described.environment, **said.variables(), PARTS: "1"}
         is_python = PYTHON.fullmatch(os.path.basename(described.command[0])) is not None
         words = self._traced(described, said) if described.is_traced and is_python else described.command
         return Process(described, words, environment, self._told)
@@ -283,6 +286,8 @@ class Running:
         yield from (line for line in lines if line.endswith("\n") and not (is_ended_by_us and line == ENDED_AS_A_SERVICE))
 
 
+BORDERS = "borders"
+"""The file that tells how the parts of a divided trace begin."""
 ENDED_AS_A_SERVICE = Unseen(Cause.KILLED, "the program was ended by SIGTERM").row()
 
 
@@ -291,16 +296,33 @@ def run_system(system: System, looking: Looking, fail_on_possible: bool = False)
     for file in (system.export, system.picture):
         if file is not None:
             check_writable(file)
-    with tempfile.TemporaryDirectory(prefix="itc_trace_") as folder, Collector(system.tenant) as collector:
-        with Relaying(collector.port) as relay:
+    with tempfile.TemporaryDirectory(prefix="itc_trace_") as folder, PartCollectors(system.tenant) as collectors:
+        parts = RelayParts(lambda: ask_for_port(collectors.asked_at), os.path.join(folder, BORDERS))
+        with Relaying(collectors.port, parts) as relay:
             running = Running(system, relay.port, folder)
             running.run()
         lines = running.lines()
-        races = races_seen(system.tenant, collector.port, lines, HOST, looking, Bar(sys.stderr))
-        races.unseen = [*running.unseen, *races.unseen]
-        picture = _keep(system, collector.port, lines, folder, races)
+        if parts.number > 1:
+            races, picture = _races_in_parts(system, looking, lines, folder, collectors.port_of(parts.number)), None
+            races.unseen = [*running.unseen, *races.unseen]
+        else:
+            races = races_seen(system.tenant, collectors.port, lines, HOST, looking, Bar(sys.stderr))
+            races.unseen = [*running.unseen, *races.unseen]
+            picture = _keep(system, collectors.port, lines, folder, races)
         print(told(races, picture), file=sys.stderr, flush=True)
         return int(races.verdict(fail_on_possible)) or running.status
+
+
+def _races_in_parts(system: System, looking: Looking, lines: list[str], folder: str, port: int) -> Races:
+    """The races of a system whose trace was divided. Each part has an export of its own, if one is asked for."""
+    if system.picture is not None:
+        print(NO_PICTURE_OF_PARTS, file=sys.stderr)
+    borders = os.path.join(folder, BORDERS)
+    journal = f"{system.export}.journal" if system.export is not None else os.path.join(folder, "journal")
+    with open(journal, "w", encoding="utf-8") as written, open(borders, encoding="utf-8") as border_lines:
+        written.writelines(border_lines)
+        written.writelines(lines)
+    return races_of_parts(journal, looking, Bar(sys.stderr), (system.tenant, port), system.export)
 
 
 def _keep(system: System, port: int, lines: list[str], folder: str, races: Races) -> str | None:

@@ -14,6 +14,7 @@ from collections import deque
 from types import TracebackType
 
 from ..record.collector import HOST
+from .relay_parts import FORGET, LEAVES, PARTS, REFUSED, RelayParts
 
 MOST_LINE = 200
 MOST_BYTES = 262144
@@ -127,6 +128,7 @@ class Client(Pipe):
         self.view: View | None = None
         self.waiting = 0
         self.is_leaving = False
+        self.knows_parts: bool | None = None
 
     def took(self, text: bytes) -> None:
         if self.view is not None:
@@ -170,11 +172,27 @@ class Client(Pipe):
                 del lines[place:]
                 is_last = True
                 break
+        if self.relay.parts is not None and self.knows_parts is None and lines:
+            self.knows_parts = lines[0] == PARTS
+            if not self._may_take_part(self.relay.parts):
+                return
+            lines = lines[self.knows_parts:]
         if lines:
-            self.waiting += len(lines)
+            self.waiting += len(lines) - sum(line.startswith((FORGET, LEAVES)) for line in lines)
             self.upstream.ask(self, [line if len(line) <= MOST_LINE + 1 else FAULTY_LINE for line in lines])
         if is_last:
             self.leave()
+
+    def _may_take_part(self, parts: RelayParts) -> bool:
+        """Who knows nothing of parts may report in the first one, and has it be the only one."""
+        if self.knows_parts:
+            return True
+        if parts.number > 1:
+            self.send(REFUSED)
+            self.end()
+            return False
+        parts.is_shared = True
+        return True
 
     def leave(self) -> None:
         """No more is asked; what was asked is still answered."""
@@ -256,8 +274,12 @@ class View(Pipe):
 class Upstream(Pipe):
     """The one session that reports for a tenant."""
 
-    def __init__(self, relay: Relay, tenant: bytes, connection: socket.socket, tries: int = 0) -> None:
+    def __init__(self, relay: Relay, tenant: bytes, connection: socket.socket, tries: int = 0, begins_with: list[bytes] | None = None) -> None:
+        """A part of a trace begins with these lines."""
         super().__init__(relay, connection)
+        self.lines: deque[bytes] = deque()
+        """What the collector has not answered yet, if the trace may be divided."""
+        self.beginning = len(begins_with or [])
         self.tenant = tenant
         self.tries = tries
         self.rest = b""
@@ -266,7 +288,7 @@ class Upstream(Pipe):
         self.requests = 1
         self.is_accepted: bool | None = None
         self.held: deque[tuple[Client, list[bytes]]] = deque()
-        self.send(b"report " + tenant + b"\ncount\n")
+        self.send(b"\n".join([b"report " + tenant, b"count", *(begins_with or []), b""]))
 
     def begin(self, client: Client, lines: list[bytes]) -> None:
         self.clients.add(client)
@@ -278,23 +300,55 @@ class Upstream(Pipe):
             self.held.append((client, lines))
             self._hand_over_when_due()
             return
-        self.requests += len(lines)
-        self.asked.append((client, len(lines)))
-        self.relay.gather(self, lines)
+        if self.relay.parts is not None:
+            lines, held = self.relay.parts.fitting(lines)
+            self.lines += lines
+            if held:
+                self.held.append((client, held))
+        if lines:
+            self.requests += len(lines)
+            self.asked.append((client, len(lines)))
+            self.relay.gather(self, lines)
+        else:
+            self._hand_over_when_due()
 
     def _hand_over_when_due(self) -> None:
-        """Before a session has made all its requests, another one goes on."""
-        if self.is_accepted and not self.asked and self.held and self.requests > 1:
+        """Before a session has made all its requests, another one goes on. So it does with a new part before the one before is full."""
+        if not self.is_accepted or self.asked or not self.held or self.beginning:
+            return
+        if self.relay.parts is not None and self.requests + len(self.held[0][1]) <= MOST_REQUESTS:
+            self.relay.parts.settle()
+            if self.relay.parts.has_room_for(self.held[0][1][0]):
+                self._ask_held()
+            else:
+                self.relay.divide(self, self.relay.parts)
+        elif self.requests > 1:
             self.relay.renew(self)
+
+    def _ask_held(self) -> None:
+        held, self.held = self.held, deque()
+        for client, lines in held:
+            self.ask(client, lines)
 
     def took(self, text: bytes) -> None:
         *replies, self.rest = (self.rest + text).split(b"\n")
         if self.is_accepted is None and replies:
             self._opened(replies.pop(0))
+        if self.beginning and replies:
+            begun = replies[:self.beginning]
+            del replies[:self.beginning]
+            self.beginning -= len(begun)
+            if not all(reply.startswith(b"201 ") for reply in begun):
+                self.over()
+                return
+            if not self.beginning:
+                self._ask_held()
         place = 0
         while place < len(replies) and self.asked:
             client, count = self.asked[0]
             given = replies[place : place + count]
+            if self.relay.parts is not None:
+                given = [self.relay.parts.answered(self.lines.popleft(), reply) for reply in given]
             client.answer(b"\n".join(given) + b"\n", len(given))
             place += len(given)
             if len(given) == count:
@@ -317,9 +371,8 @@ class Upstream(Pipe):
                 client.end()
             self.close()
             return
-        held, self.held = self.held, deque()
-        for client, lines in held:
-            self.ask(client, lines)
+        if not self.beginning:
+            self._ask_held()
 
     def left(self, client: Client) -> None:
         self.clients.discard(client)
@@ -336,8 +389,9 @@ class Upstream(Pipe):
 class Relay:
     """Listens, and passes lines and replies on, in one thread."""
 
-    def __init__(self, listen: int, port: int, host: str = HOST, tries: int = 0) -> None:
-        """A tenant to which another session still reports is tried again so often."""
+    def __init__(self, listen: int, port: int, host: str = HOST, tries: int = 0, parts: RelayParts | None = None) -> None:
+        """A tenant to which another session still reports is tried again so often. With parts, a trace that is nearly full goes on in another one."""
+        self.parts = parts
         self.selector = selectors.DefaultSelector()
         self._target = (host, port)
         self._tries = tries
@@ -408,9 +462,15 @@ class Relay:
             pass
         self.replace(old, TRIES)
 
-    def replace(self, old: Upstream, tries: int) -> None:
+    def divide(self, old: Upstream, parts: RelayParts) -> None:
+        """Goes on at another collector, with the clients of the old one and what they have asked since."""
+        port, begins_with = parts.divide()
+        self._target = self._target[0], port
+        self.replace(old, TRIES, begins_with)
+
+    def replace(self, old: Upstream, tries: int, begins_with: list[bytes] | None = None) -> None:
         """Another session takes over the clients of this one, and what they have asked since."""
-        new = self._upstreams[old.tenant] = Upstream(self, old.tenant, self._connect(), tries)
+        new = self._upstreams[old.tenant] = Upstream(self, old.tenant, self._connect(), tries, begins_with)
         new.clients, old.clients = old.clients, set()
         new.held, old.held = old.held, deque()
         for client in new.clients:
@@ -461,8 +521,8 @@ class Relay:
 class Relaying:
     """A relay to a collector, in a thread of its own."""
 
-    def __init__(self, port: int) -> None:
-        self._relay = Relay(0, port, tries=TRIES)
+    def __init__(self, port: int, parts: RelayParts | None = None) -> None:
+        self._relay = Relay(0, port, tries=TRIES, parts=parts)
         self.port: int = self._relay.port
         self._thread = threading.Thread(target=self._relay.serve, daemon=True)
         self._thread.start()

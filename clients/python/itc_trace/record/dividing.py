@@ -75,7 +75,7 @@ class Divider:
         self._ended: dict[str, int] = {}
         self._sent: dict[str, _Sent] = {}
         self.events = 0
-        self.tasks = self._tasks_before = 1
+        self.tasks = self.tasks_before = 1
         self.messages = 0
 
     def report(self, report: Report) -> int:
@@ -98,12 +98,17 @@ class Divider:
         """The tasks that have ended in this part, the last one at the end."""
         return list(self._ended)
 
+    @property
+    def messages_sent(self) -> list[str]:
+        """The messages of this part, the last one at the end."""
+        return list(self._sent)
+
     def is_full(self, limits: Limits) -> bool:
         return self.events >= limits.events or self.tasks >= limits.tasks or self.messages >= limits.messages
 
     @property
     def has_many_new_tasks(self) -> bool:
-        return self.tasks - self._tasks_before >= MOST_NEW_TASKS
+        return self.tasks - self.tasks_before >= MOST_NEW_TASKS
 
     def divide(self, may_be_received: Callable[[str], bool], may_be_joined: Callable[[str], bool]) -> Border:
         """Begins a new part: with each live task, each message that may be received, and each ended task that may be joined."""
@@ -120,7 +125,7 @@ class Divider:
                 self._begin(border, Report("spawn", ROOT, task))
         for task in tasks:
             self._go_on(border, task, sent[task], before.get(task), ended.get(task))
-        self._tasks_before = self.tasks
+        self.tasks_before = self.tasks
         return border
 
     def _go_on(self, border: Border, task: str, sent: list[_Sent], last: int | None, ended: int | None) -> None:

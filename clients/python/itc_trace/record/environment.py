@@ -10,6 +10,8 @@ from typing import NamedTuple
 from .faults import Fault
 
 PORT, TENANT, PROCESS, JOURNAL = "ITC_TRACE_PORT", "ITC_TRACE_TENANT", "ITC_TRACE_PROCESS", "ITC_TRACE_JOURNAL"
+PARTS = "ITC_TRACE_PARTS"
+"""Says that the relay divides a long run into parts, for a client that knows of them."""
 OWN_TENANT = "trace"
 MOST_PORT = 65535
 
