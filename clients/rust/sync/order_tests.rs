@@ -41,7 +41,7 @@ fn begin_trace() {
         let door = TcpListener::bind("127.0.0.1:0").unwrap();
         std::env::set_var("ITC_TRACE_PORT", door.local_addr().unwrap().port().to_string());
         thread::spawn(move || answer(door.accept().unwrap().0));
-        std::mem::forget(begin());
+        begin();
     });
     assert!(on().is_some());
 }
