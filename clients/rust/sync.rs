@@ -13,8 +13,8 @@ pub use once::{LazyLock, Once, OnceLock};
 pub use std::sync::{Arc, LockResult, OnceState, PoisonError, TryLockError, TryLockResult, WaitTimeoutResult, Weak};
 
 use crate::journal::{LockName, Site};
-use crate::place::{Gives, Mark, What};
-use crate::traced::{self, hold, let_go, mark_lock, on, take_by, Marks};
+use crate::place::{Mark, What};
+use crate::traced::{self, hold, on, release_lock, take_by, Marks};
 use crate::tracer::Tracer;
 use std::collections::BTreeMap;
 use std::fmt::{self, Debug, Display};
@@ -69,12 +69,7 @@ impl Hand {
     #[inline]
     fn releasing(&self, site: Site) -> Option<Mark> {
         let tracer = on()?;
-        let name = self.name(tracer);
-        if let_go(name.number) {
-            self.is_signal.store(true, Ordering::Relaxed); // One that was acquired later stays, as in a lock made of two.
-        }
-        let gives = if self.is_signal.load(Ordering::Relaxed) { Gives::Signal(name) } else { Gives::Luck(name) };
-        Some(mark_lock(tracer, gives, name.number, site))
+        Some(release_lock(tracer, self.name(tracer), &self.is_signal, site))
     }
 }
 

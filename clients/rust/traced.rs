@@ -13,6 +13,7 @@ use std::ffi::OsStr;
 use std::panic::Location;
 use std::path::Path;
 use std::process::Command;
+use std::sync::atomic::{AtomicBool, AtomicU8, Ordering};
 use std::sync::{Arc, Mutex, MutexGuard, OnceLock, PoisonError, Weak};
 
 /// The header of HTTP that carries a message.
@@ -99,10 +100,36 @@ pub(crate) fn begun() -> Option<&'static Tracer> {
     TRACER.get()?.as_deref()
 }
 
+/// Who has it stops all others from marking a place.
+#[cfg(test)]
+pub(crate) static MARKING: std::sync::RwLock<()> = std::sync::RwLock::new(());
+
+/// Whether there is a trace that goes on.
+static STAGE: AtomicU8 = AtomicU8::new(UNKNOWN);
+const UNKNOWN: u8 = 0;
+const ON: u8 = 1;
+const OFF: u8 = 2;
+
 /// Who reports, if there is a trace that goes on.
 #[inline]
 pub(crate) fn on() -> Option<&'static Tracer> {
-    TRACER.get_or_init(start).as_deref().filter(|tracer| !tracer.is_over())
+    match STAGE.load(Ordering::Relaxed) {
+        OFF => None,
+        ON => TRACER.get()?.as_deref(),
+        _ => begin_now(),
+    }
+}
+
+#[cold]
+fn begin_now() -> Option<&'static Tracer> {
+    let tracer = TRACER.get_or_init(start).as_deref().filter(|tracer| !tracer.is_over());
+    let _ = STAGE.compare_exchange(UNKNOWN, if tracer.is_some() { ON } else { OFF }, Ordering::Relaxed, Ordering::Relaxed);
+    tracer
+}
+
+/// Nothing is reported any more.
+pub(crate) fn is_over() {
+    STAGE.store(OFF, Ordering::Relaxed);
 }
 
 /// This thread reads or writes the thing, which is of this process, at the line that calls this.
@@ -195,11 +222,36 @@ pub(crate) fn hold(lock: LockName) {
     let _ = THREAD.try_with(|thread| thread.held.borrow_mut().push(lock));
 }
 
-/// This thread no longer holds the lock. Gives whether it still holds one that it acquired later.
+/// This thread releases the lock here. If it has noted the same lock at the same place before, nobody asks for the time again.
 #[inline]
-pub(crate) fn let_go(lock: u64) -> bool {
-    let went = THREAD.try_with(|thread| {
-        let mut held = thread.held.borrow_mut();
+pub(crate) fn release_lock(tracer: &Tracer, lock: LockName, is_signal: &AtomicBool, site: Site) -> Mark {
+    #[cfg(test)]
+    let _marking = MARKING.read();
+    THREAD.try_with(|thread| thread.release(tracer, lock, is_signal, site)).unwrap_or_else(|_| {
+        let (place, noted) = (tracer.here(current(tracer)), Noted::now(gives_of(lock, is_signal), site));
+        place.slot(noted.gives.is_luck()).note(noted);
+        Mark { place, noted }
+    })
+}
+
+#[inline]
+fn gives_of(lock: LockName, is_signal: &AtomicBool) -> Gives {
+    if is_signal.load(Ordering::Relaxed) {
+        Gives::Signal(lock)
+    } else {
+        Gives::Luck(lock)
+    }
+}
+
+impl Thread {
+    /// The thread no longer holds the lock. Gives whether it still holds one that it acquired later.
+    #[inline]
+    fn let_go(&self, lock: u64) -> bool {
+        let mut held = self.held.borrow_mut();
+        if held.last().is_some_and(|last| last.number == lock) {
+            held.pop();
+            return false;
+        }
         match held.iter().rposition(|other| other.number == lock) {
             Some(place) => {
                 held.remove(place);
@@ -207,30 +259,34 @@ pub(crate) fn let_go(lock: u64) -> bool {
             }
             None => false,
         }
-    });
-    went.unwrap_or(false)
+    }
+
+    #[inline]
+    fn release(&self, tracer: &Tracer, lock: LockName, is_signal: &AtomicBool, site: Site) -> Mark {
+        if self.let_go(lock.number) {
+            is_signal.store(true, Ordering::Relaxed); // One that was acquired later stays, as in a lock made of two.
+        }
+        let gives = gives_of(lock, is_signal);
+        let known = self.here.borrow().upgrade();
+        let place = known.unwrap_or_else(|| is_somewhere(tracer));
+        let key = Some((lock.number, site.map_or(0, |site| site as *const _ as usize), gives.is_luck()));
+        if self.noted.replace(key) == key {
+            return Mark { place, noted: Noted { gives, site, time: None } };
+        }
+        let noted = Noted::now(gives, site);
+        place.slot(gives.is_luck()).note(noted);
+        Mark { place, noted }
+    }
 }
 
 /// A place in this thread that somebody may come after.
 pub(crate) fn mark(gives: Gives, site: Site) -> Option<Mark> {
+    #[cfg(test)]
+    let _marking = MARKING.read();
     let tracer = on()?;
     let (place, noted) = (here(tracer), Noted::now(gives, site));
     place.slot(gives.is_luck()).note(noted);
     Some(Mark { place, noted })
-}
-
-/// The same of a lock. If this thread has noted the same lock at the same place before, nobody asks for the time again.
-#[inline]
-pub(crate) fn mark_lock(tracer: &Tracer, gives: Gives, lock: u64, site: Site) -> Mark {
-    let place = here(tracer);
-    let key = Some((lock, site.map_or(0, |site| site as *const _ as usize), gives.is_luck()));
-    let is_noted = THREAD.try_with(|thread| thread.noted.replace(key) == key).unwrap_or(false);
-    if is_noted {
-        return Mark { place, noted: Noted { gives, site, time: None } };
-    }
-    let noted = Noted::now(gives, site);
-    place.slot(gives.is_luck()).note(noted);
-    Mark { place, noted }
 }
 
 /// This thread comes after the place.

@@ -173,13 +173,6 @@ impl Tracer {
         self.state.lock().unwrap_or_else(PoisonError::into_inner)
     }
 
-    /// Does this while all who report have to wait.
-    #[cfg(test)]
-    pub fn paused<T>(&self, body: impl FnOnce() -> T) -> T {
-        let _state = self.state();
-        body()
-    }
-
     // What tasks do. Nothing is noted once tracing is over.
 
     /// Does this with all that is known. Gives where the task is then.
@@ -326,6 +319,7 @@ impl Tracer {
         state.gather_rows();
         state.stage = Stage::Over;
         self.is_over.store(true, Ordering::Relaxed);
+        crate::traced::is_over();
         state.unwritten += &journal::unseen(cause, reason);
         state.forget_all();
         drop(state);
