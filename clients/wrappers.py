@@ -29,10 +29,19 @@ from itc_trace import Collector, Session
 CLIENTS = Path(__file__).resolve().parent
 PAGE = CLIENTS.parent / "docs" / "clients.md"
 SOURCES = {"java": CLIENTS / "java/examples/Wrappers.java", "rust": CLIENTS / "rust/wrappers.rs", "go": CLIENTS / "go/wrappers/main.go"}
+PRIMITIVES = {"java": CLIENTS / "java/examples/Primitives.java", "rust": CLIENTS / "rust/primitives.rs"}
+"""Programs of one order each, which are run with a race and without one."""
+LUCKY = ("read_lock", "stamped_lock", "stamped_trust", "stamped_turn")
+"""Those that a lock keeps in order by luck alone."""
+ENDS = {"java": ("exit", "halt", "panic", "goes_on"), "rust": ("dropped", "exit", "finish", "panic", "goes_on", "abort")}
+"""How a program ends right behind a race."""
+FEW_EVENTS = 60
 NO_RACE, RACES, INCOMPLETE = 0, 66, 67
 AT_ONCE = max(2, len(os.sched_getaffinity(0)))
 OF_A_SYSTEM = 5
 """So many programs at most are processes of one system."""
+FEW = 4
+"""So many are that run with a race and without one."""
 ALONE = ("many", "filling", "contended")
 """Programs that need most of a trace for themselves."""
 MOST_SECONDS = 300
@@ -59,7 +68,7 @@ THINGS = {"odd_names": {ODD_THING}, "wait_group": {"first", "second"}, "context"
 ODD_TASKS = ("task", "task_2", "1_2", "root", "others_2")
 """What the tasks of `odd_names` are called, behind the name of their process and two that are cut."""
 OWN_NAME = "my-shop_1"
-FULL_NAMES = ("go",)
+FULL_NAMES = ("go", "java", "rust")
 """Clients that tell the name of a process in full. The names of its threads begin with eight letters and digits of it."""
 PYTHON = """import itc_trace
 itc_trace.touch("row", across=True)  # race: across
@@ -158,6 +167,89 @@ def written(folder: str, name: str, text: str) -> Path:
     file = Path(folder) / name
     file.write_text(text)
     return file
+
+
+def check_primitives(programs: Programs, names: list[str]) -> None:
+    """What is done before an order is given is told to be in order, and what is done after it is told to race."""
+    source, processes = PRIMITIVES[programs.language], [(name, how) for name in names for how in ("ordered", "raced")]
+    with tempfile.TemporaryDirectory() as folder:
+        ran = run_system(
+            Path(folder), **{f"p{number}": programs.words("primitives", *process) for number, process in enumerate(processes)})
+    for number, (name, how) in enumerate(processes):
+        process, due = f"p{number}", marked(source, "race", "raced")
+        races, possible = (listed(ran.stderr, word, process) for word in ("race", "possible race"))
+        is_lucky = how == "ordered" and name in LUCKY
+        if bool(races) != (how == "raced") or not races <= due or bool(possible) != is_lucky or f"{process} | done\n" not in ran.stdout:
+            raise Wrong(f"{name}, {how}: {races}, and possible {possible}\n{ran.stdout}{ran.stderr}")
+    if re.search("^itc_trace: incomplete: ", ran.stderr, re.M):
+        raise Wrong(f"the run was not seen whole\n{ran.stderr}")
+
+
+def primitives_of(programs: Programs) -> list[str]:
+    """The names of these programs."""
+    ran = subprocess.run(
+        programs.words("primitives", "all"), env={**os.environ, "ITC_TRACE_PORT": ""}, capture_output=True, text=True, check=True,
+        timeout=MOST_SECONDS)
+    return ran.stdout.split()[:-1]
+
+
+def check_free_locks(programs: Programs) -> None:
+    """Locks that nobody else wants, and a lock with readers that nobody writes under, leave next to nothing in the trace."""
+    with tempfile.TemporaryDirectory() as folder:
+        ran = run_system(Path(folder), one=programs.words("free_locks"))
+    check(ran, NO_RACE, set(), set())
+    events = int(re.findall(r"(\d+) events", ran.stderr)[0])
+    if events > FEW_EVENTS:
+        raise Wrong(f"{events} events\n{ran.stderr}")
+
+
+def check_end(programs: Programs, how: str) -> None:
+    """What was noted by the end of a process is told, however the end comes."""
+    with tempfile.TemporaryDirectory() as folder:
+        ran = run_system(Path(folder), one=programs.words("ends", how))
+    source = PRIMITIVES[programs.language]
+    if how == "abort":
+        if ran.returncode != RACES or listed(ran.stderr, "race") != marked(source, "race", "ends") or "SIGABRT" not in ran.stderr:
+            raise Wrong(f"the program that aborts\n{ran.stdout}{ran.stderr}")
+    else:
+        check(ran, RACES, marked(source, "race", "ends"), set())
+
+
+def check_late_hook(programs: Programs) -> None:
+    """Of two hooks at the end of a process one touches when the other one is done."""
+    with tempfile.TemporaryDirectory() as folder:
+        ran = run_system(Path(folder), one=programs.words("ends", "hook"))
+    check(ran, RACES, marked(PRIMITIVES[programs.language], "race", "hook"), set())
+
+
+def check_service(programs: Programs) -> None:
+    """A service that is ended by SIGTERM has told all that it noted."""
+    with tempfile.TemporaryDirectory() as folder:
+        words = json.dumps(programs.words("ends", "sleep"))
+        file = written(folder, "system.toml", f'[process.one]\ncommand = {words}\nready = "raced"\nservice = true\n'
+                       '[process.other]\ncommand = ["true"]\nafter = ["one"]\ntraced = false\n')
+        ran = subprocess.run(
+            [sys.executable, "-m", "itc_trace", "system", str(file)], env={**os.environ, "PYTHONPATH": str(CLIENTS / "python")},
+            capture_output=True, text=True, timeout=MOST_SECONDS)
+    check(ran, RACES, marked(PRIMITIVES[programs.language], "race", "ends"), set())
+
+
+def check_child(programs: Programs) -> None:
+    """A child process comes after whoever has started it, and before whoever has waited for it. It has a name of its own."""
+    for how, status in (("ordered", NO_RACE), ("raced", RACES)):
+        with tempfile.TemporaryDirectory() as folder:
+            ran = run_system(Path(folder), shop=programs.words("parent", how))
+        check(ran, status, marked(PRIMITIVES[programs.language], "race", "parent") if status else set(), set())
+        if "started again" in ran.stderr:
+            raise Wrong(ran.stderr)
+
+
+def check_names_in_full(programs: Programs) -> None:
+    """A process is told by its name in full."""
+    with tempfile.TemporaryDirectory() as folder:
+        ran = run_system(Path(folder), warehouse_of_all=programs.words("lost_update"))
+    if "race on stock of warehouse_of_all\n" not in ran.stderr or not re.search("in [A-Za-z:.]*sell", ran.stderr):
+        raise Wrong(ran.stderr)
 
 
 def check_across(programs: Programs) -> None:
@@ -312,6 +404,14 @@ def check_table() -> None:
         raise Wrong(f"{PAGE.name} lacks {sorted(due - named)}, and has {sorted(named - due)}, which nothing runs")
 
 
+def check_other_table(programs: Programs) -> None:
+    """The table of what else a client follows names each of its programs of one order, and no others."""
+    text = PAGE.read_text().partition(f"\n## What else {programs.language.title()} follows\n")[2].partition("\n## ")[0]
+    named = {name for row in re.findall(r"^\| .* \| ([^|]*) \|$", text, re.M) for name in re.findall(r"`(\w+)`", row)}
+    if named != set(primitives_of(programs)):
+        raise Wrong(f"{PAGE.name} has {sorted(named)}, and there are {sorted(primitives_of(programs))}")
+
+
 class Check(NamedTuple):
     """A check of one program or of several, by their names, with what it calls, and with what."""
 
@@ -368,6 +468,18 @@ def main() -> int:
                 ("across", check_across), ("no collector", check_without_collector), ("gone collector", check_gone_collector),
                 ("refused report", check_refused_report), ("message is sent", check_message_is_sent), ("journal", check_journal))
         ]
+        if language in PRIMITIVES:
+            names = primitives_of(programs)
+            checks += [
+                Check([f"{language}: {name}, {how}" for name in names[first:first + FEW] for how in ("ordered", "raced")],
+                      check_primitives, (programs, names[first:first + FEW])) for first in range(0, len(names), FEW)
+            ]
+            checks += [Check([f"{language}: end by {how}"], check_end, (programs, how)) for how in ENDS[language]]
+            checks += [
+                Check([f"{language}: {name}"], call, (programs,)) for name, call in (
+                    ("other table", check_other_table), ("free locks", check_free_locks), ("service", check_service), ("child", check_child),
+                    ("names in full", check_names_in_full), *([("late hook", check_late_hook)] if language == "java" else []))
+            ]
     return run_all("wrappers", checks)
 
 

@@ -3,13 +3,41 @@
 use std::fs::{File, OpenOptions};
 use std::io;
 
-const MOST_NAME: usize = 5;
+/// How many letters and digits of a process's name stand before the names of its threads.
+const MOST_TAG: usize = 8;
+/// How long the name of a task may be.
+pub(crate) const MOST_NAME: usize = 24;
+/// Names the task that a process is, its tag, and its name, if the process that started it has begun that task already.
+const CHILD: &str = "ITC_TRACE_CHILD";
+/// Names the file of the journal.
+pub(crate) const JOURNAL: &str = "ITC_TRACE_JOURNAL";
+
+/// What a process is that another one has started as a child of its own.
+#[derive(Clone, Debug, PartialEq, Eq)]
+pub(crate) struct Child {
+    pub task: String,
+    pub tag: String,
+    pub name: String,
+}
+
+impl Child {
+    /// The variable that tells a new process so.
+    pub fn variable(&self) -> (&'static str, String) {
+        (CHILD, format!("{} {} {}", self.task, self.tag, self.name))
+    }
+
+    fn read(told: &str) -> Option<Child> {
+        let mut words = told.splitn(3, ' ').map(String::from);
+        Some(Child { task: words.next()?, tag: words.next()?, name: words.next()? })
+    }
+}
 
 pub(crate) struct Environment {
     pub port: u16,
     pub tenant: String,
-    /// The name of the process, of letters and digits alone.
+    /// The name of the process, as it was given.
     pub process: String,
+    pub child: Option<Child>,
     journal: Option<String>,
 }
 
@@ -22,26 +50,50 @@ impl Environment {
             let reason = format!("ITC_TRACE_PORT is {port}, which is no port: set it to a number from 1 to 65535");
             io::Error::new(io::ErrorKind::InvalidInput, reason)
         })?;
-        let letters = named("ITC_TRACE_PROCESS").unwrap_or_default();
-        let letters: String = letters.chars().filter(char::is_ascii_alphanumeric).take(MOST_NAME).collect();
+        let child = named(CHILD).as_deref().and_then(Child::read);
+        let process = child.as_ref().map(|child| child.name.clone()).or_else(|| named("ITC_TRACE_PROCESS"));
         Ok(Some(Environment {
             port,
             tenant: named("ITC_TRACE_TENANT").unwrap_or("trace".into()),
-            process: if letters.is_empty() { "p".into() } else { letters },
-            journal: named("ITC_TRACE_JOURNAL"),
+            process: process.unwrap_or("p".into()),
+            child,
+            journal: named(JOURNAL),
         }))
     }
 
-    /// A file that was not there, if a journal is wanted. A process that is started again does not overwrite its first one.
-    pub fn fresh_journal(&self) -> io::Result<Option<File>> {
+    /// A file that was not there, if a journal is wanted. A process that is started again does not overwrite its first one, and a child
+    /// adds to that of its parent.
+    pub fn open_journal(&self) -> io::Result<Option<(File, String)>> {
         let Some(path) = &self.journal else { return Ok(None) };
+        if self.child.is_some() {
+            return Ok(Some((OpenOptions::new().append(true).create(true).open(path)?, path.clone())));
+        }
         for number in 1.. {
             let tried = if number == 1 { path.to_string() } else { format!("{path}.{number}") };
-            match OpenOptions::new().write(true).create_new(true).open(tried) {
+            match OpenOptions::new().append(true).create_new(true).open(&tried) {
                 Err(error) if error.kind() == io::ErrorKind::AlreadyExists => continue,
-                opened => return opened.map(Some),
+                opened => return Ok(Some((opened?, tried))),
             }
         }
         unreachable!("some name is free")
+    }
+}
+
+/// The name of a task for a process of this name.
+pub(crate) fn task_of(process: &str) -> String {
+    let letters: String = process.chars().map(|next| if next.is_ascii_alphanumeric() { next } else { '_' }).collect();
+    match letters.trim_matches('_') {
+        "" => "p".into(),
+        name => name.chars().take(MOST_NAME).collect(),
+    }
+}
+
+/// What the names of the process's other tasks begin with.
+pub(crate) fn tag_of(process: &str) -> String {
+    let letters: String = process.chars().filter(char::is_ascii_alphanumeric).take(MOST_TAG).collect();
+    if letters.is_empty() {
+        "p".into()
+    } else {
+        letters
     }
 }

@@ -17,42 +17,63 @@ pub(crate) fn now() -> Time {
     SystemTime::now().duration_since(UNIX_EPOCH).ok()
 }
 
+/// A lock, by its number in this process and the line that made it.
+#[derive(Clone, Copy, Debug, PartialEq, Eq)]
+pub(crate) struct LockName {
+    pub number: u64,
+    pub made: &'static Location<'static>,
+}
+
+impl LockName {
+    /// What a person calls it.
+    pub fn told(self) -> String {
+        format!("lock ({}:{})", self.made.file(), self.made.line())
+    }
+}
+
 /// What a journal says of one event, or of one of the touches that an event stands for.
-#[derive(Clone, Debug, PartialEq, Eq, Hash)]
+#[derive(Clone, Debug)]
 pub(crate) struct Row {
-    pub task: String,
+    pub task: Arc<str>,
     /// What was touched, and none of any other event.
     pub thing: Option<String>,
-    pub kind: String,
+    pub kind: &'static str,
     pub site: Site,
     pub label: String,
+    /// The function that touches.
+    pub function: Option<Arc<str>>,
     /// The locks that the task holds.
-    pub held: Vec<Arc<str>>,
+    pub held: Vec<LockName>,
     /// The lock that a message hands over.
-    pub lock: Option<Arc<str>>,
+    pub lock: Option<LockName>,
     /// When the event was. None if another row tells it.
     pub time: Time,
 }
 
 impl Row {
     /// A row that tells neither a thing nor a time.
-    pub fn new(task: &str, kind: &str, site: Site, label: &str) -> Row {
-        Row { task: task.into(), thing: None, kind: kind.into(), site, label: label.into(), held: Vec::new(), lock: None, time: None }
+    pub fn new(task: &Arc<str>, kind: &'static str, site: Site, label: String) -> Row {
+        Row { task: task.clone(), thing: None, kind, site, label, function: None, held: Vec::new(), lock: None, time: None }
     }
 
-    pub fn text(&self, event: u64) -> String {
+    /// The line of the journal. The prefix tells the locks of this process from those of others.
+    pub fn text(&self, event: u64, prefix: &str) -> String {
         let thing = self.thing.as_deref().map_or("null".into(), quoted);
         let (file, line) = self.site.map_or(("null".into(), 0), |site| (quoted(site.file()), site.line()));
-        let (task, kind, label) = (quoted(&self.task), quoted(&self.kind), quoted(&self.label));
+        let (task, label) = (quoted(&self.task), quoted(&self.label));
         let time = self.time.map_or(String::new(), |time| format!(",\"time\":{}.{:06}", time.as_secs(), time.subsec_micros()));
-        let mut text = format!("{{\"event\":{event}{time},\"task\":{task},\"thing\":{thing},\"kind\":{kind}");
+        let mut text = format!("{{\"event\":{event}{time},\"task\":{task},\"thing\":{thing},\"kind\":\"{}\"", self.kind);
         text += &format!(",\"file\":{file},\"line\":{line},\"label\":{label}");
+        let lock = |lock: LockName| quoted(&format!("#{prefix}{} {}", lock.number, lock.told()));
+        if let Some(function) = &self.function {
+            text += &format!(",\"function\":{}", quoted(function));
+        }
         if !self.held.is_empty() {
-            let held: Vec<String> = self.held.iter().map(|lock| quoted(lock)).collect();
+            let held: Vec<String> = self.held.iter().map(|held| lock(*held)).collect();
             text += &format!(",\"held\":[{}]", held.join(","));
         }
-        if let Some(lock) = &self.lock {
-            text += &format!(",\"lock\":{}", quoted(lock));
+        if let Some(handed) = self.lock {
+            text += &format!(",\"lock\":{}", lock(handed));
         }
         text + "}\n"
     }
@@ -61,6 +82,16 @@ impl Row {
 /// The line that says what was not seen, and why.
 pub(crate) fn unseen(cause: &str, reason: &str) -> String {
     format!("{{\"unseen\":{},\"text\":{}}}\n", quoted(cause), quoted(reason))
+}
+
+/// The line that says that a child process adds to the journal.
+pub(crate) fn child_begun(tag: &str, how: &str) -> String {
+    format!("{{\"child\":{},\"begun\":{}}}\n", quoted(tag), quoted(how))
+}
+
+/// The last line of a child process that reported all that it noted.
+pub(crate) fn child_ended(tag: &str) -> String {
+    format!("{{\"child\":{},\"ended\":true}}\n", quoted(tag))
 }
 
 fn quoted(text: &str) -> String {

@@ -1,6 +1,6 @@
 //! A process that reports by hand where its environment says.
 
-use crate::environment::Environment;
+use crate::environment::{tag_of, Environment};
 use crate::journal::{self, Row, Time};
 use crate::session::{Error, Kind, Session};
 use std::fs::File;
@@ -17,6 +17,7 @@ const TASK_EXISTS: u16 = 402;
 pub struct Reporter {
     /// The task of this process, and the first part of the names of its other tasks.
     pub task: String,
+    process: String,
     session: Session,
     journal: Mutex<Option<File>>,
 }
@@ -25,10 +26,10 @@ impl Reporter {
     /// None if the environment names no port.
     pub fn from_environment() -> Result<Option<Reporter>, Error> {
         let Some(environment) = Environment::read()? else { return Ok(None) };
-        let journal = environment.fresh_journal()?;
+        let journal = environment.open_journal()?.map(|(journal, _)| journal);
         let session = Session::new(Kind::Report, &environment.tenant, environment.port)?;
-        let mut reporter = Reporter { task: String::new(), session, journal: Mutex::new(journal) };
-        reporter.begin(&environment.process)?;
+        let mut reporter = Reporter { task: String::new(), process: environment.process.clone(), session, journal: Mutex::new(journal) };
+        reporter.begin(&tag_of(&environment.process))?;
         Ok(Some(reporter))
     }
 
@@ -38,9 +39,12 @@ impl Reporter {
             match self.session.spawn("root", &tried) {
                 Err(Error::Refused { code: TASK_EXISTS, .. }) => continue,
                 told => {
-                    let row = Row::new("root", "spawn", None, &format!("start process {tried}"));
+                    let row = Row::new(&"root".into(), "spawn", None, format!("start process {tried}"));
                     self.write(told?, &Row { time: journal::now(), ..row })?;
                 }
+            }
+            if number > 1 {
+                self.process += &format!(" {number}"); // What is its own is not that of the first one.
             }
             self.task = tried;
             break;
@@ -56,7 +60,7 @@ impl Reporter {
     /// The task reads or writes the thing, which is of this process, at the line that calls this.
     #[track_caller]
     pub fn touch(&self, task: &str, thing: &str, writes: bool) -> Result<u64, Error> {
-        self.touch_across(task, &format!("{thing} of {}", self.task), writes)
+        self.touch_across(task, &format!("{thing} of {}", self.process), writes)
     }
 
     /// The same of a thing that all processes call by this name, as a file.
@@ -101,16 +105,24 @@ impl Reporter {
 
     /// Writes the row of an event, by what the collector has answered after this time.
     #[track_caller]
-    fn at(&self, time: Time, told: Result<u64, Error>, task: &str, kind: &str, thing: Option<&str>, label: &str) -> Result<u64, Error> {
+    fn at(
+        &self,
+        time: Time,
+        told: Result<u64, Error>,
+        task: &str,
+        kind: &'static str,
+        thing: Option<&str>,
+        label: &str,
+    ) -> Result<u64, Error> {
         let event = told?;
-        let row = Row { thing: thing.map(String::from), time, ..Row::new(task, kind, Some(Location::caller()), label) };
+        let row = Row { thing: thing.map(String::from), time, ..Row::new(&task.into(), kind, Some(Location::caller()), label.into()) };
         self.write(event, &row)?;
         Ok(event)
     }
 
     fn write(&self, event: u64, row: &Row) -> Result<(), Error> {
         match self.journal.lock().unwrap().as_mut() {
-            Some(journal) => Ok(journal.write_all(row.text(event).as_bytes())?),
+            Some(journal) => Ok(journal.write_all(row.text(event, "").as_bytes())?),
             None => Ok(()),
         }
     }

@@ -9,7 +9,11 @@ use std::sync::Mutex;
 #[derive(Debug)]
 pub enum Error {
     /// It was refused with this code; the reply is the code and its text, as in `401 no task`.
-    Refused { code: u16, request: String, reply: String },
+    Refused {
+        code: u16,
+        request: String,
+        reply: String,
+    },
     Io(io::Error),
 }
 
@@ -157,12 +161,7 @@ impl Session {
 
     pub fn event(&self, event: u64) -> Result<Event, Error> {
         let words = self.request(&format!("event {event}"))?;
-        Ok(Event {
-            kind: words[0].clone(),
-            task: words[1].clone(),
-            name: words[2].clone(),
-            follows: numbers(&words[4..])?,
-        })
+        Ok(Event { kind: words[0].clone(), task: words[1].clone(), name: words[2].clone(), follows: numbers(&words[4..])? })
     }
 
     pub fn stamp(&self, event: u64) -> Result<String, Error> {

@@ -1,109 +1,134 @@
 //! Locks whose order is reported, used as those of the standard library.
 
-use crate::journal::Site;
-use crate::traced::{self, hold, let_go, mark, on, take};
-use crate::tracer::{Token, What};
-use std::fmt::{self, Debug};
-use std::ops::{Deref, DerefMut};
-use std::panic::Location;
-use std::sync::atomic::{AtomicBool, Ordering};
-use std::sync::{self, Arc, LockResult, OnceLock, PoisonError, TryLockError, TryLockResult, WaitTimeoutResult};
-use std::time::Duration;
+mod barrier;
+mod once;
 
+pub mod atomic;
 pub mod mpsc;
 #[cfg(test)]
 mod order_tests;
 
-/// What a lock hands over.
+pub use barrier::{Barrier, BarrierWaitResult};
+pub use once::{LazyLock, Once, OnceLock};
+pub use std::sync::{Arc, LockResult, OnceState, PoisonError, TryLockError, TryLockResult, WaitTimeoutResult, Weak};
+
+use crate::journal::{LockName, Site};
+use crate::place::{Mark, What};
+use crate::traced::{self, hold, on, release_lock, take_by, Marks};
+use crate::tracer::Tracer;
+use std::collections::BTreeMap;
+use std::fmt::{self, Debug, Display};
+use std::ops::{Deref, DerefMut};
+use std::panic::Location;
+use std::sync::atomic::{AtomicBool, AtomicU64, Ordering};
+use std::sync::{self};
+use std::time::{Duration, Instant};
+
+/// What tells a lock from others, and whether its hand-over is meant.
 struct Hand {
     made: &'static Location<'static>,
-    name: OnceLock<Arc<str>>,
-    released: sync::Mutex<Released>,
-    /// Whether several threads may take what a writer hands over.
-    is_shared: bool,
+    /// It is 0 up to the first time that the lock is acquired in a trace.
+    number: AtomicU64,
     /// Whether others wait for more than the lock, as for a condition. Then its hand-over is meant, and no luck.
     is_signal: AtomicBool,
 }
 
-#[derive(Default)]
-struct Released {
-    by_writer: Option<Arc<Token>>,
-    by_readers: Vec<Arc<Token>>,
-}
-
 impl Hand {
     #[track_caller]
-    fn new(is_shared: bool) -> Hand {
-        let (name, released, is_signal) = (OnceLock::new(), sync::Mutex::default(), AtomicBool::new(false));
-        Hand { made: Location::caller(), name, released, is_shared, is_signal }
+    const fn new() -> Hand {
+        Hand { made: Location::caller(), number: AtomicU64::new(0), is_signal: AtomicBool::new(false) }
     }
 
-    /// None if there is no trace.
-    fn name(&self) -> Option<&Arc<str>> {
+    #[inline]
+    fn name(&self, tracer: &Tracer) -> LockName {
+        let number = match self.number.load(Ordering::Relaxed) {
+            0 => self.numbered(tracer),
+            number => number,
+        };
+        LockName { number, made: self.made }
+    }
+
+    #[cold]
+    fn numbered(&self, tracer: &Tracer) -> u64 {
+        let fresh = tracer.lock_number();
+        self.number.compare_exchange(0, fresh, Ordering::Relaxed, Ordering::Relaxed).map_or_else(|known| known, |_| fresh)
+    }
+
+    /// This thread has acquired the lock, which nobody else has now.
+    #[inline]
+    fn acquired(&self, released: &mut Option<Mark>, site: Site) {
+        if let Some(tracer) = on() {
+            if let Some(mark) = released.take() {
+                take_by(tracer, &mark, site);
+            }
+            hold(self.name(tracer));
+        }
+    }
+
+    /// This thread is about to release the lock. Gives the place of that.
+    #[inline]
+    fn releasing(&self, site: Site) -> Option<Mark> {
         let tracer = on()?;
-        Some(self.name.get_or_init(|| tracer.lock_name(&format!("lock ({}:{})", self.made.file(), self.made.line()))))
+        Some(release_lock(tracer, self.name(tracer), &self.is_signal, site))
     }
+}
 
-    fn acquired(&self, is_writer: bool, site: Site) {
-        let Some(name) = self.name() else { return };
-        let mut released = self.released.lock().unwrap_or_else(PoisonError::into_inner);
-        take(released.by_writer.as_ref(), site);
-        if is_writer {
-            released.by_readers.drain(..).for_each(|token| take(Some(&token), site));
-        }
-        hold(name);
-    }
-
-    fn releasing(&self, is_writer: bool, site: Site) {
-        let Some(name) = self.name() else { return };
-        if let_go(name) {
-            self.is_signal.store(true, Ordering::Relaxed); // One that was acquired later stays, as in a lock made of two.
-        }
-        let mut released = self.released.lock().unwrap_or_else(PoisonError::into_inner);
-        let token = mark(&What { is_for_one: !(is_writer && self.is_shared), ..self.what(name) }, site);
-        if is_writer {
-            released.by_writer = token;
-        } else {
-            released.by_readers.extend(token);
-        }
-    }
-
-    fn what(&self, name: &Arc<str>) -> What {
-        let (line, told) = (self.made.line(), format!("lock ({}:{})", self.made.file(), self.made.line()));
-        let lock = (!self.is_signal.load(Ordering::Relaxed)).then(|| name.clone());
-        What { lock, ..What::for_one(&format!("lock{line}"), &format!("release {told}"), &format!("acquire {told}")) }
-    }
+/// A value, and the place where the last one who had it has released it.
+struct Inner<T: ?Sized> {
+    released: Option<Mark>,
+    value: T,
 }
 
 /// A lock whose release comes before the next time that it is acquired.
 pub struct Mutex<T: ?Sized> {
     hand: Hand,
-    mutex: sync::Mutex<T>,
+    mutex: sync::Mutex<Inner<T>>,
 }
 
+/// The lock is released when this is dropped.
+#[must_use = "if unused the Mutex will immediately unlock"]
 pub struct MutexGuard<'a, T: ?Sized> {
     hand: &'a Hand,
     site: Site,
-    guard: Option<sync::MutexGuard<'a, T>>,
+    guard: Option<sync::MutexGuard<'a, Inner<T>>>,
 }
 
 impl<T> Mutex<T> {
+    /// A lock that nobody has.
     #[track_caller]
-    pub fn new(value: T) -> Mutex<T> {
-        Mutex { hand: Hand::new(false), mutex: sync::Mutex::new(value) }
+    pub const fn new(value: T) -> Mutex<T> {
+        Mutex { hand: Hand::new(), mutex: sync::Mutex::new(Inner { released: None, value }) }
     }
 
+    /// The value. This thread comes after whoever had the lock last.
+    #[track_caller]
     pub fn into_inner(self) -> LockResult<T> {
-        take(self.hand.released.into_inner().unwrap_or_else(PoisonError::into_inner).by_writer.as_ref(), None);
-        self.mutex.into_inner()
+        let site = Some(Location::caller());
+        let value = |inner: Inner<T>| {
+            traced::take(inner.released.as_ref(), site);
+            inner.value
+        };
+        self.mutex.into_inner().map(value).map_err(|poisoned| PoisonError::new(value(poisoned.into_inner())))
     }
 }
 
 impl<T: ?Sized> Mutex<T> {
+    /// Waits for the lock.
     #[track_caller]
     pub fn lock(&self) -> LockResult<MutexGuard<'_, T>> {
-        let guarded = self.guarded(Some(Location::caller()));
-        self.mutex.lock().map(&guarded).map_err(|poisoned| PoisonError::new(guarded(poisoned.into_inner())))
+        let site = Some(Location::caller());
+        match self.mutex.lock() {
+            Ok(guard) => Ok(MutexGuard::new(&self.hand, guard, site)),
+            Err(poisoned) => Err(PoisonError::new(MutexGuard::new(&self.hand, poisoned.into_inner(), site))),
+        }
+    }
+
+    /// The lock, if nobody has it.
+    #[track_caller]
+    pub fn try_lock(&self) -> TryLockResult<MutexGuard<'_, T>> {
+        let site = Some(Location::caller());
+        let guarded = |guard| MutexGuard::new(&self.hand, guard, site);
+        self.mutex.try_lock().map(guarded).map_err(|failed| try_failed(failed, guarded))
     }
 
     /// Whether a thread has panicked while it held the lock.
@@ -111,14 +136,34 @@ impl<T: ?Sized> Mutex<T> {
         self.mutex.is_poisoned()
     }
 
-    #[track_caller]
-    pub fn try_lock(&self) -> TryLockResult<MutexGuard<'_, T>> {
-        let guarded = self.guarded(Some(Location::caller()));
-        self.mutex.try_lock().map(&guarded).map_err(|failed| try_failed(failed, guarded))
+    /// Forgets that a thread has panicked while it held the lock.
+    pub fn clear_poison(&self) {
+        self.mutex.clear_poison();
     }
 
-    fn guarded<'a>(&'a self, site: Site) -> impl Fn(sync::MutexGuard<'a, T>) -> MutexGuard<'a, T> {
-        move |guard| MutexGuard::new(&self.hand, guard, site)
+    /// The value, which nobody else has. This thread comes after whoever had the lock last.
+    #[track_caller]
+    pub fn get_mut(&mut self) -> LockResult<&mut T> {
+        let site = Some(Location::caller());
+        let value = |inner: &'_ mut Inner<T>| traced::take(inner.released.take().as_ref(), site);
+        match self.mutex.get_mut() {
+            Ok(inner) => {
+                value(inner);
+                Ok(&mut inner.value)
+            }
+            Err(poisoned) => {
+                let inner = poisoned.into_inner();
+                value(inner);
+                Err(PoisonError::new(&mut inner.value))
+            }
+        }
+    }
+}
+
+impl<T> From<T> for Mutex<T> {
+    #[track_caller]
+    fn from(value: T) -> Mutex<T> {
+        Mutex::new(value)
     }
 }
 
@@ -130,13 +175,20 @@ impl<T: Default> Default for Mutex<T> {
 
 impl<T: ?Sized + Debug> Debug for Mutex<T> {
     fn fmt(&self, f: &mut fmt::Formatter<'_>) -> fmt::Result {
-        self.mutex.fmt(f)
+        let mut told = f.debug_struct("Mutex");
+        match self.mutex.try_lock() {
+            Ok(guard) => told.field("data", &&guard.value),
+            Err(TryLockError::Poisoned(poisoned)) => told.field("data", &&poisoned.into_inner().value),
+            Err(TryLockError::WouldBlock) => told.field("data", &format_args!("<locked>")),
+        };
+        told.field("poisoned", &self.is_poisoned()).finish_non_exhaustive()
     }
 }
 
 impl<'a, T: ?Sized> MutexGuard<'a, T> {
-    fn new(hand: &'a Hand, guard: sync::MutexGuard<'a, T>, site: Site) -> MutexGuard<'a, T> {
-        hand.acquired(true, site);
+    #[inline]
+    fn new(hand: &'a Hand, mut guard: sync::MutexGuard<'a, Inner<T>>, site: Site) -> MutexGuard<'a, T> {
+        hand.acquired(&mut guard.released, site);
         MutexGuard { hand, site, guard: Some(guard) }
     }
 }
@@ -147,68 +199,102 @@ impl<T: ?Sized> Deref for MutexGuard<'_, T> {
     type Target = T;
 
     fn deref(&self) -> &T {
-        self.guard.as_ref().expect(HELD)
+        &self.guard.as_ref().expect(HELD).value
     }
 }
 
 impl<T: ?Sized> DerefMut for MutexGuard<'_, T> {
     fn deref_mut(&mut self) -> &mut T {
-        self.guard.as_mut().expect(HELD)
+        &mut self.guard.as_mut().expect(HELD).value
     }
 }
 
 impl<T: ?Sized> Drop for MutexGuard<'_, T> {
     fn drop(&mut self) {
-        if self.guard.is_some() {
-            self.hand.releasing(true, self.site);
+        if let Some(guard) = &mut self.guard {
+            guard.released = self.hand.releasing(self.site);
         }
     }
+}
+
+/// Where a lock with readers was released.
+#[derive(Default)]
+struct Released {
+    by_writer: Option<Mark>,
+    by_readers: Marks,
 }
 
 /// A lock that several threads may read under at once. They come after the last one that wrote, and before the next one.
 pub struct RwLock<T: ?Sized> {
     hand: Hand,
+    released: sync::Mutex<Released>,
     lock: sync::RwLock<T>,
 }
 
+/// The lock is released when this is dropped.
+#[must_use = "if unused the RwLock will immediately unlock"]
 pub struct RwLockReadGuard<'a, T: ?Sized> {
     hand: &'a Hand,
+    released: &'a sync::Mutex<Released>,
     site: Site,
     guard: sync::RwLockReadGuard<'a, T>,
 }
 
+/// The lock is released when this is dropped.
+#[must_use = "if unused the RwLock will immediately unlock"]
 pub struct RwLockWriteGuard<'a, T: ?Sized> {
     hand: &'a Hand,
+    released: &'a sync::Mutex<Released>,
     site: Site,
     guard: sync::RwLockWriteGuard<'a, T>,
 }
 
 impl<T> RwLock<T> {
+    /// A lock that nobody has.
     #[track_caller]
-    pub fn new(value: T) -> RwLock<T> {
-        RwLock { hand: Hand::new(true), lock: sync::RwLock::new(value) }
+    pub const fn new(value: T) -> RwLock<T> {
+        let released = sync::Mutex::new(Released { by_writer: None, by_readers: BTreeMap::new() });
+        RwLock { hand: Hand::new(), released, lock: sync::RwLock::new(value) }
+    }
+
+    /// The value. This thread comes after whoever had the lock.
+    #[track_caller]
+    pub fn into_inner(self) -> LockResult<T> {
+        take_all(&self.released, Some(Location::caller()));
+        self.lock.into_inner()
     }
 }
 
+/// This thread comes after all who had the lock.
+fn take_all(released: &sync::Mutex<Released>, site: Site) {
+    let mut released = released.lock().unwrap_or_else(PoisonError::into_inner);
+    traced::take(released.by_writer.as_ref(), site);
+    std::mem::take(&mut released.by_readers).values().for_each(|mark| traced::take(Some(mark), site));
+}
+
 impl<T: ?Sized> RwLock<T> {
+    /// Waits until nobody writes.
     #[track_caller]
     pub fn read(&self) -> LockResult<RwLockReadGuard<'_, T>> {
         let guarded = self.guarded_read(Some(Location::caller()));
         self.lock.read().map(&guarded).map_err(|poisoned| PoisonError::new(guarded(poisoned.into_inner())))
     }
 
+    /// The lock for reading, if nobody writes.
     #[track_caller]
     pub fn try_read(&self) -> TryLockResult<RwLockReadGuard<'_, T>> {
         let guarded = self.guarded_read(Some(Location::caller()));
         self.lock.try_read().map(&guarded).map_err(|failed| try_failed(failed, guarded))
     }
 
+    /// Waits until nobody else has the lock.
     #[track_caller]
     pub fn write(&self) -> LockResult<RwLockWriteGuard<'_, T>> {
         let guarded = self.guarded_write(Some(Location::caller()));
         self.lock.write().map(&guarded).map_err(|poisoned| PoisonError::new(guarded(poisoned.into_inner())))
     }
 
+    /// The lock for writing, if nobody else has it.
     #[track_caller]
     pub fn try_write(&self) -> TryLockResult<RwLockWriteGuard<'_, T>> {
         let guarded = self.guarded_write(Some(Location::caller()));
@@ -220,18 +306,60 @@ impl<T: ?Sized> RwLock<T> {
         self.lock.is_poisoned()
     }
 
+    /// Forgets that a thread has panicked while it held the lock.
+    pub fn clear_poison(&self) {
+        self.lock.clear_poison();
+    }
+
+    /// The value, which nobody else has. This thread comes after whoever had the lock.
+    #[track_caller]
+    pub fn get_mut(&mut self) -> LockResult<&mut T> {
+        take_all(&self.released, Some(Location::caller()));
+        self.lock.get_mut()
+    }
+
     fn guarded_read<'a>(&'a self, site: Site) -> impl Fn(sync::RwLockReadGuard<'a, T>) -> RwLockReadGuard<'a, T> {
         move |guard| {
-            self.hand.acquired(false, site);
-            RwLockReadGuard { hand: &self.hand, site, guard }
+            self.acquired(site, |released| traced::take(released.by_writer.as_ref(), site));
+            RwLockReadGuard { hand: &self.hand, released: &self.released, site, guard }
         }
     }
 
     fn guarded_write<'a>(&'a self, site: Site) -> impl Fn(sync::RwLockWriteGuard<'a, T>) -> RwLockWriteGuard<'a, T> {
         move |guard| {
-            self.hand.acquired(true, site);
-            RwLockWriteGuard { hand: &self.hand, site, guard }
+            self.acquired(site, |released| {
+                traced::take(released.by_writer.take().as_ref(), site);
+                std::mem::take(&mut released.by_readers).values().for_each(|mark| traced::take(Some(mark), site));
+            });
+            RwLockWriteGuard { hand: &self.hand, released: &self.released, site, guard }
         }
+    }
+
+    fn acquired(&self, _: Site, take: impl FnOnce(&mut Released)) {
+        if let Some(tracer) = on() {
+            take(&mut self.released.lock().unwrap_or_else(PoisonError::into_inner));
+            hold(self.hand.name(tracer));
+        }
+    }
+}
+
+impl<T: Default> Default for RwLock<T> {
+    #[track_caller]
+    fn default() -> RwLock<T> {
+        RwLock::new(T::default())
+    }
+}
+
+impl<T> From<T> for RwLock<T> {
+    #[track_caller]
+    fn from(value: T) -> RwLock<T> {
+        RwLock::new(value)
+    }
+}
+
+impl<T: ?Sized + Debug> Debug for RwLock<T> {
+    fn fmt(&self, f: &mut fmt::Formatter<'_>) -> fmt::Result {
+        self.lock.fmt(f)
     }
 }
 
@@ -267,13 +395,17 @@ impl<T: ?Sized> DerefMut for RwLockWriteGuard<'_, T> {
 
 impl<T: ?Sized> Drop for RwLockReadGuard<'_, T> {
     fn drop(&mut self) {
-        self.hand.releasing(false, self.site);
+        if let Some(mark) = self.hand.releasing(self.site) {
+            self.released.lock().unwrap_or_else(PoisonError::into_inner).by_readers.insert(mark.place.task, mark);
+        }
     }
 }
 
 impl<T: ?Sized> Drop for RwLockWriteGuard<'_, T> {
     fn drop(&mut self) {
-        self.hand.releasing(true, self.site);
+        if let Some(mark) = self.hand.releasing(self.site) {
+            self.released.lock().unwrap_or_else(PoisonError::into_inner).by_writer = Some(mark);
+        }
     }
 }
 
@@ -295,6 +427,24 @@ impl<T: ?Sized + Debug> Debug for RwLockWriteGuard<'_, T> {
     }
 }
 
+impl<T: ?Sized + Display> Display for MutexGuard<'_, T> {
+    fn fmt(&self, f: &mut fmt::Formatter<'_>) -> fmt::Result {
+        (**self).fmt(f)
+    }
+}
+
+impl<T: ?Sized + Display> Display for RwLockReadGuard<'_, T> {
+    fn fmt(&self, f: &mut fmt::Formatter<'_>) -> fmt::Result {
+        (**self).fmt(f)
+    }
+}
+
+impl<T: ?Sized + Display> Display for RwLockWriteGuard<'_, T> {
+    fn fmt(&self, f: &mut fmt::Formatter<'_>) -> fmt::Result {
+        (**self).fmt(f)
+    }
+}
+
 /// A condition. Whoever waits releases the lock, and acquires it from the one who has notified or from a later one.
 #[derive(Debug, Default)]
 pub struct Condvar {
@@ -302,10 +452,12 @@ pub struct Condvar {
 }
 
 impl Condvar {
-    pub fn new() -> Condvar {
-        Condvar::default()
+    /// A condition that nobody waits for.
+    pub const fn new() -> Condvar {
+        Condvar { condition: sync::Condvar::new() }
     }
 
+    /// Releases the lock, and waits until somebody notifies.
     #[track_caller]
     pub fn wait<'a, T>(&self, guard: MutexGuard<'a, T>) -> LockResult<MutexGuard<'a, T>> {
         let site = Some(Location::caller());
@@ -318,17 +470,17 @@ impl Condvar {
 
     /// Waits as long as the condition holds.
     #[track_caller]
-    pub fn wait_while<'a, T>(
-        &self,
-        mut guard: MutexGuard<'a, T>,
-        mut condition: impl FnMut(&mut T) -> bool,
-    ) -> LockResult<MutexGuard<'a, T>> {
+    pub fn wait_while<'a, T, F>(&self, mut guard: MutexGuard<'a, T>, mut condition: F) -> LockResult<MutexGuard<'a, T>>
+    where
+        F: FnMut(&mut T) -> bool,
+    {
         while condition(&mut guard) {
             guard = self.wait(guard)?;
         }
         Ok(guard)
     }
 
+    /// Waits at most so long.
     #[track_caller]
     pub fn wait_timeout<'a, T>(&self, guard: MutexGuard<'a, T>, time: Duration) -> LockResult<(MutexGuard<'a, T>, WaitTimeoutResult)> {
         let site = Some(Location::caller());
@@ -342,28 +494,51 @@ impl Condvar {
         }
     }
 
+    /// Waits as long as the condition holds, and at most so long.
+    #[track_caller]
+    pub fn wait_timeout_while<'a, T, F>(
+        &self,
+        mut guard: MutexGuard<'a, T>,
+        time: Duration,
+        mut condition: F,
+    ) -> LockResult<(MutexGuard<'a, T>, WaitTimeoutResult)>
+    where
+        F: FnMut(&mut T) -> bool,
+    {
+        let begun = Instant::now();
+        while condition(&mut guard) {
+            let left = time.checked_sub(begun.elapsed()).unwrap_or_default();
+            let (next, timeout) = self.wait_timeout(guard, left)?;
+            guard = next;
+            if left.is_zero() {
+                return Ok((guard, timeout));
+            }
+        }
+        let own = guard.guard.take().expect(HELD);
+        let waited = self.condition.wait_timeout_while(own, Duration::ZERO, |_| false);
+        let (own, timeout) = waited.unwrap_or_else(PoisonError::into_inner);
+        guard.guard = Some(own);
+        Ok((guard, timeout))
+    }
+
+    /// Wakes one who waits.
     pub fn notify_one(&self) {
         self.condition.notify_one();
     }
 
+    /// Wakes all who wait.
     pub fn notify_all(&self) {
         self.condition.notify_all();
     }
 }
 
 /// The lock's own guard, behind the report that the lock is released.
-fn released<'a, T>(mut guard: MutexGuard<'a, T>, site: Site) -> (&'a Hand, sync::MutexGuard<'a, T>) {
+fn released<'a, T>(mut guard: MutexGuard<'a, T>, site: Site) -> (&'a Hand, sync::MutexGuard<'a, Inner<T>>) {
     guard.hand.is_signal.store(true, Ordering::Relaxed);
-    guard.hand.releasing(true, site);
-    (guard.hand, guard.guard.take().expect(HELD))
+    let mut own = guard.guard.take().expect(HELD);
+    own.released = guard.hand.releasing(site);
+    (guard.hand, own)
 }
 
 /// What is passed by a channel, with the place where it was sent.
-fn item() -> What {
-    What::for_one("item", "send", "receive")
-}
-
-/// Whether a trace goes on, for what is only kept then.
-fn is_traced() -> bool {
-    traced::on().is_some()
-}
+static ITEM: What = What::new("item", "send", "receive");

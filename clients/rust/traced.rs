@@ -1,72 +1,165 @@
 //! What a program marks, and how its trace begins and ends.
 
-use crate::environment::Environment;
-use crate::journal::Site;
-use crate::tracer::{Task, Token, Tracer, What, MAIN};
+use crate::ending;
+use crate::environment::{Environment, JOURNAL};
+use crate::journal::{LockName, Site};
+use crate::line::Touch;
+use crate::place::{Gives, Mark, Noted, Place};
+use crate::sites;
+use crate::tracer::{Task, Tracer, END, MAIN};
 use std::cell::{Cell, RefCell};
+use std::collections::BTreeMap;
+use std::ffi::OsStr;
 use std::panic::Location;
-use std::sync::{Arc, OnceLock};
+use std::path::Path;
+use std::process::Command;
+use std::sync::atomic::{AtomicBool, AtomicU8, Ordering};
+use std::sync::{Arc, Mutex, MutexGuard, OnceLock, PoisonError, Weak};
 
 /// The header of HTTP that carries a message.
 pub const HEADER: &str = "Itc-Trace";
 
 static TRACER: OnceLock<Option<Arc<Tracer>>> = OnceLock::new();
 
-thread_local! {
-    static CURRENT: Cell<Option<Task>> = const { Cell::new(None) };
-    static HELD: RefCell<Vec<Arc<str>>> = const { RefCell::new(Vec::new()) };
+/// What a thread knows of itself.
+struct Thread {
+    /// Where its task is.
+    here: RefCell<Weak<Place>>,
+    /// What it has noted there last, of locks.
+    noted: Cell<Option<(u64, usize, bool)>>,
+    held: RefCell<Vec<LockName>>,
 }
 
-/// The trace of this process. When it is dropped, what was noted is reported, and the journal has its last line.
-#[must_use = "the trace ends when it is dropped"]
-pub struct Trace(());
+thread_local! {
+    static CURRENT: Cell<Option<Task>> = const { Cell::new(None) };
+    static ENDS: Ends = const { Ends(Cell::new(None)) };
+    static THREAD: Thread = const { Thread { here: RefCell::new(Weak::new()), noted: Cell::new(None), held: RefCell::new(Vec::new()) } };
+}
 
-impl Drop for Trace {
+/// The task that ends with this thread, behind all that is local to it, and who is told of that.
+struct Ends(Cell<Option<(Task, Done)>>);
+
+impl Drop for Ends {
     fn drop(&mut self) {
-        if let Some(Some(tracer)) = TRACER.get() {
-            tracer.close();
+        if let Some((task, done)) = self.0.take() {
+            end(task, &done);
         }
     }
 }
 
-/// Begins to report where the environment says. If it names no port, nothing is reported.
+/// The end of a task's body, for those who only look whether it is over.
+pub(crate) type Done = Arc<OnceLock<Mark>>;
+
+/// The trace of this process. It goes on up to the end of the process, whatever becomes of this.
+#[derive(Debug)]
+pub struct Trace(());
+
+/// Begins to report where the environment says. If it names no port, nothing is reported. The first call of anything else of this crate
+/// does the same.
 ///
-/// The trace may end before the program does, as when it is full. Then one line on standard error says so, and the program goes on.
+/// The trace ends with the process: behind `main`, by [`std::process::exit`], or by a signal that ends it. It may end before, as when it
+/// is full. Then one line on standard error says so, and the program goes on.
 pub fn begin() -> Trace {
-    TRACER.get_or_init(|| match Environment::read().and_then(|read| read.map(|read| Tracer::new(&read)).transpose()) {
+    on();
+    Trace(())
+}
+
+/// Reports all that was noted by now, as if the process ended here. What is done from here on is reported as it is done.
+///
+/// A program needs this before it ends in a way that nobody can see, as by `_exit` of the C library or by SIGKILL.
+pub fn finish() {
+    if let Some(tracer) = begun() {
+        tracer.finish(false);
+    }
+}
+
+fn start() -> Option<Arc<Tracer>> {
+    match Environment::read().and_then(|read| read.map(|read| Tracer::new(&read)).transpose()) {
         Ok(tracer) => {
-            CURRENT.set(tracer.is_some().then_some(MAIN));
+            if tracer.is_some() {
+                ending::watch();
+            }
             tracer
         }
         Err(fault) => {
             eprintln!("itc_trace: nothing is traced: {fault}");
             None
         }
-    });
-    Trace(())
+    }
+}
+
+/// The process ends.
+pub(crate) fn end_of_process() {
+    if let Some(tracer) = begun() {
+        tracer.finish(true);
+    }
+}
+
+/// Who reports, if there is a trace.
+pub(crate) fn begun() -> Option<&'static Tracer> {
+    TRACER.get()?.as_deref()
+}
+
+/// Who has it stops all others from marking a place.
+#[cfg(test)]
+pub(crate) static MARKING: std::sync::RwLock<()> = std::sync::RwLock::new(());
+
+/// Whether there is a trace that goes on.
+static STAGE: AtomicU8 = AtomicU8::new(UNKNOWN);
+const UNKNOWN: u8 = 0;
+const ON: u8 = 1;
+const OFF: u8 = 2;
+
+/// Who reports, if there is a trace that goes on.
+#[inline]
+pub(crate) fn on() -> Option<&'static Tracer> {
+    match STAGE.load(Ordering::Relaxed) {
+        OFF => None,
+        ON => TRACER.get()?.as_deref(),
+        _ => begin_now(),
+    }
+}
+
+#[cold]
+fn begin_now() -> Option<&'static Tracer> {
+    let tracer = TRACER.get_or_init(start).as_deref().filter(|tracer| !tracer.is_over());
+    let _ = STAGE.compare_exchange(UNKNOWN, if tracer.is_some() { ON } else { OFF }, Ordering::Relaxed, Ordering::Relaxed);
+    tracer
+}
+
+/// Nothing is reported any more.
+pub(crate) fn is_over() {
+    STAGE.store(OFF, Ordering::Relaxed);
 }
 
 /// This thread reads or writes the thing, which is of this process, at the line that calls this.
 #[track_caller]
 pub fn touch(thing: &str, writes: bool) {
-    if let Some(tracer) = on() {
-        tracer.touch(current(tracer), thing, writes, false, Some(Location::caller()), held());
-    }
+    touched(thing, writes, false, Location::caller());
 }
 
 /// The same of a thing that all processes call by this name, as a file.
 #[track_caller]
 pub fn touch_across(thing: &str, writes: bool) {
+    touched(thing, writes, true, Location::caller());
+}
+
+fn touched(thing: &str, writes: bool, is_across: bool, site: &'static Location<'static>) {
     if let Some(tracer) = on() {
-        tracer.touch(current(tracer), thing, writes, true, Some(Location::caller()), held());
+        let (task, held) = (current(tracer), held());
+        let touch = Touch::new(writes, is_across, Some(site), &held);
+        is_at(&tracer.touch(task, thing, &touch, Some(site), sites::function_at(site), &held));
     }
 }
 
-/// The name of a new message from here, if there is a trace: hand it to another process, which calls `incoming` with it.
+/// The name of a new message from here, if there is a trace: hand it to another process, which calls [`incoming`] with it.
 #[track_caller]
 pub fn outgoing() -> Option<String> {
     let site = Some(Location::caller());
-    on().and_then(|tracer| tracer.outgoing(current(tracer), site))
+    let tracer = on()?;
+    let message = tracer.outgoing(current(tracer), site);
+    is_somewhere(tracer);
+    message
 }
 
 /// From now on this thread comes after the place where the message was sent. What is no message is passed over.
@@ -78,87 +171,303 @@ pub fn incoming(message: &str) {
 pub(crate) fn receive(message: &str, site: Site) {
     let is_name = (1..=24).contains(&message.len()) && message.bytes().all(|next| next.is_ascii_alphanumeric() || next == b'_');
     if let Some(tracer) = on().filter(|_| is_name) {
-        tracer.incoming(current(tracer), message, site);
+        is_at(&tracer.incoming(current(tracer), message, site));
     }
 }
 
-/// Who reports, if there is a trace that goes on.
-pub(crate) fn on() -> Option<&'static Tracer> {
-    TRACER.get()?.as_deref().filter(|tracer| !tracer.is_over())
-}
-
 /// The task of this thread.
-fn current(tracer: &Tracer) -> Task {
+#[inline]
+pub(crate) fn current(tracer: &Tracer) -> Task {
     CURRENT.get().unwrap_or_else(|| {
-        let task = tracer.stranger(std::thread::current().name().unwrap_or("thread"));
+        let thread = std::thread::current();
+        let task = match thread.name() {
+            Some("main") => MAIN,
+            name => tracer.stranger(name.unwrap_or("thread")),
+        };
         CURRENT.set(Some(task));
         task
     })
 }
 
-fn held() -> Vec<Arc<str>> {
-    HELD.with_borrow(Vec::clone)
+/// This thread's task is at the place now.
+fn is_at(place: &Arc<Place>) {
+    let _ = THREAD.try_with(|thread| {
+        if thread.here.borrow().as_ptr() != Arc::as_ptr(place) {
+            thread.here.replace(Arc::downgrade(place));
+            thread.noted.set(None);
+        }
+    });
+}
+
+fn is_somewhere(tracer: &Tracer) -> Arc<Place> {
+    let place = tracer.here(current(tracer));
+    is_at(&place);
+    place
+}
+
+/// Where this thread's task is.
+#[inline]
+fn here(tracer: &Tracer) -> Arc<Place> {
+    let known = THREAD.try_with(|thread| thread.here.borrow().upgrade());
+    known.ok().flatten().unwrap_or_else(|| is_somewhere(tracer))
+}
+
+fn held() -> Vec<LockName> {
+    THREAD.try_with(|thread| thread.held.borrow().clone()).unwrap_or_default()
 }
 
 /// This thread holds the lock from now on.
-pub(crate) fn hold(lock: &Arc<str>) {
-    HELD.with_borrow_mut(|held| held.push(lock.clone()));
+#[inline]
+pub(crate) fn hold(lock: LockName) {
+    let _ = THREAD.try_with(|thread| thread.held.borrow_mut().push(lock));
 }
 
-/// This thread no longer holds the lock. Gives whether it still holds one that it acquired later.
-pub(crate) fn let_go(lock: &Arc<str>) -> bool {
-    HELD.with_borrow_mut(|held| match held.iter().rposition(|other| other == lock) {
-        Some(place) => {
-            held.remove(place);
-            place < held.len()
-        }
-        None => false,
+/// This thread releases the lock here. If it has noted the same lock at the same place before, nobody asks for the time again.
+#[inline]
+pub(crate) fn release_lock(tracer: &Tracer, lock: LockName, is_signal: &AtomicBool, site: Site) -> Mark {
+    #[cfg(test)]
+    let _marking = MARKING.read();
+    THREAD.try_with(|thread| thread.release(tracer, lock, is_signal, site)).unwrap_or_else(|_| {
+        let (place, noted) = (tracer.here(current(tracer)), Noted::now(gives_of(lock, is_signal), site));
+        place.slot(noted.gives.is_luck()).note(noted);
+        Mark { place, noted }
     })
 }
 
-/// A place in this thread that somebody may come after.
-pub(crate) fn mark(what: &What, site: Site) -> Option<Arc<Token>> {
-    on().map(|tracer| tracer.mark(current(tracer), what, site))
-}
-
-/// Nobody is going to come after the token's place.
-pub(crate) fn withdraw(token: Option<&Arc<Token>>) {
-    if let (Some(tracer), Some(token)) = (on(), token) {
-        tracer.withdraw(token);
+#[inline]
+fn gives_of(lock: LockName, is_signal: &AtomicBool) -> Gives {
+    if is_signal.load(Ordering::Relaxed) {
+        Gives::Signal(lock)
+    } else {
+        Gives::Luck(lock)
     }
 }
 
-/// This thread comes after the token's place.
-pub(crate) fn take(token: Option<&Arc<Token>>, site: Site) {
-    if let (Some(tracer), Some(token)) = (on(), token) {
-        tracer.take(current(tracer), token, site);
+impl Thread {
+    /// The thread no longer holds the lock. Gives whether it still holds one that it acquired later.
+    #[inline]
+    fn let_go(&self, lock: u64) -> bool {
+        let mut held = self.held.borrow_mut();
+        if held.last().is_some_and(|last| last.number == lock) {
+            held.pop();
+            return false;
+        }
+        match held.iter().rposition(|other| other.number == lock) {
+            Some(place) => {
+                held.remove(place);
+                place < held.len()
+            }
+            None => false,
+        }
+    }
+
+    #[inline]
+    fn release(&self, tracer: &Tracer, lock: LockName, is_signal: &AtomicBool, site: Site) -> Mark {
+        if self.let_go(lock.number) {
+            is_signal.store(true, Ordering::Relaxed); // One that was acquired later stays, as in a lock made of two.
+        }
+        let gives = gives_of(lock, is_signal);
+        let known = self.here.borrow().upgrade();
+        let place = known.unwrap_or_else(|| is_somewhere(tracer));
+        let key = Some((lock.number, site.map_or(0, |site| site as *const _ as usize), gives.is_luck()));
+        if self.noted.replace(key) == key {
+            return Mark { place, noted: Noted { gives, site, time: None } };
+        }
+        let noted = Noted::now(gives, site);
+        place.slot(gives.is_luck()).note(noted);
+        Mark { place, noted }
+    }
+}
+
+/// A place in this thread that somebody may come after.
+pub(crate) fn mark(gives: Gives, site: Site) -> Option<Mark> {
+    #[cfg(test)]
+    let _marking = MARKING.read();
+    let tracer = on()?;
+    let (place, noted) = (here(tracer), Noted::now(gives, site));
+    place.slot(gives.is_luck()).note(noted);
+    Some(Mark { place, noted })
+}
+
+/// This thread comes after the place.
+pub(crate) fn take(mark: Option<&Mark>, site: Site) {
+    if let (Some(tracer), Some(mark)) = (on(), mark) {
+        take_by(tracer, mark, site);
+    }
+}
+
+#[inline]
+pub(crate) fn take_by(tracer: &Tracer, mark: &Mark, site: Site) {
+    let task = current(tracer);
+    if mark.place.task != task {
+        if let Some(place) = tracer.take(task, mark, site) {
+            is_at(&place);
+        }
+    }
+}
+
+/// What somebody may come after, of each task at most one place. Whoever comes, comes after all of them.
+#[derive(Debug, Default)]
+pub(crate) struct Givers(Mutex<Marks>);
+
+pub(crate) type Marks = BTreeMap<Task, Mark>;
+
+impl Givers {
+    pub const fn new() -> Givers {
+        Givers(Mutex::new(BTreeMap::new()))
+    }
+
+    fn marks(&self) -> MutexGuard<'_, Marks> {
+        self.0.lock().unwrap_or_else(PoisonError::into_inner)
+    }
+
+    /// Whoever comes from now on, comes after this place too. A later place of a task stands for its earlier ones.
+    pub fn give(&self, gives: Gives, site: Site) {
+        if let Some(mark) = mark(gives, site) {
+            self.marks().insert(mark.place.task, mark);
+        }
+    }
+
+    pub fn take(&self, site: Site) {
+        if let Some(tracer) = on() {
+            self.marks().values().for_each(|mark| take_by(tracer, mark, site));
+        }
+    }
+
+    /// Takes all, and forgets them.
+    pub fn take_away(&self, site: Site) {
+        let marks = std::mem::take(&mut *self.marks());
+        marks.values().for_each(|mark| take(Some(mark), site));
+    }
+
+    /// Does this while nobody else gives or takes.
+    pub fn with<T>(&self, body: impl FnOnce(&mut Marks) -> T) -> T {
+        body(&mut self.marks())
     }
 }
 
 pub(crate) fn spawn(hint: &str, site: Site) -> Option<Task> {
-    on().map(|tracer| tracer.spawn(current(tracer), hint, site))
+    let tracer = on()?;
+    let (child, place) = tracer.spawn(current(tracer), hint, site);
+    is_at(&place);
+    Some(child)
 }
 
 pub(crate) fn join(child: Option<Task>, site: Site) {
     if let (Some(tracer), Some(child)) = (on(), child) {
-        tracer.join(current(tracer), child, site);
+        is_at(&tracer.join(current(tracer), child, site));
+    }
+}
+
+/// Nobody can wait for the task any more.
+pub(crate) fn forget(task: Option<Task>) {
+    if let (Some(tracer), Some(task)) = (on(), task) {
+        tracer.forget(task);
+    }
+}
+
+fn end(task: Task, done: &Done) {
+    if let Some(tracer) = on() {
+        tracer.end(task);
+        if Arc::strong_count(done) == 1 {
+            tracer.forget(task);
+        }
+    }
+}
+
+/// Has this thread be the task up to its end, behind all that is local to it. Then the task ends.
+pub(crate) fn run_thread<T>(task: Option<Task>, done: Done, body: impl FnOnce() -> T) -> T {
+    if let Some(task) = task {
+        CURRENT.set(Some(task));
+        let kept = done.clone();
+        ENDS.with(|ends| ends.0.set(Some((task, kept)))); // What is local to the thread and made later is dropped before.
+        THREAD.with(|_| ());
+    }
+    let _marking = Marking(done);
+    body()
+}
+
+/// Tells those who look whether a body is over, also if it panics.
+struct Marking(Done);
+
+impl Drop for Marking {
+    fn drop(&mut self) {
+        if let Some(mark) = mark(Gives::Order(&END), None) {
+            let _ = self.0.set(mark);
+        }
     }
 }
 
 /// Does this as the task, which ends with it, also by a panic. Then this thread is the task before again.
-pub(crate) fn run<T>(task: Option<Task>, body: impl FnOnce() -> T) -> T {
-    struct Ending {
-        task: Option<Task>,
-        before: Option<Task>,
-    }
-    impl Drop for Ending {
-        fn drop(&mut self) {
-            if let (Some(tracer), Some(task)) = (on(), self.task) {
-                tracer.end(task);
-            }
-            CURRENT.set(self.before);
-        }
-    }
-    let _ending = Ending { task, before: CURRENT.replace(task) };
+pub(crate) fn run<T>(task: Option<Task>, done: &Done, body: impl FnOnce() -> T) -> T {
+    let _ending = Ending { task, done, before: CURRENT.replace(task) };
+    let _ = THREAD.try_with(|thread| thread.here.replace(Weak::new()));
     body()
+}
+
+struct Ending<'a> {
+    task: Option<Task>,
+    done: &'a Done,
+    before: Option<Task>,
+}
+
+impl Drop for Ending<'_> {
+    fn drop(&mut self) {
+        if let Some(task) = self.task {
+            if let Some(mark) = mark(Gives::Order(&END), None) {
+                let _ = self.done.set(mark);
+            }
+            end(task, self.done);
+        }
+        CURRENT.set(self.before);
+        let _ = THREAD.try_with(|thread| {
+            thread.here.replace(Weak::new());
+            thread.noted.set(None);
+        });
+    }
+}
+
+/// Does this as the task that it is of, and no longer. The task goes on later.
+pub(crate) fn run_as<T>(task: Option<Task>, body: impl FnOnce() -> T) -> T {
+    let _back = Back(CURRENT.replace(task.or(CURRENT.get())));
+    let _ = THREAD.try_with(|thread| thread.here.replace(Weak::new()));
+    body()
+}
+
+struct Back(Option<Task>);
+
+impl Drop for Back {
+    fn drop(&mut self) {
+        CURRENT.set(self.0);
+        let _ = THREAD.try_with(|thread| {
+            thread.here.replace(Weak::new());
+            thread.noted.set(None);
+        });
+    }
+}
+
+/// A task that was run in pieces is over. Nobody waits for it by its task.
+pub(crate) fn end_of(task: Option<Task>) {
+    if let (Some(tracer), Some(task)) = (on(), task) {
+        tracer.end(task);
+        tracer.forget(task);
+    }
+}
+
+/// Starts the task of a process, and tells the process so by its environment. Gives the task.
+pub(crate) fn begin_child(command: &mut Command, site: Site) -> Option<String> {
+    let tracer = on()?;
+    let hint = Path::new(command.get_program()).file_stem().map_or("process".into(), OsStr::to_string_lossy).into_owned();
+    let (child, journal) = tracer.begin_child(current(tracer), &hint, site)?;
+    is_somewhere(tracer);
+    let (name, told) = child.variable();
+    command.env(name, told).env(JOURNAL, journal);
+    Some(child.task)
+}
+
+/// This thread has seen that the child process is over.
+pub(crate) fn join_process(child: Option<String>, site: Site) {
+    if let (Some(tracer), Some(child)) = (on(), child) {
+        is_at(&tracer.join_process(current(tracer), &child, site));
+    }
 }

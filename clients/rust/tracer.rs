@@ -1,22 +1,26 @@
 //! Reports for one process to one tenant, in batches. The program's threads only add to what is to be sent. A thread of the tracer sends
 //! it and writes the journal, and another one reads the replies.
 
-use crate::environment::Environment;
-use crate::journal::{self, Row, Site, Time};
-use std::collections::{HashMap, HashSet, VecDeque};
+use crate::ending;
+use crate::environment::{tag_of, task_of, Child, Environment, MOST_NAME};
+use crate::journal::{self, LockName, Row, Site};
+use crate::line::{Known, Line, Segment, Touch};
+use crate::place::{Mark, Noted, Place, What};
+use std::collections::{HashMap, VecDeque};
 use std::fs::File;
 use std::io::{self, BufRead, BufReader, Write};
 use std::net::{Shutdown, TcpStream};
-use std::sync::atomic::{AtomicBool, Ordering};
+use std::sync::atomic::{AtomicBool, AtomicI32, AtomicU64, Ordering};
 use std::sync::mpsc::{self, Sender};
-use std::sync::{Arc, Condvar, Mutex, MutexGuard, OnceLock, PoisonError};
-use std::thread::{self, JoinHandle};
-use std::time::Duration;
+use std::sync::{Arc, Condvar, Mutex, MutexGuard, PoisonError};
+use std::thread;
+use std::time::{Duration, Instant};
 
 const MOST_EVENTS: usize = 16384;
-const MOST_NAME: usize = 24;
 const MOST_DIGITS: usize = 6;
 const REST: Duration = Duration::from_millis(10);
+/// When what waits to become one event with others is reported for the first time. Each later time takes twice as long.
+const FIRST_PATIENCE: Duration = Duration::from_millis(250);
 const ANSWER_WAIT: Duration = Duration::from_secs(10);
 const END_WAIT: Duration = Duration::from_secs(60);
 const GONE: &str = "the collector is gone";
@@ -24,68 +28,47 @@ const GONE: &str = "the collector is gone";
 /// A task, by its place among those of this process.
 pub(crate) type Task = usize;
 
-/// What an order is called: its message, its sending and its receiving. A lock that only luck hands over is named.
-#[derive(Clone)]
-pub(crate) struct What {
-    pub hint: String,
-    pub giving: String,
-    pub taking: String,
-    pub lock: Option<Arc<str>>,
-    /// Whether at most one task takes it.
-    pub is_for_one: bool,
-}
+/// The end of a task, for those who only look.
+pub(crate) static END: What = What::new("end", "end", "see the end");
 
-impl What {
-    pub fn for_one(hint: &str, giving: &str, taking: &str) -> What {
-        What { hint: hint.into(), giving: giving.into(), taking: taking.into(), lock: None, is_for_one: true }
-    }
-
-    pub fn for_all(hint: &str, giving: &str, taking: &str) -> What {
-        What { is_for_one: false, ..What::for_one(hint, giving, taking) }
-    }
-}
-
-/// A place in a task, behind the events that it had when the token was made. Whoever takes it comes after these.
-pub(crate) struct Token {
-    task: Task,
-    what: What,
-    site: Site,
-    time: Time,
-    message: OnceLock<Arc<Message>>,
-}
-
-struct Message {
-    name: String,
-    takers: Mutex<HashSet<Task>>,
-}
-
-/// What is known of a task.
-#[derive(Default)]
-struct Known {
-    name: String,
-    /// The places behind the last event that somebody may come after. They become messages before the task goes on.
-    pending: Vec<Arc<Token>>,
-    /// The last event, if it stands for touches, by its number among those.
-    touches: Option<u64>,
-    end: Option<Arc<Token>>,
-    joined_by: Option<Task>,
-}
-
-/// An event that stands for all that its task touches up to its next event. Each touch is told once.
+/// The rows of an event that stands for all that its task touched between two other events.
 #[derive(Default)]
 struct Touches {
     /// The number of the event, once the collector has answered.
     event: Option<u64>,
     is_closed: bool,
-    seen: HashSet<Row>,
     fresh: Vec<Row>,
+}
+
+/// What a report may be refused for, with nothing wrong.
+#[derive(Clone, Copy, PartialEq, Eq)]
+enum Refusable {
+    Never,
+    /// The task has the message already.
+    Received,
+    /// The message is of another process. It was never sent, or this task has it.
+    Foreign,
+    /// The task is that of another process, which was killed or was not traced.
+    Child,
+}
+
+impl Refusable {
+    fn takes(self, reply: &str) -> bool {
+        let codes: &[&str] = match self {
+            Refusable::Never => &[],
+            Refusable::Received => &["407"],
+            Refusable::Foreign => &["405", "407"],
+            Refusable::Child => &["405", "407", "408", "409"],
+        };
+        codes.iter().any(|code| reply.starts_with(code))
+    }
 }
 
 /// A report that is on its way.
 struct Report {
     request: String,
     stands_for: StandsFor,
-    may_be_refused: bool,
+    refusable: Refusable,
     answered: Option<Sender<()>>,
 }
 
@@ -94,9 +77,28 @@ enum StandsFor {
     Touches(u64),
 }
 
-#[derive(Default)]
+/// What was sent.
+#[derive(Clone, Copy, PartialEq, Eq)]
+enum Sent {
+    Some,
+    /// All that was noted. The journal has its last line.
+    All,
+    /// The last that is sent at all.
+    Last,
+}
+
+/// How far the process is.
+#[derive(Clone, Copy, Debug, PartialEq, Eq)]
+enum Stage {
+    Running,
+    /// The process ends. What others still do is reported at once, and each of them waits for it.
+    Ending,
+    /// Nothing is reported any more.
+    Over,
+}
+
 struct State {
-    tasks: Vec<Known>,
+    lines: Vec<Line>,
     names: HashMap<String, usize>,
     unsent: String,
     unwritten: String,
@@ -105,19 +107,30 @@ struct State {
     touch_events: u64,
     reports: usize,
     messages: usize,
-    locks: usize,
+    children: usize,
+    /// The name of the process, in full.
+    process: String,
     prefix: String,
-    is_closing: bool,
-    is_over: bool,
+    stage: Stage,
+    /// How often somebody wanted the journal to have all that was noted, and how many of them it has served.
+    wanted: u64,
+    settled: u64,
+    last_line: String,
+    /// Whether another process of the trace has started this one.
+    is_child: bool,
+    patience: Duration,
+    impatient_at: Instant,
 }
 
 pub(crate) struct Tracer {
     state: Mutex<State>,
     changed: Condvar,
     is_over: AtomicBool,
+    locks: AtomicU64,
     stream: TcpStream,
-    /// The one that sends, and the one that reads.
-    threads: Mutex<Vec<JoinHandle<()>>>,
+    /// A signal that ends the process, once what was noted is reported.
+    signal: AtomicI32,
+    journal: Option<String>,
 }
 
 /// The task of this process, and the one that starts the tasks of threads that nobody was seen to start.
@@ -134,17 +147,21 @@ impl Tracer {
         if !count.starts_with("200 ") {
             return Err(io::Error::other(format!("tenant {} at port {}: {count}", environment.tenant, environment.port)));
         }
-        let mut state = State::default();
-        state.begin(&environment.process, |request| ask(&stream, &mut replies, request))?;
-        let journal = environment.fresh_journal()?;
-        state.spawn(MAIN, "others", None);
+        let state = State::begin(environment, |request| ask(&stream, &mut replies, request))?;
+        let (journal, path) = environment.open_journal()?.unzip();
         let sending = stream.try_clone()?;
-        let (changed, is_over, threads) = (Condvar::new(), AtomicBool::new(false), Mutex::default());
-        let tracer = Arc::new(Tracer { state: Mutex::new(state), changed, is_over, stream, threads });
+        let tracer = Arc::new(Tracer {
+            state: Mutex::new(state),
+            changed: Condvar::new(),
+            is_over: AtomicBool::new(false),
+            locks: AtomicU64::new(0),
+            stream,
+            signal: AtomicI32::new(0),
+            journal: path,
+        });
         let (sends, reads) = (tracer.clone(), tracer.clone());
-        let sender = thread::Builder::new().name("itc_trace sender".into()).spawn(move || sends.send_all(sending, journal))?;
-        let reader = thread::Builder::new().name("itc_trace reader".into()).spawn(move || reads.read_all(replies))?;
-        tracer.threads.lock().unwrap().extend([sender, reader]);
+        thread::Builder::new().name("itc_trace sender".into()).spawn(move || sends.send_all(sending, journal))?;
+        thread::Builder::new().name("itc_trace reader".into()).spawn(move || reads.read_all(replies))?;
         Ok(tracer)
     }
 
@@ -156,41 +173,39 @@ impl Tracer {
         self.state.lock().unwrap_or_else(PoisonError::into_inner)
     }
 
-    /// Does this while all who report have to wait.
-    #[cfg(test)]
-    pub fn paused<T>(&self, body: impl FnOnce() -> T) -> T {
-        let _state = self.state();
-        body()
-    }
-
     // What tasks do. Nothing is noted once tracing is over.
 
-    /// The task reads or writes the thing, which is of this process if it is not one across all.
-    pub fn touch(&self, task: Task, thing: &str, writes: bool, is_across: bool, site: Site, held: Vec<Arc<str>>) {
+    /// Does this with all that is known. Gives where the task is then.
+    fn act(&self, task: Task, act: impl FnOnce(&mut State)) -> Arc<Place> {
         let mut state = self.state();
-        let kind = if writes { "write" } else { "read" };
-        let named = if is_across { thing.to_string() } else { format!("{thing} of {}", state.tasks[MAIN].name) };
-        let row = Row::new(&state.tasks[task].name, kind, site, &format!("{kind} {thing}"));
-        state.touch(task, Row { thing: Some(named), held, ..row });
+        act(&mut state);
+        let place = state.lines[task].last().place.clone();
+        if state.stage == Stage::Ending {
+            state.leave(task);
+            self.settle(state);
+        }
+        place
     }
 
-    /// A place in the task that somebody may come after.
-    pub fn mark(&self, task: Task, what: &What, site: Site) -> Arc<Token> {
-        self.state().mark(task, what, site)
+    /// Where the task is.
+    pub fn here(&self, task: Task) -> Arc<Place> {
+        self.state().lines[task].last().place.clone()
     }
 
-    /// Nobody is going to come after the token's place.
-    pub fn withdraw(&self, token: &Arc<Token>) {
-        self.state().withdraw(token);
+    /// The task reads or writes the thing, which is of this process if it is not one across all.
+    pub fn touch(&self, task: Task, thing: &str, touch: &Touch, site: Site, function: Option<Arc<str>>, held: &[LockName]) -> Arc<Place> {
+        self.act(task, |state| state.touch(task, thing, touch, site, function, held))
     }
 
-    /// The task comes after the token's place.
-    pub fn take(&self, task: Task, token: &Arc<Token>, site: Site) {
-        self.state().take(task, token, site);
+    /// The task comes after the place. Gives where it is then, if that is another place.
+    pub fn take(&self, task: Task, mark: &Mark, site: Site) -> Option<Arc<Place>> {
+        (mark.place.task != task).then(|| self.act(task, |state| state.take(task, mark, site)))
     }
 
-    pub fn spawn(&self, parent: Task, hint: &str, site: Site) -> Task {
-        self.state().spawn(parent, hint, site)
+    pub fn spawn(&self, parent: Task, hint: &str, site: Site) -> (Task, Arc<Place>) {
+        let mut child = MAIN;
+        let place = self.act(parent, |state| child = state.spawn(parent, hint, site));
+        (child, place)
     }
 
     /// The task of a thread that nobody was seen to start.
@@ -198,59 +213,98 @@ impl Tracer {
         self.state().spawn(OTHERS, hint, None)
     }
 
+    /// The task does nothing more. Whoever joins it reports its end, or nobody does if nobody can.
     pub fn end(&self, task: Task) {
-        self.state().end(task);
+        let mut state = self.state();
+        state.lines[task].has_ended = true;
+        if state.stage == Stage::Ending {
+            state.leave(task);
+            self.settle(state);
+        }
+    }
+
+    /// Nobody can wait for the task any more.
+    pub fn forget(&self, task: Task) {
+        let mut state = self.state();
+        if state.lines[task].has_ended && state.lines[task].joined_by.is_none() {
+            state.tell_end(task);
+        }
     }
 
     /// The task has seen that the child is done.
-    pub fn join(&self, task: Task, child: Task, site: Site) {
-        self.state().join(task, child, site);
+    pub fn join(&self, task: Task, child: Task, site: Site) -> Arc<Place> {
+        self.act(task, |state| state.join(task, child, site))
     }
 
     /// Sends a message to another process. It returns once the collector has it, so that no receipt can come before.
     pub fn outgoing(&self, task: Task, site: Site) -> Option<String> {
         let (answered, answer) = mpsc::channel();
         let message = self.state().send_outside(task, site, answered);
+        self.await_answer(&answer).then_some(message)
+    }
+
+    fn await_answer(&self, answer: &mpsc::Receiver<()>) -> bool {
         self.changed.notify_all();
-        answer.recv_timeout(ANSWER_WAIT).ok()?;
-        (!self.state().is_over).then_some(message)
+        answer.recv_timeout(ANSWER_WAIT).is_ok() && !self.is_over()
     }
 
-    pub fn incoming(&self, task: Task, message: &str, site: Site) {
-        let mut state = self.state();
-        state.leave(task);
-        let row = Row::new(&state.tasks[task].name, "recv", site, "receive from another process");
-        let (request, stands_for) = (format!("recv {} {message}", row.task), StandsFor::Row(Row { time: journal::now(), ..row }));
-        state.report(task, Report { request, stands_for, may_be_refused: true, answered: None });
+    pub fn incoming(&self, task: Task, message: &str, site: Site) -> Arc<Place> {
+        self.act(task, |state| state.receive_outside(task, message, site))
     }
 
-    /// What tells a lock from others of the same name.
-    pub fn lock_name(&self, name: &str) -> Arc<str> {
-        let mut state = self.state();
-        state.locks += 1;
-        format!("#{}{} {name}", state.prefix, state.locks).into()
+    /// Starts the task of a child process. It returns once the collector has it.
+    pub fn begin_child(&self, task: Task, hint: &str, site: Site) -> Option<(Child, &str)> {
+        let (answered, answer) = mpsc::channel();
+        let child = self.state().begin_child(task, hint, site, answered);
+        self.await_answer(&answer).then_some((child, self.journal.as_deref().unwrap_or_default()))
+    }
+
+    /// The task has seen that the child process is over.
+    pub fn join_process(&self, task: Task, child: &str, site: Site) -> Arc<Place> {
+        self.act(task, |state| state.join_process(task, child, site))
+    }
+
+    /// What tells a lock from others.
+    pub fn lock_number(&self) -> u64 {
+        self.locks.fetch_add(1, Ordering::Relaxed) + 1
     }
 
     // The end
 
-    /// Waits until all is answered, and writes the journal's last line.
-    pub fn close(&self) {
-        self.state().is_closing = true;
+    /// Reports all that was noted, and writes the journal's last line. What others do from then on is reported at once. At the end of
+    /// the process a child ends its task, behind all tasks that have ended by then.
+    pub fn finish(&self, is_end: bool) {
+        let mut state = self.state();
+        if state.stage == Stage::Over {
+            return;
+        }
+        state.stage = Stage::Ending;
+        if is_end && state.is_child {
+            state.end_child();
+        }
+        state.leave_all();
+        self.settle(state);
+    }
+
+    /// Waits until the journal has all that was noted, and its last line.
+    fn settle(&self, mut state: MutexGuard<'_, State>) {
+        state.wanted += 1;
+        let wanted = state.wanted;
         self.changed.notify_all();
+        let waits = |state: &mut State| state.settled < wanted && state.stage != Stage::Over;
         let mut left = usize::MAX;
-        loop {
-            let state = self.state();
-            let now = state.outstanding.len();
-            if state.is_over || now == left {
-                break;
+        while waits(&mut state) {
+            if state.outstanding.len() == left {
+                return self.give_up_in(state, "collector", "the collector does not answer");
             }
-            left = now;
-            drop(self.changed.wait_timeout_while(state, END_WAIT, |state| !state.is_over));
+            left = state.outstanding.len();
+            state = self.changed.wait_timeout_while(state, END_WAIT, waits).unwrap_or_else(PoisonError::into_inner).0;
         }
-        self.give_up("collector", "the collector does not answer");
-        for thread in self.threads.lock().unwrap().drain(..) {
-            let _ = thread.join();
-        }
+    }
+
+    /// A signal ends the process. What was noted is reported first, by the thread that sends.
+    pub fn is_ended_by(&self, signal: i32) {
+        self.signal.store(signal, Ordering::Relaxed);
     }
 
     /// Ends tracing in the middle. The program goes on.
@@ -259,14 +313,15 @@ impl Tracer {
     }
 
     fn give_up_in(&self, mut state: MutexGuard<'_, State>, cause: &str, reason: &str) {
-        if state.is_over {
+        if state.stage == Stage::Over {
             return;
         }
         state.gather_rows();
-        state.is_over = true;
+        state.stage = Stage::Over;
         self.is_over.store(true, Ordering::Relaxed);
+        crate::traced::is_over();
         state.unwritten += &journal::unseen(cause, reason);
-        state.outstanding.clear();
+        state.forget_all();
         drop(state);
         self.changed.notify_all();
         let _ = self.stream.shutdown(Shutdown::Both);
@@ -276,34 +331,68 @@ impl Tracer {
     // The thread that sends, and writes the journal
 
     fn send_all(&self, mut stream: TcpStream, mut journal: Option<File>) {
-        while !self.send_some(&mut stream, &mut journal) {}
+        let mut dying = 0;
+        loop {
+            let signal = self.signal.swap(0, Ordering::Relaxed);
+            if signal != 0 {
+                dying = signal;
+                self.begin_dying(signal);
+            }
+            let sent = self.send_some(&mut stream, &mut journal);
+            if dying != 0 && sent != Sent::Some {
+                ending::is_reported(dying);
+                dying = 0;
+            }
+            if sent == Sent::Last {
+                break;
+            }
+        }
         let _ = self.stream.shutdown(Shutdown::Both);
+        while dying == 0 {
+            thread::sleep(REST); // A signal may still want to end the process.
+            dying = self.signal.swap(0, Ordering::Relaxed);
+        }
+        ending::is_reported(dying);
     }
 
-    /// Gives whether that was the last of it.
-    fn send_some(&self, stream: &mut TcpStream, journal: &mut Option<File>) -> bool {
+    fn begin_dying(&self, signal: i32) {
         let mut state = self.state();
-        if state.unsent.is_empty() && !state.is_over && !state.is_done() {
+        if state.stage != Stage::Over {
+            state.stage = Stage::Ending;
+            state.leave_all();
+            state.unwritten += &journal::unseen("killed", &format!("the program was ended by {}", ending::name_of(signal)));
+            state.wanted += 1;
+        }
+    }
+
+    fn send_some(&self, stream: &mut TcpStream, journal: &mut Option<File>) -> Sent {
+        let mut state = self.state();
+        if state.unsent.is_empty() && state.stage != Stage::Over && !state.can_settle() {
             state = self.changed.wait_timeout(state, REST).unwrap_or_else(PoisonError::into_inner).0;
         }
+        state.lose_patience();
         state.gather_rows();
-        let is_last = state.is_over || state.is_done();
-        if is_last && !state.is_over {
-            state.unwritten += journal::END;
+        let (is_over, settles, wanted) = (state.stage == Stage::Over, state.can_settle(), state.wanted);
+        let mut rows = std::mem::take(&mut state.unwritten);
+        if settles {
+            rows += &state.last_line;
         }
-        let (lines, rows) = (std::mem::take(&mut state.unsent), std::mem::take(&mut state.unwritten));
+        let lines = std::mem::take(&mut state.unsent);
         drop(state);
         if let Some(Err(fault)) = journal.as_mut().map(|journal| journal.write_all(rows.as_bytes())) {
             self.give_up("journal", &format!("the journal cannot be written: {fault}"));
-        }
-        if is_last {
-            self.state().is_over = true;
-            self.is_over.store(true, Ordering::Relaxed);
+        } else if settles {
+            self.state().settled = wanted;
             self.changed.notify_all();
-        } else if stream.write_all(lines.as_bytes()).is_err() {
+        }
+        if !is_over && stream.write_all(lines.as_bytes()).is_err() {
             self.give_up("collector", GONE);
         }
-        is_last
+        match (is_over, settles) {
+            (true, _) => Sent::Last,
+            (false, true) => Sent::All,
+            (false, false) => Sent::Some,
+        }
     }
 
     // The thread that reads replies
@@ -333,161 +422,370 @@ fn ask(mut stream: &TcpStream, replies: &mut BufReader<TcpStream>, lines: &str) 
     }
 }
 
+/// The number of an event that was taken.
+fn event_of(reply: &str) -> Option<u64> {
+    reply.strip_prefix("201 ").and_then(|event| event.parse().ok())
+}
+
+/// A name that no other has, behind a prefix: the letters and digits of a hint, with a number if it needs one.
+fn clean(hint: &str, room: usize) -> String {
+    let letters: String = hint.chars().map(|next| if next.is_ascii_alphanumeric() { next } else { '_' }).collect();
+    let cut: String = letters.trim_matches('_').chars().take(room).collect();
+    match cut.trim_matches('_') {
+        "" => "task".into(),
+        name => name.into(),
+    }
+}
+
 impl State {
-    /// Takes a task of its own under root, in a trace that others report to as well.
-    fn begin(&mut self, name: &str, mut ask: impl FnMut(&str) -> io::Result<String>) -> io::Result<()> {
-        for number in 1.. {
-            let tried = if number == 1 { name.to_string() } else { format!("{name}{number}") };
-            let reply = ask(&format!("spawn root {tried}"))?;
-            if let Some(event) = reply.strip_prefix("201 ").and_then(|event| event.parse().ok()) {
-                let row = Row::new("root", "spawn", None, &format!("start process {tried}"));
-                self.unwritten += &Row { time: journal::now(), ..row }.text(event);
-                self.prefix = format!("{tried}_");
-                self.tasks.push(Known { name: tried, ..Known::default() });
-                break;
-            }
-            if !reply.starts_with("402") {
-                return Err(io::Error::other(format!("spawn root {tried}: {reply}")));
-            }
-        }
-        Ok(())
-    }
-
-    fn is_done(&self) -> bool {
-        self.is_closing && self.outstanding.is_empty()
-    }
-
-    fn touch(&mut self, task: Task, row: Row) {
-        self.leave(task);
-        let (number, time) = match self.tasks[task].touches {
-            Some(number) => (number, None),
-            None => (self.begin_touches(task), journal::now()),
+    /// Takes a task of its own under root, in a trace that others report to as well, unless the process is a child that has one.
+    fn begin(environment: &Environment, mut ask: impl FnMut(&str) -> io::Result<String>) -> io::Result<State> {
+        let mut state = State {
+            lines: Vec::new(),
+            names: HashMap::new(),
+            unsent: String::new(),
+            unwritten: String::new(),
+            outstanding: VecDeque::new(),
+            touches: HashMap::new(),
+            touch_events: 0,
+            reports: 0,
+            messages: 0,
+            children: 0,
+            process: environment.process.clone(),
+            prefix: String::new(),
+            stage: Stage::Running,
+            wanted: 0,
+            settled: 0,
+            last_line: journal::END.into(),
+            is_child: environment.child.is_some(),
+            patience: FIRST_PATIENCE,
+            impatient_at: Instant::now() + FIRST_PATIENCE,
         };
-        if let Some(touches) = self.touches.get_mut(&number) {
-            if touches.seen.insert(row.clone()) {
-                touches.fresh.push(Row { time, ..row });
+        let mut fresh = |parent: &str, hint: &str, numbered: &dyn Fn(usize) -> String| {
+            for number in 1.. {
+                let (name, asked) = (numbered(number), journal::now());
+                let reply = ask(&format!("spawn {parent} {name}"))?;
+                if let Some(event) = event_of(&reply) {
+                    let row = Row::new(&parent.into(), "spawn", None, format!("{hint}{name}"));
+                    let time = if parent == "root" { journal::now() } else { asked }; // A process begins when it is answered.
+                    return Ok((name, number, Row { time, ..row }.text(event, "")));
+                }
+                if !reply.starts_with("402") {
+                    return Err(io::Error::other(format!("spawn {parent} {name}: {reply}")));
+                }
             }
+            unreachable!("some name is free")
+        };
+        let tag = match &environment.child {
+            Some(child) => {
+                state.unwritten += &journal::child_begun(&child.tag, &format!("process {}", child.name));
+                state.last_line = journal::child_ended(&child.tag);
+                state.lines.push(Line::new(MAIN, child.task.as_str().into(), Known::default()));
+                child.tag.clone()
+            }
+            None => {
+                let base = task_of(&environment.process);
+                let numbered =
+                    |number| if number == 1 { base.clone() } else { format!("{}{number}", &base[..base.len().min(MOST_NAME - 4)]) };
+                let (name, number, row) = fresh("root", "start process ", &numbered)?;
+                if number > 1 {
+                    state.process += &format!(" {number}"); // What is its own is not that of the first one.
+                }
+                state.unwritten += &row;
+                state.lines.push(Line::new(MAIN, name.into(), Known::default()));
+                tag_of(&environment.process)
+            }
+        };
+        let main = state.lines[MAIN].name.clone();
+        let tagged = |number| if number == 1 { tag.clone() } else { format!("{tag}{number}") };
+        let (others, number, row) = fresh(&main, "start ", &|number| format!("{}_others", tagged(number)))?;
+        state.unwritten += &row;
+        state.prefix = format!("{}_", tagged(number));
+        state.names.insert("others".into(), 1);
+        state.lines.push(Line::new(OTHERS, others.into(), Known::default()));
+        Ok(state)
+    }
+
+    /// Whether all that was noted is answered, and somebody wants the journal to say so.
+    fn can_settle(&self) -> bool {
+        self.stage == Stage::Ending && self.outstanding.is_empty() && self.unsent.is_empty() && self.settled < self.wanted
+    }
+
+    fn forget_all(&mut self) {
+        self.outstanding.clear();
+        self.touches.clear();
+        self.unsent.clear();
+        for (task, line) in self.lines.iter_mut().enumerate() {
+            line.open = VecDeque::from([Segment::new(task)]);
         }
     }
 
-    fn begin_touches(&mut self, task: Task) -> u64 {
-        self.touch_events += 1;
-        let number = self.touch_events;
-        self.touches.insert(number, Touches::default());
-        let request = format!("local {}", self.tasks[task].name);
-        self.report(task, Report { request, stands_for: StandsFor::Touches(number), may_be_refused: false, answered: None });
-        self.tasks[task].touches = Some(number);
-        number
-    }
+    // What tasks do
 
-    fn mark(&mut self, task: Task, what: &What, site: Site) -> Arc<Token> {
-        let token = Arc::new(Token { task, what: what.clone(), site, time: journal::now(), message: OnceLock::new() });
-        self.tasks[task].pending.push(token.clone());
-        token
-    }
-
-    fn withdraw(&mut self, token: &Arc<Token>) {
-        self.tasks[token.task].pending.retain(|other| !Arc::ptr_eq(other, token));
-    }
-
-    fn take(&mut self, task: Task, token: &Arc<Token>, site: Site) {
-        if token.task == task {
-            if token.what.is_for_one {
-                self.withdraw(token);
-            }
+    fn touch(&mut self, task: Task, thing: &str, touch: &Touch, site: Site, function: Option<Arc<str>>, held: &[LockName]) {
+        if self.stage == Stage::Over {
             return;
         }
-        while token.message.get().is_none() && self.tasks[token.task].pending.iter().any(|other| Arc::ptr_eq(other, token)) {
-            let first = self.tasks[token.task].pending[0].clone();
-            self.send(&first); // Those that were made before come first, so that the times of a task increase.
+        for (event, rows) in self.lines[task].grow(task) {
+            self.add_rows(event, rows);
         }
-        let Some(message) = token.message.get() else { return };
-        if message.takers.lock().unwrap().insert(task) {
-            self.leave(task);
-            let row = Row::new(&self.tasks[task].name, "recv", site, &token.what.taking);
-            self.tell(task, format!("recv {} {}", row.task, message.name), Row { lock: token.what.lock.clone(), ..row });
+        let line = &mut self.lines[task];
+        let name = line.name.clone();
+        let segment = line.last();
+        let is_first = segment.is_empty();
+        if segment.adds(thing, touch) {
+            let kind = if touch.writes { "write" } else { "read" };
+            let named = if touch.is_across { thing.to_string() } else { format!("{thing} of {}", self.process) };
+            let row = Row::new(&name, kind, site, format!("{kind} {thing}"));
+            let row = Row { thing: Some(named), held: held.to_vec(), function, ..row };
+            if is_first {
+                segment.time = journal::now();
+            }
+            match segment.event {
+                Some(event) => self.add_rows(event, vec![row]),
+                None => segment.rows.push(row),
+            }
         }
+        self.advance(task);
+    }
+
+    fn add_rows(&mut self, event: u64, rows: Vec<Row>) {
+        if let Some(touches) = self.touches.get_mut(&event) {
+            touches.fresh.extend(rows);
+        }
+    }
+
+    /// Reports what stands behind no place that somebody may come after.
+    fn advance(&mut self, task: Task) {
+        let open = &mut self.lines[task].open;
+        while open.len() > 1 && open[0].is_closed && !(open[0].has_mark() && open[0].place.unsent().next().is_some()) {
+            open.pop_front();
+        }
+        if open.len() == 1 {
+            self.tell_touches(task, 0);
+        }
+    }
+
+    /// Reports the event of a segment, if it has touches and is not reported yet.
+    fn tell_touches(&mut self, task: Task, place: usize) {
+        let line = &mut self.lines[task];
+        let (name, segment) = (line.name.clone(), &mut line.open[place]);
+        if segment.event.is_some() || segment.rows.is_empty() {
+            return;
+        }
+        self.touch_events += 1;
+        segment.event = Some(self.touch_events);
+        let mut rows = std::mem::take(&mut segment.rows);
+        rows[0].time = segment.time.max(line.time);
+        line.time = rows[0].time;
+        self.touches.insert(self.touch_events, Touches { event: None, is_closed: false, fresh: rows });
+        let stands_for = StandsFor::Touches(self.touch_events);
+        self.report(Report { request: format!("local {name}"), stands_for, refusable: Refusable::Never, answered: None });
+    }
+
+    /// Nothing is added to the event of a segment from now on.
+    fn close(&mut self, task: Task, place: usize) {
+        let segment = &mut self.lines[task].open[place];
+        segment.is_closed = true;
+        if let Some(touches) = segment.event.and_then(|event| self.touches.get_mut(&event)) {
+            touches.is_closed = true;
+        }
+    }
+
+    /// Sends the place at the end of a segment, as what this says.
+    fn send(&mut self, task: Task, place: usize, noted: Noted) {
+        self.close(task, place);
+        let message = self.fresh_message(&noted.gives.hint());
+        let line = &mut self.lines[task];
+        let sent = line.open[place].place.clone();
+        if sent.position() == 0 {
+            line.position += 1;
+            sent.is_sent_at(line.position);
+        }
+        let time = noted.time.max(line.time);
+        let row = Row { lock: noted.gives.lock(), time, ..Row::new(&line.name, "send", noted.site, noted.gives.giving()) };
+        sent.slot(noted.gives.is_luck()).is_sent_as(&message);
+        let request = format!("send {} {message}", line.name);
+        self.tell(task, request, row, Refusable::Never);
+    }
+
+    /// Reports all of a segment, and the place at its end if somebody may come after it.
+    fn tell_whole(&mut self, task: Task, place: usize) {
+        self.tell_touches(task, place);
+        if self.lines[task].open[place].has_mark() {
+            let unsent: Vec<Noted> = self.lines[task].open[place].place.unsent().collect();
+            for noted in unsent {
+                self.send(task, place, noted);
+            }
+        }
+        self.close(task, place);
+    }
+
+    /// Before the task goes on: all that it did is reported.
+    fn leave(&mut self, task: Task) {
+        for place in 0..self.lines[task].open.len() {
+            self.tell_whole(task, place);
+        }
+        let open = &mut self.lines[task].open;
+        let last = open.pop_back().expect("the last segment of a task is always there");
+        open.clear();
+        let mut next = Segment::new(task);
+        if !last.has_mark() && last.place.position() == 0 {
+            next.place = last.place; // Nobody knows it: it may as well stand for the end of the next one.
+        }
+        open.push_back(next);
+    }
+
+    /// At the end of the process, or after some time: what waits to become one with other touches is reported.
+    fn tell_waiting(&mut self, task: Task) -> bool {
+        let (before, last) = (self.reports, self.lines[task].open.len() - 1);
+        for place in 0..last {
+            self.tell_whole(task, place);
+        }
+        self.lines[task].open.drain(..last);
+        self.tell_touches(task, 0);
+        self.reports > before
+    }
+
+    fn leave_all(&mut self) {
+        for task in 0..self.lines.len() {
+            self.tell_waiting(task);
+            if self.lines[task].has_ended && self.lines[task].joined_by.is_none() {
+                self.tell_end(task);
+            }
+        }
+    }
+
+    fn end_child(&mut self) {
+        let ended: Vec<Task> = (0..self.lines.len()).filter(|task| self.lines[*task].has_ended).collect();
+        ended.into_iter().for_each(|task| self.join(MAIN, task, None));
+        self.tell_end(MAIN);
+    }
+
+    fn lose_patience(&mut self) {
+        let now = Instant::now();
+        if now < self.impatient_at || self.stage == Stage::Over {
+            return;
+        }
+        let tasks: Vec<Task> = (0..self.lines.len()).filter(|task| self.lines[*task].open.len() > 1).collect();
+        let told = tasks.into_iter().filter(|task| self.tell_waiting(*task)).count();
+        if told > 0 {
+            self.patience *= 2;
+        }
+        self.impatient_at = now + self.patience;
+    }
+
+    fn take(&mut self, task: Task, mark: &Mark, site: Site) {
+        let (place, gives) = (&mark.place, mark.noted.gives);
+        let is_luck = gives.is_luck();
+        if self.stage == Stage::Over || place.task == task || self.lines[task].known.has(place, is_luck) {
+            return;
+        }
+        if place.slot(is_luck).message().is_none() {
+            self.give(place, mark.noted);
+        }
+        let Some(message) = place.slot(is_luck).message().cloned() else { return };
+        self.lines[task].known.add(place.task, place.position(), is_luck);
+        self.leave(task);
+        let row = Row { lock: gives.lock(), ..Row::new(&self.lines[task].name, "recv", site, gives.taking()) };
+        self.tell(task, format!("recv {} {message}", row.task), row, Refusable::Received);
+    }
+
+    /// Sends a place, and reports all that its task did before.
+    fn give(&mut self, place: &Arc<Place>, noted: Noted) {
+        let task = place.task;
+        let Some(index) = self.lines[task].open.iter().position(|segment| Arc::ptr_eq(&segment.place, place)) else { return };
+        for before in 0..index {
+            self.tell_whole(task, before);
+        }
+        self.tell_touches(task, index);
+        self.send(task, index, noted);
+        self.lines[task].open.drain(..index);
     }
 
     fn spawn(&mut self, parent: Task, hint: &str, site: Site) -> Task {
+        let name: Arc<str> = self.fresh_name(hint).into();
         self.leave(parent);
-        let name = self.fresh_name(hint);
-        let row = Row::new(&self.tasks[parent].name, "spawn", site, &format!("start {name}"));
-        self.tell(parent, format!("spawn {} {name}", row.task), row);
-        self.tasks.push(Known { name, ..Known::default() });
-        self.tasks.len() - 1
+        let row = Row::new(&self.lines[parent].name, "spawn", site, format!("start {name}"));
+        self.tell(parent, format!("spawn {} {name}", row.task), row, Refusable::Never);
+        let mut known = self.lines[parent].known.clone();
+        known.add(parent, self.lines[parent].position, false);
+        let task = self.lines.len();
+        self.lines.push(Line::new(task, name, known));
+        task
     }
 
-    fn end(&mut self, task: Task) {
-        if self.tasks[task].end.is_none() {
-            let token = self.mark(task, &What::for_all("end", "end", "see the end"), None);
-            self.tasks[task].end = Some(token);
-            self.leave(task);
-            let row = Row::new(&self.tasks[task].name, "end", None, "end");
-            self.tell(task, format!("end {}", row.task), row);
-        }
+    /// Reports the end of a task that does nothing more.
+    fn tell_end(&mut self, task: Task) {
+        self.leave(task);
+        let row = Row::new(&self.lines[task].name, "end", None, "end".into());
+        self.tell(task, format!("end {}", row.task), row, Refusable::Never);
+        self.lines[task].joined_by = Some(task); // Nobody else reports it.
+        self.lines[task].known = Known::default();
     }
 
     fn join(&mut self, task: Task, child: Task, site: Site) {
-        let Some(end) = self.tasks[child].end.clone() else { return };
-        match self.tasks[child].joined_by {
-            Some(joiner) if joiner != task => self.take(task, &end, site),
-            Some(_) => {}
-            None => {
-                self.tasks[child].joined_by = Some(task);
-                self.leave(task);
-                let child = self.tasks[child].name.clone();
-                let row = Row::new(&self.tasks[task].name, "join", site, &format!("join {child}"));
-                self.tell(task, format!("join {} {child}", row.task), row);
-            }
+        if self.stage == Stage::Over || !self.lines[child].has_ended || self.lines[child].joined_by.is_some() || task == child {
+            return;
         }
+        let (name, position) = (self.lines[child].name.clone(), self.lines[child].position);
+        self.tell_end(child);
+        self.lines[child].joined_by = Some(task);
+        self.lines[task].known.add(child, position, false);
+        self.leave(task);
+        let row = Row::new(&self.lines[task].name, "join", site, format!("join {name}"));
+        self.tell(task, format!("join {} {name}", row.task), row, Refusable::Never);
     }
 
     fn send_outside(&mut self, task: Task, site: Site, answered: Sender<()>) -> String {
         self.leave(task);
-        self.messages += 1;
-        let message = format!("{}out_{}", self.prefix, self.messages);
-        let row = Row::new(&self.tasks[task].name, "send", site, "send to another process");
-        let (request, stands_for) = (format!("send {} {message}", row.task), StandsFor::Row(Row { time: journal::now(), ..row }));
-        self.report(task, Report { request, stands_for, may_be_refused: false, answered: Some(answered) });
+        let message = self.fresh_message("out");
+        let row = Row::new(&self.lines[task].name, "send", site, "send to another process".into());
+        let request = format!("send {} {message}", row.task);
+        self.tell_and_answer(task, request, row, Refusable::Never, Some(answered));
         message
     }
 
-    /// Before the task goes on: its places become messages.
-    fn leave(&mut self, task: Task) {
-        while let Some(token) = self.tasks[task].pending.first().cloned() {
-            self.send(&token);
-        }
+    fn receive_outside(&mut self, task: Task, message: &str, site: Site) {
+        self.leave(task);
+        let row = Row::new(&self.lines[task].name, "recv", site, "receive from another process".into());
+        self.tell(task, format!("recv {} {message}", row.task), row, Refusable::Foreign);
     }
 
-    /// One message stands for all places of the same lock, or of none.
-    fn send(&mut self, token: &Arc<Token>) {
-        self.messages += 1;
-        let message = Arc::new(Message { name: format!("{}{}_{}", self.prefix, token.what.hint, self.messages), takers: Mutex::default() });
-        let row = Row::new(&self.tasks[token.task].name, "send", token.site, &token.what.giving);
-        let (request, lock) = (format!("send {} {}", row.task, message.name), token.what.lock.clone());
-        self.tell(token.task, request, Row { lock, time: token.time, ..row });
-        let pending = std::mem::take(&mut self.tasks[token.task].pending);
-        let (same, others) = pending.into_iter().partition(|other| other.what.lock == token.what.lock);
-        self.tasks[token.task].pending = others;
-        for other in same as Vec<Arc<Token>> {
-            let _ = other.message.set(message.clone());
-        }
+    fn begin_child(&mut self, task: Task, hint: &str, site: Site, answered: Sender<()>) -> Child {
+        self.leave(task);
+        self.children += 1;
+        let name = self.fresh_name(hint);
+        let row = Row::new(&self.lines[task].name, "spawn", site, format!("start {name}"));
+        let request = format!("spawn {} {name}", row.task);
+        self.tell_and_answer(task, request, row, Refusable::Never, Some(answered));
+        let tag = format!("{}c{}", self.prefix.trim_end_matches('_'), self.children);
+        let own = name.strip_prefix(&self.prefix).unwrap_or(&name);
+        Child { tag, name: format!("{}/{own}", self.process), task: name }
     }
+
+    fn join_process(&mut self, task: Task, child: &str, site: Site) {
+        self.leave(task);
+        let row = Row::new(&self.lines[task].name, "join", site, format!("join {child}"));
+        self.tell(task, format!("join {} {child}", row.task), row, Refusable::Child);
+    }
+
+    // Reports
 
     /// Reports an event, which is now if its row tells no other time.
-    fn tell(&mut self, task: Task, request: String, row: Row) {
-        let stands_for = StandsFor::Row(Row { time: row.time.or_else(journal::now), ..row });
-        self.report(task, Report { request, stands_for, may_be_refused: false, answered: None });
+    fn tell(&mut self, task: Task, request: String, row: Row, refusable: Refusable) {
+        self.tell_and_answer(task, request, row, refusable, None);
     }
 
-    fn report(&mut self, task: Task, report: Report) {
-        let closed = self.tasks[task].touches.take();
-        if let Some(touches) = closed.and_then(|closed| self.touches.get_mut(&closed)) {
-            touches.is_closed = true;
-        }
+    fn tell_and_answer(&mut self, task: Task, request: String, row: Row, refusable: Refusable, answered: Option<Sender<()>>) {
+        let time = row.time.or_else(journal::now).max(self.lines[task].time);
+        self.lines[task].time = time;
+        self.report(Report { request, stands_for: StandsFor::Row(Row { time, ..row }), refusable, answered });
+    }
+
+    fn report(&mut self, report: Report) {
         self.reports += 1;
-        if self.is_over || self.reports > MOST_EVENTS + 1 {
+        if self.stage == Stage::Over || self.reports > MOST_EVENTS + 1 {
             return; // No trace takes so many, and the reply that says so is on its way.
         }
         self.unsent += &report.request;
@@ -497,29 +795,35 @@ impl State {
 
     /// A name that no other task of this process has, short and readable.
     fn fresh_name(&mut self, hint: &str) -> String {
-        let room = MOST_NAME - self.prefix.len() - MOST_DIGITS;
-        let cleaned: String = hint.chars().map(|next| if next.is_ascii_alphanumeric() { next } else { '_' }).take(room).collect();
-        let base = match cleaned.trim_matches('_') {
-            "" => "task",
-            letters => letters,
+        let room = MOST_NAME - self.prefix.len();
+        let base = clean(hint, room);
+        let numbered = |number: usize| {
+            let digits = if number == 1 { String::new() } else { format!("_{number}") };
+            format!("{}{digits}", &base[..base.len().min(room - digits.len())])
         };
-        let mut number = self.names.get(base).copied().unwrap_or(0) + 1;
-        let mut name = if number == 1 { base.to_string() } else { format!("{base}_{number}") };
+        let mut number = self.names.get(&base).copied().unwrap_or(0) + 1;
+        let mut name = numbered(number);
         while number > 1 && self.names.contains_key(&name) {
             number += 1;
-            name = format!("{base}_{number}");
+            name = numbered(number);
         }
-        self.names.insert(base.into(), number);
+        self.names.insert(base.clone(), number);
         self.names.entry(name.clone()).or_insert(1);
         self.prefix.clone() + &name
     }
 
+    fn fresh_message(&mut self, hint: &str) -> String {
+        self.messages += 1;
+        let cut = &hint[..hint.len().min(MOST_NAME - self.prefix.len() - MOST_DIGITS - 1)];
+        format!("{}{cut}_{}", self.prefix, self.messages)
+    }
+
     /// Brings the journal up to what was touched by now.
     fn gather_rows(&mut self) {
-        let unwritten = &mut self.unwritten;
+        let (unwritten, prefix) = (&mut self.unwritten, &self.prefix);
         self.touches.retain(|_, touches| {
             let Some(event) = touches.event else { return true };
-            touches.fresh.drain(..).for_each(|row| *unwritten += &row.text(event));
+            touches.fresh.drain(..).for_each(|row| *unwritten += &row.text(event, prefix));
             !touches.is_closed
         });
     }
@@ -527,10 +831,9 @@ impl State {
     /// Takes over a reply. Gives the cause and the reason, if tracing stops.
     fn replied(&mut self, reply: &str) -> Option<(&'static str, String)> {
         let report = self.outstanding.pop_front()?;
-        let event = reply.strip_prefix("201 ").and_then(|event| event.parse().ok());
-        let fault = match (event, report.stands_for) {
+        let fault = match (event_of(reply), report.stands_for) {
             (Some(event), StandsFor::Row(row)) => {
-                self.unwritten += &row.text(event);
+                self.unwritten += &row.text(event, &self.prefix);
                 None
             }
             (Some(event), StandsFor::Touches(number)) => {
@@ -540,8 +843,7 @@ impl State {
             (None, _) if ["413", "414", "415"].iter().any(|code| reply.starts_with(code)) => {
                 Some(("full", format!("the trace is full ({reply})")))
             }
-            // A message of another process may be one that was never sent, or that this task has.
-            (None, _) if report.may_be_refused && (reply.starts_with("405") || reply.starts_with("407")) => None,
+            (None, _) if report.refusable.takes(reply) => None,
             (None, _) => Some(("tracer", format!("{}: {reply}", report.request))),
         };
         if let Some(answered) = report.answered {

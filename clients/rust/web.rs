@@ -13,7 +13,7 @@
 //! # Ok::<(), std::io::Error>(())
 //! ```
 
-use crate::traced::{self, outgoing, receive, HEADER};
+use crate::traced::{self, outgoing, receive, Done, HEADER};
 use std::io::{self, BufRead, Read, Write};
 use std::panic::Location;
 
@@ -25,7 +25,7 @@ const MOST_HEAD: u64 = 65536;
 #[track_caller]
 pub fn answer<T>(message: Option<&str>, body: impl FnOnce() -> T) -> T {
     let site = Some(Location::caller());
-    traced::run(traced::spawn("request", site), || {
+    traced::run(traced::spawn("request", site), &Done::default(), || {
         receive(message.unwrap_or_default(), site);
         body()
     })

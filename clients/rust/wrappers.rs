@@ -3,6 +3,7 @@
 //!
 //! Usage: cargo run --example wrappers NAME [WORDS]..
 
+mod primitives;
 mod web_programs;
 
 use itc_trace::sync::mpsc::{channel, sync_channel, Receiver, Sender, TryRecvError};
@@ -50,7 +51,8 @@ fn in_two_threads(body: impl Fn() + Send + Sync + 'static) {
 fn plain_threads() {
     let sell_and_note = || {
         sell();
-        (0..2).for_each(|_| touch(&format!("note {:?}", plain::current().id()), true)); // Both are of one task.
+        (0..2).for_each(|_| touch(&format!("note {:?}", plain::current().id()), true));
+        // Both are of one task.
     };
     let threads = [plain::spawn(sell_and_note), plain::spawn(sell_and_note)];
     threads.into_iter().for_each(|thread| thread.join().unwrap());
@@ -295,14 +297,13 @@ fn hand_off(is_touched_after: bool) {
 /// Whoever sees that no message is there has not seen the end of one sender, if there is another one.
 fn one_sender_ends() {
     let (sender, receiver) = channel::<usize>();
-    let other = sender.clone();
-    let ending = thread::spawn(move || {
+    let (other, (done, is_done)) = (sender.clone(), plain_mpsc::channel());
+    thread::spawn(move || {
         touch("other", true); // race: after_hand_off
         drop(other);
+        done.send(()).unwrap();
     });
-    while !ending.is_finished() {
-        plain::sleep(Duration::from_millis(1));
-    }
+    is_done.recv().unwrap(); // That is no order that is reported.
     assert_eq!(receiver.try_recv(), Err(TryRecvError::Empty));
     touch("other", false); // race: after_hand_off
     drop(sender);
@@ -423,12 +424,12 @@ fn many() {
     in_two_threads(|| (0..MANY).for_each(|_| touch(&format!("own {:?}", plain::current().id()), true)));
 }
 
+/// Somebody may come after each of the places where something is sent.
 fn filling() {
-    let (sender, receiver) = channel();
-    for turn in 0..MANY {
+    let (sender, _receiver) = channel();
+    for turn in 0..TURNS {
         sender.send(turn).unwrap();
         touch("stock", true);
-        receiver.recv().unwrap();
     }
 }
 
@@ -654,6 +655,11 @@ fn main() {
         "steps" => Steps::default().run(file()),
         "receiver" => receiver(file()),
         "sender" => sender(file()),
+        "primitives" => primitives::run(&words[2], words.get(3).is_some_and(|how| how == "raced")),
+        "free_locks" => primitives::free_locks(),
+        "ends" => primitives::end(&words[2]),
+        "parent" => primitives::parent(&words[2]),
+        "kid" => primitives::kid(),
         "web_server" => web_programs::serve(file(), words[3].parse().unwrap(), &words[4]),
         "web_client" => web_programs::ask(file(), &words[3]),
         other => panic!("there is no program {other}"),

@@ -733,12 +733,12 @@ public final class Wrappers {
                 });
     }
 
+    /** Somebody may come after each of the places where something is put. */
     private static void filling() throws InterruptedException {
         BlockingQueue<Integer> queue = Traced.queue(new LinkedBlockingQueue<>());
-        for (int turn = 0; turn < MANY; turn++) {
+        for (int turn = 0; turn < TURNS; turn++) {
             queue.put(turn);
             Traced.touch("stock", true);
-            queue.take();
         }
     }
 
@@ -947,6 +947,11 @@ public final class Wrappers {
             case "steps" -> new Steps().run(Path.of(words[1]));
             case "receiver" -> receiver(Path.of(words[1]));
             case "sender" -> sender(Path.of(words[1]));
+            case "primitives" -> Primitives.run(words[1], words.length > 2 && words[2].equals("raced"));
+            case "free_locks" -> Primitives.freeLocks();
+            case "ends" -> Primitives.end(words[1]);
+            case "parent" -> Primitives.parent(words[1]);
+            case "kid" -> Primitives.kid();
             case "web_server" -> WebPrograms.serve(Path.of(words[1]), Integer.parseInt(words[2]), words[3]);
             case "web_client" -> WebPrograms.ask(Path.of(words[1]), words[2]);
             default -> throw new IllegalArgumentException(words[0]);

@@ -2,7 +2,7 @@
 
 use super::mpsc::{channel, sync_channel, TryRecvError};
 use super::{Condvar, Mutex, RwLock};
-use crate::traced::{begin, on};
+use crate::traced::{begin, on, MARKING};
 use std::io::{BufRead, BufReader, Write};
 use std::net::{TcpListener, TcpStream};
 use std::sync::{mpsc, Once};
@@ -12,7 +12,7 @@ use std::time::{Duration, Instant};
 /// A thread that reports too late is done with the act by then.
 const LONG_ENOUGH: Duration = Duration::from_millis(500);
 
-/// Whether a thread that has made this is done with the act while nothing can be reported.
+/// Whether a thread that has made this is done with the act while no place can be marked.
 fn is_early<G>(make: impl FnOnce() -> G + Send, act: impl FnOnce(G) + Send, is_done: impl Fn() -> bool) -> bool {
     let ((ready, is_ready), (go, goes)) = (mpsc::channel(), mpsc::channel());
     thread::scope(|scope| {
@@ -23,14 +23,13 @@ fn is_early<G>(make: impl FnOnce() -> G + Send, act: impl FnOnce(G) + Send, is_d
             act(made);
         });
         is_ready.recv().unwrap();
-        on().unwrap().paused(|| {
-            go.send(()).unwrap();
-            let begun = Instant::now();
-            while !is_done() && begun.elapsed() < LONG_ENOUGH {
-                thread::sleep(Duration::from_millis(1));
-            }
-            is_done()
-        })
+        let _paused = MARKING.write();
+        go.send(()).unwrap();
+        let begun = Instant::now();
+        while !is_done() && begun.elapsed() < LONG_ENOUGH {
+            thread::sleep(Duration::from_millis(1));
+        }
+        is_done()
     })
 }
 
@@ -41,7 +40,7 @@ fn begin_trace() {
         let door = TcpListener::bind("127.0.0.1:0").unwrap();
         std::env::set_var("ITC_TRACE_PORT", door.local_addr().unwrap().port().to_string());
         thread::spawn(move || answer(door.accept().unwrap().0));
-        std::mem::forget(begin());
+        begin();
     });
     assert!(on().is_some());
 }

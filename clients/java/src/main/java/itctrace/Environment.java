@@ -1,19 +1,39 @@
 package itctrace;
 
+import java.io.FileOutputStream;
 import java.io.IOException;
-import java.io.Writer;
-import java.nio.charset.StandardCharsets;
+import java.io.OutputStream;
 import java.nio.file.FileAlreadyExistsException;
 import java.nio.file.Files;
 import java.nio.file.Path;
-import java.nio.file.StandardOpenOption;
 import java.util.Map;
 import java.util.Optional;
 
-/** Where a process reports to, as whoever starts it says: the collector's port and tenant, the process's name, and its journal. */
-record Environment(int port, String tenant, String process, String journal) {
+/**
+ * Where a process reports to, as whoever starts it says: the collector's port and tenant, the process's name in full, its journal, and
+ * what it is if the process that started it has begun its task already.
+ */
+record Environment(int port, String tenant, String process, String journal, Optional<Child> child) {
+    static final String JOURNAL = "ITC_TRACE_JOURNAL";
+    private static final String CHILD = "ITC_TRACE_CHILD";
     private static final int MOST_PORT = 65535;
-    private static final int MOST_NAME = 5;
+    /** How many letters and digits of a process's name stand before the names of its threads. */
+    private static final int MOST_TAG = 8;
+    /** How long the name of a task may be. */
+    static final int MOST_NAME = 24;
+
+    /** A process that is a child of another one: its task, the first part of its other names, and its name. */
+    record Child(String task, String tag, String name) {
+        /** Tells a new process so. */
+        void tell(Map<String, String> environment) {
+            environment.put(CHILD, task + " " + tag + " " + name);
+        }
+
+        private static Optional<Child> read(String told) {
+            String[] words = told.split(" ", 3);
+            return words.length == 3 ? Optional.of(new Child(words[0], words[1], words[2])) : Optional.empty();
+        }
+    }
 
     /** None if the environment names no port. */
     static Optional<Environment> read(Map<String, String> named) throws IOException {
@@ -22,10 +42,15 @@ record Environment(int port, String tenant, String process, String journal) {
             return Optional.empty();
         }
         String tenant = named.getOrDefault("ITC_TRACE_TENANT", "");
-        String letters = named.getOrDefault("ITC_TRACE_PROCESS", "").replaceAll("[^A-Za-z0-9]", "");
-        String process = letters.isEmpty() ? "p" : letters.substring(0, Math.min(MOST_NAME, letters.length()));
+        Optional<Child> child = Child.read(named.getOrDefault(CHILD, ""));
+        String process = child.map(Child::name).orElse(named.getOrDefault("ITC_TRACE_PROCESS", ""));
         return Optional.of(
-                new Environment(portOf(port), tenant.isEmpty() ? "trace" : tenant, process, named.getOrDefault("ITC_TRACE_JOURNAL", "")));
+                new Environment(
+                        portOf(port),
+                        tenant.isEmpty() ? "trace" : tenant,
+                        process.isEmpty() ? "p" : process,
+                        named.getOrDefault(JOURNAL, ""),
+                        child));
     }
 
     private static int portOf(String text) throws IOException {
@@ -35,15 +60,37 @@ record Environment(int port, String tenant, String process, String journal) {
         return Integer.parseInt(text);
     }
 
-    /** A file that was not there. A process that is started again does not overwrite its first journal. */
-    Writer freshJournal() throws IOException {
+    /** The name of the process's task. */
+    String task() {
+        String name = process.replaceAll("[^A-Za-z0-9]", "_").replaceAll("^_+|_+$", "");
+        return name.isEmpty() ? "p" : name.substring(0, Math.min(MOST_NAME, name.length()));
+    }
+
+    /** What the names of its other tasks begin with. */
+    String tag() {
+        String letters = process.replaceAll("[^A-Za-z0-9]", "");
+        return letters.isEmpty() ? "p" : letters.substring(0, Math.min(MOST_TAG, letters.length()));
+    }
+
+    /** A journal that is open, and its path. */
+    record Opened(OutputStream output, String path) {}
+
+    /**
+     * Opens a file that was not there. A process that is started again does not overwrite its first journal, and a child adds to that of
+     * its parent.
+     */
+    Opened openJournal() throws IOException {
         if (journal.isEmpty()) {
-            return Writer.nullWriter();
+            return new Opened(OutputStream.nullOutputStream(), "");
+        }
+        if (child.isPresent()) {
+            return new Opened(new FileOutputStream(journal, true), journal);
         }
         for (int number = 1; ; number++) {
+            String path = number == 1 ? journal : journal + "." + number;
             try {
-                Path path = Path.of(number == 1 ? journal : journal + "." + number);
-                return Files.newBufferedWriter(path, StandardCharsets.UTF_8, StandardOpenOption.CREATE_NEW, StandardOpenOption.WRITE);
+                Files.createFile(Path.of(path));
+                return new Opened(new FileOutputStream(path, true), path);
             } catch (FileAlreadyExistsException taken) {
                 continue;
             }

@@ -1,7 +1,8 @@
 package itctrace;
 
 import java.io.IOException;
-import java.io.Writer;
+import java.io.OutputStream;
+import java.nio.charset.StandardCharsets;
 import java.util.List;
 import java.util.Optional;
 
@@ -16,7 +17,8 @@ public final class Reporter implements AutoCloseable {
     public final String task;
 
     private final Session session;
-    private final Writer journal;
+    private final OutputStream journal;
+    private String process;
 
     /** None if the environment names no port. */
     public static Optional<Reporter> fromEnvironment() throws IOException {
@@ -25,9 +27,10 @@ public final class Reporter implements AutoCloseable {
     }
 
     private Reporter(Environment environment) throws IOException {
-        journal = environment.freshJournal();
+        journal = environment.openJournal().output();
         session = new Session("report", environment.tenant(), environment.port());
-        task = begin(environment.process());
+        process = environment.process();
+        task = begin(environment.tag());
     }
 
     private String begin(String name) throws IOException {
@@ -35,6 +38,7 @@ public final class Reporter implements AutoCloseable {
             String tried = number == 1 ? name : name + number;
             try {
                 write(session.spawn("root", tried), Row.of("root", "spawn", Row.Site.NONE, "start process " + tried, null));
+                process += number == 1 ? "" : " " + number; // What is its own is not that of the first one.
                 return tried;
             } catch (Session.Refused refused) {
                 if (refused.code != TASK_EXISTS) {
@@ -51,7 +55,7 @@ public final class Reporter implements AutoCloseable {
 
     /** The task reads or writes the thing, which is of this process, at the line that calls this. */
     public int touch(String task, String thing, boolean writes) throws IOException {
-        return touched(task, thing + " of " + this.task, writes);
+        return touched(task, thing + " of " + process, writes);
     }
 
     /** The same of a thing that all processes call by this name, as a file. */
@@ -88,7 +92,7 @@ public final class Reporter implements AutoCloseable {
     @Override
     public void close() throws IOException {
         synchronized (journal) {
-            journal.write(Row.END);
+            journal.write(Row.END.getBytes(StandardCharsets.UTF_8));
             journal.close();
         }
         session.close();
@@ -104,8 +108,7 @@ public final class Reporter implements AutoCloseable {
 
     private void write(int event, Row row) throws IOException {
         synchronized (journal) {
-            journal.write(row.text(event));
-            journal.flush();
+            journal.write(row.text(event).getBytes(StandardCharsets.UTF_8));
         }
     }
 }

@@ -1,9 +1,5 @@
 package itctrace;
 
-import itctrace.Row.Site;
-import itctrace.Task.What;
-import java.util.ArrayList;
-import java.util.List;
 import java.util.concurrent.TimeUnit;
 import java.util.concurrent.locks.Condition;
 import java.util.concurrent.locks.Lock;
@@ -17,27 +13,27 @@ abstract class ReportingLock implements Lock {
     }
 
     /** This thread holds it from now on. */
-    abstract void acquired(Site site);
+    abstract void acquired();
 
     /** This thread is about to release it. Reports nothing if the thread does not hold it: the lock itself says what is wrong. */
-    abstract void releasing(Site site);
+    abstract void releasing();
 
     /** Others wait for more than the lock, as for a condition. Then its hand-over is meant, and no luck. */
     abstract void becomeSignal();
 
     /** Reports that the lock is released, however often it is held. Gives what reports that it is acquired again. */
-    abstract Runnable lend(Site site);
+    abstract Runnable lend();
 
     @Override
     public final void lock() {
         lock.lock();
-        acquired(Traced.site());
+        acquired();
     }
 
     @Override
     public final void lockInterruptibly() throws InterruptedException {
         lock.lockInterruptibly();
-        acquired(Traced.site());
+        acquired();
     }
 
     @Override
@@ -52,14 +48,14 @@ abstract class ReportingLock implements Lock {
 
     private boolean acquiredIf(boolean isAcquired) {
         if (isAcquired) {
-            acquired(Traced.site());
+            acquired();
         }
         return isAcquired;
     }
 
     @Override
     public final void unlock() {
-        releasing(Traced.site());
+        releasing();
         lock.unlock();
     }
 
@@ -68,43 +64,5 @@ abstract class ReportingLock implements Lock {
         Condition condition = lock.newCondition();
         becomeSignal();
         return new TracedCondition(condition, this::lend);
-    }
-
-    /** What a lock is called, in labels and as one of those that a task holds. It is looked at with the lock held. */
-    static final class Name {
-        private final Site made = Traced.site();
-        private String number;
-
-        private String number() {
-            if (number == null) {
-                number = Traced.lockName(made);
-            }
-            return number;
-        }
-
-        /** The task holds it from now on. */
-        void hold(Task task) {
-            List<String> held = new ArrayList<>(task.held);
-            held.add(number());
-            task.held = List.copyOf(held);
-        }
-
-        /** The task no longer holds it. Gives whether the task still holds one that it acquired later. */
-        boolean letGo(Task task) {
-            List<String> held = new ArrayList<>(task.held);
-            int place = held.lastIndexOf(number());
-            if (place < 0) {
-                return false;
-            }
-            held.remove(place);
-            task.held = List.copyOf(held);
-            return place < held.size();
-        }
-
-        /** What its release is called. */
-        What release(boolean isSignal, boolean isForOne) {
-            String told = "lock (" + made + ")";
-            return new What("lock" + made.line(), "release " + told, "acquire " + told, isSignal ? null : number(), isForOne);
-        }
     }
 }

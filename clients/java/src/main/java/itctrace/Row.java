@@ -25,8 +25,14 @@ record Row(String task, String thing, String kind, Site site, String label, List
         static Site ofCaller() {
             return StackWalker.getInstance()
                     .walk(frames -> frames.filter(frame -> isOfProgram(frame.getClassName())).findFirst())
-                    .map(frame -> new Site(frame.getFileName(), frame.getLineNumber(), frame.getMethodName()))
+                    .map(Site::of)
                     .orElse(NONE);
+        }
+
+        private static Site of(StackWalker.StackFrame frame) {
+            String type = frame.getClassName();
+            String function = type.substring(type.lastIndexOf('.') + 1) + "." + frame.getMethodName();
+            return new Site(frame.getFileName(), frame.getLineNumber(), function);
         }
 
         private static boolean isOfProgram(String name) {
@@ -54,6 +60,11 @@ record Row(String task, String thing, String kind, Site site, String label, List
         return new Row(task, null, kind, site, label, List.of(), lock, time);
     }
 
+    /** The same row, at this time. */
+    Row withTime(long then) {
+        return new Row(task, thing, kind, site, label, held, lock, then);
+    }
+
     /** By the clock of this process. */
     static long now() {
         Instant now = Instant.now();
@@ -77,6 +88,16 @@ record Row(String task, String thing, String kind, Site site, String label, List
             text.append(",\"lock\":").append(quoted(lock));
         }
         return text.append("}\n").toString();
+    }
+
+    /** The line that says that a child process adds to the journal. */
+    static String childBegun(String tag, String how) {
+        return "{\"child\":" + quoted(tag) + ",\"begun\":" + quoted(how) + "}\n";
+    }
+
+    /** The last line of a child process that reported all that it noted. */
+    static String childEnded(String tag) {
+        return "{\"child\":" + quoted(tag) + ",\"ended\":true}\n";
     }
 
     /** The line that says what was not seen, and why. */

@@ -14,6 +14,9 @@ import java.util.List;
 public final class Session implements AutoCloseable {
     /** A request was refused, with this code. */
     public static final class Refused extends IOException {
+        private static final long serialVersionUID = 1;
+
+        /** The first three digits of the reply, or 0 if it has none. */
         public final int code;
 
         Refused(String request, String reply) {

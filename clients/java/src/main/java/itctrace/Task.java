@@ -1,93 +1,192 @@
 package itctrace;
 
+import itctrace.Place.Mark;
 import java.util.ArrayList;
-import java.util.HashSet;
+import java.util.HashMap;
 import java.util.List;
-import java.util.Set;
+import java.util.Map;
 
-/** The events of one task, in their order. All but `held`, which is the task's own, is looked at with the tracer's lock held. */
+/**
+ * A task of the program, and what it did that the collector does not know yet. All but its name and {@code here} is looked at with the
+ * tracer's lock held.
+ *
+ * <p>A task's touches are noted in segments. Each segment ends at a place. If somebody may come after that place, later touches go into
+ * another segment. If nobody may any more, the two become one. So a lock that one task alone acquires leaves nothing in the trace.
+ */
 final class Task {
+    /** From so many segments on, a task looks whether some can become one. */
+    private static final int MANY = 32;
+    /** So many tasks are known at most. What is forgotten may be told once more. */
+    private static final int MOST_KNOWN = 512;
+
+    private static int numbers;
+
     final String name;
+    final int number;
+    /** The place at the end of the last segment. Only the task's own thread changes it. */
+    Place here;
 
-    /** The locks that the task holds, in the order of their acquiring. */
-    List<String> held = List.of();
-
-    /** The places behind the last event that somebody may come after. They become messages before the task goes on. */
-    final List<Token> pending = new ArrayList<>();
-
-    /** The last event, if it stands for touches. */
-    Touches touches;
-
+    /** What is not reported yet, in order. The last one grows. */
+    List<Segment> open = new ArrayList<>();
+    /** How many of its places were sent. */
+    long position;
+    /** The time of its last event. */
+    long time;
     /** The place at the end, for those who wait for a task that another one has joined. Null as long as the task goes on. */
-    Token end;
+    Mark end;
 
     Task joinedBy;
+    private int many = MANY;
+    private Map<Integer, Long> meant = new HashMap<>();
+    private Map<Integer, Long> luck = new HashMap<>();
 
     Task(String name) {
         this.name = name;
-    }
-
-    /** What an order is called: its message, its sending and its receiving. A lock that only luck hands over is named. */
-    record What(String hint, String giving, String taking, String lock, boolean isForOne) {
-        static What forOne(String hint, String giving, String taking) {
-            return new What(hint, giving, taking, null, true);
+        synchronized (Task.class) {
+            number = ++numbers;
         }
-
-        static What forAll(String hint, String giving, String taking) {
-            return new What(hint, giving, taking, null, false);
-        }
-    }
-
-    /** A place in a task, behind the events that it had when the token was made. Whoever takes it comes after these. */
-    static final class Token {
-        final Task task;
-        final What what;
-        final Row.Site site;
-        final long time = Row.now();
-        Message message;
-
-        Token(Task task, What what, Row.Site site) {
-            this.task = task;
-            this.what = what;
-            this.site = site;
-        }
-    }
-
-    /** A message that was sent, and the tasks that have received it. */
-    record Message(String name, Set<Task> takers) {
-        Message(String name) {
-            this(name, new HashSet<>());
-        }
+        here = new Place(this);
+        open.add(new Segment(here));
     }
 
     /** What tells one touch of a task from the others. */
-    record Touch(String thing, boolean writes, boolean isAcross, Row.Site site, List<String> held) {}
+    record Touch(String thing, boolean writes, boolean isAcross, Row.Site site, Held held) {}
 
-    /** An event that stands for all that its task touches up to its next event. Each touch is told once. */
+    /** The locks that a task holds, the last one first. */
+    record Held(String lock, Held others) {
+        List<String> inOrder() {
+            List<String> locks = new ArrayList<>();
+            for (Held one = this; one != null; one = one.others) {
+                locks.add(0, one.lock);
+            }
+            return locks;
+        }
+    }
+
+    /** What a task touched between two places. */
+    static final class Segment {
+        /** The place at its end. */
+        Place place;
+        /** Whether the place was sent. Then nothing is added. */
+        boolean isClosed;
+        /** Its event, once it is reported. */
+        Touches event;
+
+        long time;
+        List<Row> rows = new ArrayList<>();
+        private final Map<Touch, Row> seen = new HashMap<>();
+
+        Segment(Place place) {
+            this.place = place;
+        }
+
+        boolean isEmpty() {
+            return seen.isEmpty();
+        }
+
+        boolean has(Touch touch) {
+            return seen.containsKey(touch);
+        }
+
+        /** Adds the row of a touch that is new. */
+        void add(Touch touch, Row row) {
+            seen.put(touch, row);
+            if (event != null) {
+                event.fresh.add(row);
+            } else {
+                rows.add(row);
+            }
+        }
+
+        private boolean canGrow() {
+            return !isClosed && !place.hasMark();
+        }
+
+        private void absorb(Segment next) {
+            next.seen.forEach(
+                    (touch, row) -> {
+                        if (!has(touch)) {
+                            add(touch, row);
+                        }
+                    });
+            place = next.place;
+            isClosed = next.isClosed;
+            time = time == 0 ? next.time : time;
+        }
+    }
+
+    /** The rows of an event that stands for all that its task touched between two other events. */
     static final class Touches {
         /** Its number, once the collector has answered. */
         int event;
 
-        /** Whether its task has had another event since. */
         boolean isClosed;
+        List<Row> fresh = new ArrayList<>();
+    }
 
-        private final Set<Touch> seen = new HashSet<>();
-        private List<Row> fresh = new ArrayList<>();
+    Segment last() {
+        return open.get(open.size() - 1);
+    }
 
-        /** Whether the touch is the first of its kind. Then its row is to be added. */
-        boolean isNew(Touch touch) {
-            return seen.add(touch);
+    /** Gives the segment that the next touch belongs to. */
+    Segment grow() {
+        while (open.size() > 1 && open.get(open.size() - 2).canGrow()) {
+            fold(open.size() - 2);
         }
-
-        void add(Row row) {
-            fresh.add(row);
+        if (open.size() > many) {
+            foldAll();
+            many = Math.max(MANY, 2 * open.size());
         }
-
-        /** The rows that are new since the last time. */
-        List<Row> takeRows() {
-            List<Row> rows = fresh;
-            fresh = new ArrayList<>();
-            return rows;
+        if (last().isClosed || last().place.hasMark()) {
+            here = new Place(this);
+            open.add(new Segment(here));
         }
+        return last();
+    }
+
+    private void fold(int place) {
+        open.get(place).absorb(open.remove(place + 1));
+    }
+
+    private void foldAll() {
+        List<Segment> left = new ArrayList<>();
+        for (Segment segment : open) {
+            if (!left.isEmpty() && left.get(left.size() - 1).canGrow()) {
+                left.get(left.size() - 1).absorb(segment);
+            } else {
+                left.add(segment);
+            }
+        }
+        open = left;
+    }
+
+    /** Whether the task has come after the place. What it knows by luck counts if the place is one of luck. */
+    boolean knows(Place place, boolean isLuck) {
+        long position = place.position;
+        return position > 0
+                && (meant.getOrDefault(place.task.number, 0L) >= position
+                        || isLuck && luck.getOrDefault(place.task.number, 0L) >= position);
+    }
+
+    void learn(Task other, long position, boolean isLuck) {
+        Map<Integer, Long> known = isLuck ? luck : meant;
+        if (known.size() > MOST_KNOWN) {
+            known.clear();
+        }
+        known.merge(other.number, position, Math::max);
+    }
+
+    /** A new task knows what its parent does. */
+    void begin(Task parent) {
+        meant.putAll(parent.meant);
+        luck.putAll(parent.luck);
+        learn(parent, parent.position, false);
+    }
+
+    /** It does nothing more. */
+    void forget() {
+        open = new ArrayList<>(List.of(new Segment(here)));
+        meant = new HashMap<>();
+        luck = new HashMap<>();
     }
 }

@@ -1,18 +1,17 @@
 package itctrace;
 
-import itctrace.Row.Site;
 import java.util.Date;
 import java.util.concurrent.TimeUnit;
 import java.util.concurrent.locks.Condition;
-import java.util.function.Function;
+import java.util.function.Supplier;
 
 /** A condition. Whoever waits releases its lock, and acquires it from the one who has signalled or from a later one. */
 final class TracedCondition implements Condition {
     private final Condition condition;
-    private final Function<Site, Runnable> lend;
+    private final Supplier<Runnable> lend;
 
     /** The lock is lent for the time of waiting. What lends it gives what takes it back. */
-    TracedCondition(Condition condition, Function<Site, Runnable> lend) {
+    TracedCondition(Condition condition, Supplier<Runnable> lend) {
         this.condition = condition;
         this.lend = lend;
     }
@@ -22,7 +21,7 @@ final class TracedCondition implements Condition {
     }
 
     private <T> T waiting(Waiting<T> waiting) throws InterruptedException {
-        Runnable takeBack = lend.apply(Traced.site());
+        Runnable takeBack = lend.get();
         try {
             return waiting.await();
         } finally {
@@ -41,7 +40,7 @@ final class TracedCondition implements Condition {
 
     @Override
     public void awaitUninterruptibly() {
-        Runnable takeBack = lend.apply(Traced.site());
+        Runnable takeBack = lend.get();
         try {
             condition.awaitUninterruptibly();
         } finally {

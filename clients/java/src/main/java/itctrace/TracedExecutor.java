@@ -1,5 +1,6 @@
 package itctrace;
 
+import itctrace.Place.Gives;
 import java.util.List;
 import java.util.Queue;
 import java.util.concurrent.AbstractExecutorService;
@@ -10,24 +11,60 @@ import java.util.concurrent.ExecutorService;
 import java.util.concurrent.Executors;
 import java.util.concurrent.FutureTask;
 import java.util.concurrent.RunnableFuture;
+import java.util.concurrent.ThreadPoolExecutor;
 import java.util.concurrent.TimeUnit;
 import java.util.concurrent.TimeoutException;
 
-/** An executor each of whose jobs is a task of its own: it follows its submission, and not the job that the thread did before. */
-final class TracedExecutor extends AbstractExecutorService {
+/**
+ * An executor each of whose jobs is a task of its own: it follows its submission. It follows the job before too, if the executor has
+ * one thread alone.
+ */
+class TracedExecutor extends AbstractExecutorService {
+    private static final Gives NEXT = Gives.order("next", "end job", "begin next job");
+    /** What the JDK gives for an executor of one thread. */
+    private static final List<String> OF_ONE_THREAD =
+            List.of("FinalizableDelegatedExecutorService", "AutoShutdownDelegatedExecutorService", "DelegatedScheduledExecutorService");
+
     private final ExecutorService executor;
-    private final Queue<Task> tasks = new ConcurrentLinkedQueue<>();
+    final Queue<Task> tasks = new ConcurrentLinkedQueue<>();
+    /** Where the last job has ended, if they are done one by one. */
+    private final Givers last = new Givers();
 
     TracedExecutor(ExecutorService executor) {
         this.executor = executor;
+    }
+
+    /** Whether one thread does all jobs, one after the other. */
+    private boolean isOfOneThread() {
+        return executor instanceof ThreadPoolExecutor pool
+                ? pool.getMaximumPoolSize() == 1
+                : OF_ONE_THREAD.contains(executor.getClass().getSimpleName());
+    }
+
+    /** Does a job as this task, which ends with it. */
+    final <T, X extends Exception> T run(Task task, Traced.Body<T, X> body) throws X {
+        return Traced.call(task, () -> inTurn(body));
+    }
+
+    /** Does a job behind the one before, if one thread does them all. */
+    final <T, X extends Exception> T inTurn(Traced.Body<T, X> body) throws X {
+        if (!isOfOneThread()) {
+            return body.run();
+        }
+        last.take(Traced.site());
+        try {
+            return body.run();
+        } finally {
+            last.replace(NEXT, Traced.site());
+        }
     }
 
     /** A job that was submitted. Whoever takes its result comes after it. */
     private static final class Job<T> extends FutureTask<T> {
         private final Task task;
 
-        Job(Task task, Callable<T> body) {
-            super(() -> Traced.call(task, body::call)); // The task ends before the result is there to be taken.
+        Job(TracedExecutor executor, Task task, Callable<T> body) {
+            super(() -> executor.run(task, body::call)); // The task ends before the result is there to be taken.
             this.task = task;
         }
 
@@ -60,12 +97,12 @@ final class TracedExecutor extends AbstractExecutorService {
 
     @Override
     protected <T> RunnableFuture<T> newTaskFor(Runnable body, T value) {
-        return new Job<>(newTask(), Executors.callable(body, value));
+        return new Job<>(this, newTask(), Executors.callable(body, value));
     }
 
     @Override
     protected <T> RunnableFuture<T> newTaskFor(Callable<T> body) {
-        return new Job<>(newTask(), body);
+        return new Job<>(this, newTask(), body);
     }
 
     @Override
@@ -74,11 +111,18 @@ final class TracedExecutor extends AbstractExecutorService {
             executor.execute(body);
         } else {
             Task task = newTask();
-            executor.execute(() -> Traced.run(task, body));
+            executor.execute(
+                    () ->
+                            run(
+                                    task,
+                                    () -> {
+                                        body.run();
+                                        return null;
+                                    }));
         }
     }
 
-    private Task newTask() {
+    final Task newTask() {
         Task task = Traced.spawn("job", Traced.site());
         if (task != null) {
             tasks.add(task);
@@ -86,9 +130,13 @@ final class TracedExecutor extends AbstractExecutorService {
         return task;
     }
 
+    /** What was done again and again is done no more. */
+    void endRepeated() {}
+
     /** Whoever has seen the end of the executor comes after all of its jobs. */
     private boolean endedIf(boolean isTerminated) {
         if (isTerminated) {
+            endRepeated();
             tasks.forEach(task -> Traced.join(task, Traced.site()));
         }
         return isTerminated;

@@ -6,9 +6,9 @@ import com.sun.net.httpserver.HttpContext;
 import com.sun.net.httpserver.HttpExchange;
 import com.sun.net.httpserver.HttpPrincipal;
 import com.sun.net.httpserver.HttpsExchange;
+import itctrace.Place.Gives;
+import itctrace.Place.Mark;
 import itctrace.Row.Site;
-import itctrace.Task.Token;
-import itctrace.Task.What;
 import java.io.IOException;
 import java.io.InputStream;
 import java.io.OutputStream;
@@ -17,10 +17,10 @@ import java.net.URI;
 
 /** Has each request be a task of its own, and its response a message. */
 final class TracedFilter extends Filter {
-    private static final What MADE = What.forAll("filter", "make filter", "begin request");
+    private static final Gives MADE = Gives.order("filter", "make filter", "begin request");
 
     /** Whatever was done before the filter was made comes before each request. */
-    private final Token made = Traced.mark(MADE, Traced.site());
+    private final Mark made = Traced.mark(MADE, Traced.site());
 
     @Override
     public String description() {

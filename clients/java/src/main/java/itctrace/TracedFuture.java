@@ -1,8 +1,8 @@
 package itctrace;
 
+import itctrace.Place.Gives;
+import itctrace.Place.Mark;
 import itctrace.Row.Site;
-import itctrace.Task.Token;
-import itctrace.Task.What;
 import java.util.List;
 import java.util.concurrent.CompletableFuture;
 import java.util.concurrent.CompletionException;
@@ -26,9 +26,9 @@ import java.util.function.Supplier;
  * <p>A future that a function completes and somebody by hand tells no order, since nobody knows who was first.
  */
 public final class TracedFuture<T> extends CompletableFuture<T> {
-    private static final What RESULT = What.forAll("result", "complete future", "take result");
+    private static final Gives RESULT = Gives.order("result", "complete future", "take result");
 
-    private final AtomicReference<Token> completed = new AtomicReference<>();
+    private final AtomicReference<Mark> completed = new AtomicReference<>();
     private final AtomicReference<Origin> origin = new AtomicReference<>();
 
     /** What completes a future: a function that runs as this task, after these sources, and then perhaps the future that it has given. */
@@ -132,6 +132,30 @@ public final class TracedFuture<T> extends CompletableFuture<T> {
         }
     }
 
+    /** A future that is complete. Whoever takes the value comes after this call. */
+    public static <U> CompletableFuture<U> completedFuture(U value) {
+        CompletableFuture<U> future = new TracedFuture<>();
+        future.complete(value);
+        return future;
+    }
+
+    /** The same, as a stage. */
+    public static <U> CompletionStage<U> completedStage(U value) {
+        return completedFuture(value);
+    }
+
+    /** A future that has failed. */
+    public static <U> CompletableFuture<U> failedFuture(Throwable failure) {
+        CompletableFuture<U> future = new TracedFuture<>();
+        future.completeExceptionally(failure);
+        return future;
+    }
+
+    /** The same, as a stage. */
+    public static <U> CompletionStage<U> failedStage(Throwable failure) {
+        return failedFuture(failure);
+    }
+
     /** Completes once all have. Whoever waits for it comes after all of them. */
     public static CompletableFuture<Void> allOf(CompletableFuture<?>... futures) {
         TracedFuture<Void> all = new TracedFuture<>();
@@ -217,11 +241,11 @@ public final class TracedFuture<T> extends CompletableFuture<T> {
     }
 
     private void taken(Site site) {
-        Token token = completed.get();
+        Mark mark = completed.get();
         Origin origin = this.origin.get();
-        if (token != null && origin == null) {
-            Traced.take(token, site);
-        } else if (token == null && origin != null) {
+        if (mark != null && origin == null) {
+            Traced.take(mark, site);
+        } else if (mark == null && origin != null) {
             origin.taken();
         }
     }
@@ -260,10 +284,10 @@ public final class TracedFuture<T> extends CompletableFuture<T> {
         if (super.isDone()) {
             return false;
         }
-        Token token = Traced.mark(RESULT, Traced.site());
-        boolean isFirst = token == null || completed.compareAndSet(null, token);
+        Mark mark = Traced.mark(RESULT, Traced.site());
+        boolean isFirst = mark == null || completed.compareAndSet(null, mark);
         if (!isFirst) {
-            Traced.withdraw(token);
+            mark.end();
         }
         while (!isFirst && !super.isDone()) {
             Thread.onSpinWait(); // Whoever is first is about to complete it.

@@ -1,8 +1,6 @@
 package itctrace;
 
-import itctrace.Row.Site;
-import itctrace.Task.Token;
-import itctrace.Task.What;
+import itctrace.Place.Noted;
 import java.util.concurrent.locks.Lock;
 import java.util.concurrent.locks.ReentrantReadWriteLock;
 import java.util.concurrent.locks.StampedLock;
@@ -11,12 +9,16 @@ import java.util.concurrent.locks.StampedLock;
 final class TracedLock extends ReportingLock {
     private static final Class<?> READ_VIEW = new StampedLock().asReadLock().getClass();
 
-    private final Name name = new Name();
-    private Token released;
-    private What release;
+    private final LockName name = new LockName();
+    /** Where it was released last. Null if it is held. */
+    private Place released;
+
+    private Noted release;
+    /** How often one task alone has acquired it in a row. */
+    private int turns;
+
     private int depth;
     private Thread owner;
-    private volatile boolean isSignal;
 
     TracedLock(Lock lock) {
         super(lock);
@@ -26,23 +28,38 @@ final class TracedLock extends ReportingLock {
     }
 
     @Override
-    void acquired(Site site) {
+    void acquired() {
         owner = Thread.currentThread();
         if (depth++ == 0 && Traced.isOn()) {
-            Traced.take(released, site);
-            name.hold(Traced.current());
+            if (released != null) {
+                takeOver(released);
+            }
+            name.hold();
         }
     }
 
+    private void takeOver(Place place) {
+        if (place.task == Traced.current()) {
+            turns++;
+        } else {
+            turns = 0;
+            Traced.take(place, release, Traced.site());
+        }
+        place.removeMark();
+        released = null;
+    }
+
     @Override
-    void releasing(Site site) {
+    void releasing() {
         if (!isOwner() || --depth > 0) {
             return;
         }
         owner = null; // Else this thread could take itself for the owner while another one is.
         if (Traced.isOn()) {
-            isSignal |= name.letGo(Traced.current()); // One that was acquired later stays, as in a lock made of two.
-            released = Traced.mark(release(), site);
+            name.letGo();
+            released = Traced.here();
+            release = name.release(released, release, turns);
+            released.addMark();
         }
     }
 
@@ -50,28 +67,21 @@ final class TracedLock extends ReportingLock {
         return depth > 0 && owner == Thread.currentThread();
     }
 
-    private What release() {
-        if (release == null || isSignal && release.lock() != null) {
-            release = name.release(isSignal, true);
-        }
-        return release;
-    }
-
     @Override
     void becomeSignal() {
-        isSignal = true;
+        name.becomeSignal();
     }
 
     @Override
-    Runnable lend(Site site) {
+    Runnable lend() {
         if (!isOwner()) {
             return () -> {}; // The condition itself says what is wrong.
         }
         int before = depth;
         depth = 1;
-        releasing(site);
+        releasing();
         return () -> {
-            acquired(site);
+            acquired();
             depth = before;
         };
     }

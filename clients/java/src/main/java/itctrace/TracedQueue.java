@@ -1,8 +1,7 @@
 package itctrace;
 
-import itctrace.Row.Site;
-import itctrace.Task.Token;
-import itctrace.Task.What;
+import itctrace.Place.Gives;
+import itctrace.Place.Mark;
 import java.util.AbstractQueue;
 import java.util.ArrayList;
 import java.util.Collection;
@@ -10,26 +9,38 @@ import java.util.Iterator;
 import java.util.List;
 import java.util.Objects;
 import java.util.concurrent.BlockingQueue;
+import java.util.concurrent.Delayed;
 import java.util.concurrent.TimeUnit;
 
 /** A blocking queue whose elements carry the place where they were put. Whoever takes one comes after that place. */
 public final class TracedQueue<E> extends AbstractQueue<E> implements BlockingQueue<E> {
-    private static final What ITEM = What.forAll("item", "put item", "take item");
+    private static final Gives ITEM = Gives.order("item", "put item", "take item");
 
-    /** An element, and where it was put. It compares as the element does. */
-    public static final class Carried<E> implements Comparable<Carried<E>> {
+    /** An element, and where it was put. It compares as the element does, and is due when the element is. */
+    public static final class Carried<E> implements Delayed {
         private final E element;
-        private final Token token;
+        private final Mark mark;
 
-        private Carried(E element, Token token) {
+        private Carried(E element, Mark mark) {
             this.element = element;
-            this.token = token;
+            this.mark = mark;
+        }
+
+        /** The element, as for a comparator of a priority queue: {@code Comparator.comparing(Carried::element)}. */
+        public E element() {
+            return element;
         }
 
         @Override
         @SuppressWarnings("unchecked")
-        public int compareTo(Carried<E> other) {
-            return ((Comparable<? super E>) element).compareTo(other.element);
+        public int compareTo(Delayed other) {
+            return ((Comparable<? super E>) element).compareTo(((Carried<E>) other).element);
+        }
+
+        /** How long the element of a delay queue has to wait. Any other one is due at once. */
+        @Override
+        public long getDelay(TimeUnit unit) {
+            return element instanceof Delayed delayed ? delayed.getDelay(unit) : 0;
         }
 
         @Override
@@ -81,7 +92,7 @@ public final class TracedQueue<E> extends AbstractQueue<E> implements BlockingQu
     /** Nobody can come after the place of an element that was not put. */
     private boolean wasPut(boolean isPut, Carried<E> carried) {
         if (!isPut) {
-            Traced.withdraw(carried.token);
+            Mark.endIfAny(carried.mark);
         }
         return isPut;
     }
@@ -90,8 +101,17 @@ public final class TracedQueue<E> extends AbstractQueue<E> implements BlockingQu
         if (carried == null) {
             return null;
         }
-        Traced.take(carried.token, Traced.site());
+        Traced.take(carried.mark, Traced.site());
         return carried.element;
+    }
+
+    /** The same of an element that nobody takes any more. */
+    private E takenAway(Carried<E> carried) {
+        E element = taken(carried);
+        if (carried != null) {
+            Mark.endIfAny(carried.mark);
+        }
+        return element;
     }
 
     @Override
@@ -113,17 +133,17 @@ public final class TracedQueue<E> extends AbstractQueue<E> implements BlockingQu
 
     @Override
     public E take() throws InterruptedException {
-        return taken(queue.take());
+        return takenAway(queue.take());
     }
 
     @Override
     public E poll() {
-        return taken(queue.poll());
+        return takenAway(queue.poll());
     }
 
     @Override
     public E poll(long time, TimeUnit unit) throws InterruptedException {
-        return taken(queue.poll(time, unit));
+        return takenAway(queue.poll(time, unit));
     }
 
     /** The head, which stays. Whoever sees it comes after the place where it was put. */
@@ -144,7 +164,7 @@ public final class TracedQueue<E> extends AbstractQueue<E> implements BlockingQu
         }
         List<Carried<E>> drained = new ArrayList<>();
         queue.drainTo(drained, most);
-        drained.forEach(carried -> elements.add(taken(carried)));
+        drained.forEach(carried -> elements.add(takenAway(carried)));
         return drained.size();
     }
 
@@ -154,7 +174,8 @@ public final class TracedQueue<E> extends AbstractQueue<E> implements BlockingQu
         Sought sought = new Sought(element);
         boolean isRemoved = element != null && queue.remove(sought);
         if (isRemoved) {
-            Traced.take(sought.found.token, Traced.site());
+            Traced.take(sought.found.mark, Traced.site());
+            Mark.endIfAny(sought.found.mark);
         }
         return isRemoved;
     }

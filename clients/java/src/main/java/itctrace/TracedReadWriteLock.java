@@ -1,22 +1,15 @@
 package itctrace;
 
-import itctrace.Row.Site;
-import itctrace.Task.Token;
-import java.util.ArrayList;
-import java.util.List;
 import java.util.concurrent.locks.Lock;
 import java.util.concurrent.locks.ReadWriteLock;
 import java.util.concurrent.locks.ReentrantReadWriteLock;
 import java.util.function.BooleanSupplier;
 
-/** A lock that several threads may read under at once. They come after the last one that wrote, and before the next one. */
+/** A lock that several threads may read under at once. */
 final class TracedReadWriteLock implements ReadWriteLock {
     private final Lock reading;
     private final Lock writing;
-    private final ReportingLock.Name name = new ReportingLock.Name();
-    private Token byWriter;
-    private List<Token> byReaders = new ArrayList<>();
-    private boolean isSignal;
+    private final ReadWriteOrder order = new ReadWriteOrder();
 
     TracedReadWriteLock(ReentrantReadWriteLock lock) {
         reading = new Side(lock.readLock(), false, () -> lock.getReadHoldCount() > 0);
@@ -33,35 +26,6 @@ final class TracedReadWriteLock implements ReadWriteLock {
         return writing;
     }
 
-    private synchronized void acquired(boolean isWriter, Site site) {
-        if (!Traced.isOn()) {
-            return;
-        }
-        Traced.take(byWriter, site);
-        if (isWriter) {
-            byReaders.forEach(token -> Traced.take(token, site));
-            byReaders = new ArrayList<>();
-        }
-        name.hold(Traced.current());
-    }
-
-    private synchronized void releasing(boolean isWriter, Site site) {
-        if (!Traced.isOn()) {
-            return;
-        }
-        isSignal |= name.letGo(Traced.current()); // As with other locks.
-        Token token = Traced.mark(name.release(isSignal, !isWriter), site);
-        if (isWriter) {
-            byWriter = token;
-        } else if (token != null) {
-            byReaders.add(token);
-        }
-    }
-
-    private synchronized void becomeSignal() {
-        isSignal = true;
-    }
-
     /** The lock of those who read, or of those who write. */
     private final class Side extends ReportingLock {
         private final boolean isWriter;
@@ -74,29 +38,29 @@ final class TracedReadWriteLock implements ReadWriteLock {
         }
 
         @Override
-        void acquired(Site site) {
-            TracedReadWriteLock.this.acquired(isWriter, site);
+        void acquired() {
+            order.acquired(isWriter);
         }
 
         @Override
-        void releasing(Site site) {
+        void releasing() {
             if (isHeld.getAsBoolean()) {
-                TracedReadWriteLock.this.releasing(isWriter, site);
+                order.releasing(isWriter);
             }
         }
 
         @Override
         void becomeSignal() {
-            TracedReadWriteLock.this.becomeSignal();
+            order.becomeSignal();
         }
 
         @Override
-        Runnable lend(Site site) {
+        Runnable lend() {
             if (!isHeld.getAsBoolean()) {
                 return () -> {};
             }
-            releasing(site);
-            return () -> acquired(site);
+            releasing();
+            return this::acquired;
         }
     }
 }

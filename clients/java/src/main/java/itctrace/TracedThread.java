@@ -30,7 +30,21 @@ public final class TracedThread {
         return true;
     }
 
-    /** The thread itself, as to interrupt it. To wait for it by its own join is no order that is reported. */
+    /** Whether it goes on. Whoever sees that it does not comes after its end. */
+    public boolean isAlive() {
+        if (thread.isAlive()) {
+            return true;
+        }
+        Traced.join(task, Traced.site());
+        return false;
+    }
+
+    /** Interrupts it. */
+    public void interrupt() {
+        thread.interrupt();
+    }
+
+    /** The thread itself. To wait for it by its own join is no order that is reported. */
     public Thread thread() {
         return thread;
     }

@@ -1,39 +1,80 @@
 package itctrace;
 
+import itctrace.Environment.Child;
+import itctrace.Place.Gives;
+import itctrace.Place.Mark;
+import itctrace.Place.Noted;
+import itctrace.Place.Slot;
+import itctrace.Row.Site;
+import itctrace.Task.Held;
+import itctrace.Task.Segment;
+import itctrace.Task.Touch;
+import itctrace.Task.Touches;
 import java.io.BufferedReader;
 import java.io.IOException;
 import java.io.InputStreamReader;
 import java.io.OutputStream;
-import java.io.Writer;
 import java.net.Socket;
 import java.nio.charset.StandardCharsets;
 import java.util.ArrayDeque;
 import java.util.ArrayList;
 import java.util.HashMap;
+import java.util.LinkedHashSet;
 import java.util.List;
 import java.util.Map;
 import java.util.Set;
 import java.util.concurrent.CountDownLatch;
 import java.util.concurrent.TimeUnit;
+import java.util.function.IntFunction;
 
 /**
  * Reports for one process to one tenant. The program's threads only add to what is to be sent. A thread of the tracer sends it and
  * writes the journal, and another one reads the replies.
  */
 final class Tracer {
+    /** The end of a task, for those who wait for one that another task has joined. */
+    static final Gives END = Gives.order("end", "end", "see the end");
+
     private static final int MOST_EVENTS = 16384;
-    private static final int MOST_NAME = 24;
     private static final int MOST_DIGITS = 6;
+    /** So many segments of a task wait at most to become one with others. */
+    private static final int MOST_WAITING = 4096;
     private static final int TASK_EXISTS = 402;
     private static final Set<Integer> FULL = Set.of(413, 414, 415);
-    /** What a message of another process may be refused for: it was never sent, or this task has it. */
-    private static final Set<Integer> NOT_MINE = Set.of(405, 407);
     private static final long REST_MILLISECONDS = 10;
+    /** When what waits to become one event with others is reported for the first time. Each later time takes twice as long. */
+    private static final long FIRST_PATIENCE = TimeUnit.MILLISECONDS.toNanos(250);
     private static final long ANSWER_SECONDS = 10;
     private static final long END_SECONDS = 60;
 
+    /** What a report may be refused for, with nothing wrong. */
+    private enum Refusable {
+        NEVER(Set.of()),
+        /** The task has the message already. */
+        RECEIVED(Set.of(407)),
+        /** The message is of another process. It was never sent, or this task has it. */
+        FOREIGN(Set.of(405, 407)),
+        /** The task is that of another process, which was killed or was not traced. */
+        CHILD(Set.of(405, 407, 408, 409));
+
+        private final Set<Integer> codes;
+
+        Refusable(Set<Integer> codes) {
+            this.codes = codes;
+        }
+    }
+
+    /** How far the process is. */
+    private enum Stage {
+        RUNNING,
+        /** The process ends. What others still do is reported at once, and each of them waits for it. */
+        ENDING,
+        /** Nothing is reported any more. */
+        OVER
+    }
+
     /** A report that is on its way. */
-    private record Report(String text, Row row, Task.Touches touches, boolean mayBeRefused, CountDownLatch answered) {}
+    private record Report(String text, Row row, Touches touches, Refusable refusable, CountDownLatch answered) {}
 
     /** The task of this process, and the one that starts the tasks of threads that nobody was seen to start. */
     final Task main;
@@ -42,21 +83,36 @@ final class Tracer {
     private final Socket socket;
     private final OutputStream requests;
     private final BufferedReader replies;
-    private final Writer journal;
+    private final Environment.Opened journal;
     private final String prefix;
+    private final String lastLine;
+    private final Set<Task> live = new LinkedHashSet<>();
+    /** Tasks of a child process that nobody has joined. */
+    private final Set<Task> ended = new LinkedHashSet<>();
+    /** Whether another process of the trace has started this one. */
+    private final boolean isChild;
     private final Map<String, Integer> names = new HashMap<>();
     private final StringBuilder unsent = new StringBuilder();
     private final StringBuilder unwritten = new StringBuilder();
     private final ArrayDeque<Report> outstanding = new ArrayDeque<>();
-    private final List<Task.Touches> growing = new ArrayList<>();
-    private final Thread sender;
+    private final List<Touches> growing = new ArrayList<>();
+    /** The name of the process, in full. */
+    private String process;
     private int reports;
     private int messages;
     private int locks;
-    private boolean isClosing;
+    private int children;
+    private long patience = FIRST_PATIENCE;
+    private long impatientAt = System.nanoTime() + FIRST_PATIENCE;
+    private Stage stage = Stage.RUNNING;
+    /** How often somebody wanted the journal to have all that was noted, and how many of them it has served. */
+    private long wanted;
+    private long settled;
     private volatile boolean isOver;
 
     Tracer(Environment environment) throws IOException {
+        process = environment.process();
+        isChild = environment.child().isPresent();
         socket = new Socket("127.0.0.1", environment.port());
         try {
             socket.setTcpNoDelay(true);
@@ -66,20 +122,28 @@ final class Tracer {
             if (!count.startsWith("200 ")) {
                 throw new IOException("tenant " + environment.tenant() + " at port " + environment.port() + ": " + count);
             }
-            main = begin(environment.process());
+            main = begin(environment);
+            String tag = environment.child().map(Child::tag).orElse(environment.tag());
+            others = fresh(main.name, "start ", number -> (number == 1 ? tag : tag + number) + "_others");
         } catch (IOException failure) {
             socket.close();
             throw failure;
         }
-        prefix = main.name + "_";
-        journal = environment.freshJournal();
-        others = spawn(main, "others", Row.Site.NONE);
-        sender = new Thread(this::sendAll, "itctrace sender");
-        sender.setDaemon(true);
-        sender.start();
-        Thread reader = new Thread(this::readAll, "itctrace reader");
-        reader.setDaemon(true);
-        reader.start();
+        others.begin(main);
+        live.add(main);
+        live.add(others);
+        prefix = others.name.substring(0, others.name.length() - "others".length());
+        names.put("others", 1);
+        lastLine = environment.child().map(child -> Row.childEnded(child.tag())).orElse(Row.END);
+        journal = environment.openJournal();
+        start(this::sendAll, "itctrace sender");
+        start(this::readAll, "itctrace reader");
+    }
+
+    private static void start(Runnable body, String name) {
+        Thread thread = new Thread(body, name);
+        thread.setDaemon(true);
+        thread.start();
     }
 
     private String ask(String lines) throws IOException {
@@ -91,18 +155,38 @@ final class Tracer {
         return reply;
     }
 
-    /** Takes a task of its own under root, in a trace that others report to as well. */
-    private Task begin(String name) throws IOException {
+    /** Takes a task of its own under root, in a trace that others report to as well, unless the process is a child that has one. */
+    private Task begin(Environment environment) throws IOException {
+        if (environment.child().isPresent()) {
+            Child child = environment.child().get();
+            unwritten.append(Row.childBegun(child.tag(), "process " + child.name()));
+            return new Task(child.task());
+        }
+        String base = environment.task();
+        String cut = base.substring(0, Math.min(Environment.MOST_NAME - 4, base.length()));
+        return fresh(
+                "root",
+                "start process ",
+                number -> {
+                    process = environment.process() + (number == 1 ? "" : " " + number); // What is its own is not that of the first one.
+                    return number == 1 ? base : cut + number;
+                });
+    }
+
+    /** Starts a task whose name nobody has. */
+    private Task fresh(String parent, String hint, IntFunction<String> named) throws IOException {
         for (int number = 1; ; number++) {
-            String tried = number == 1 ? name : name + number;
-            String reply = ask("spawn root " + tried);
+            String name = named.apply(number);
+            long asked = Row.now();
+            String reply = ask("spawn " + parent + " " + name);
             if (reply.startsWith("201 ")) {
-                Row row = Row.of("root", "spawn", Row.Site.NONE, "start process " + tried, null);
+                long time = parent.equals("root") ? Row.now() : asked; // A process begins when it is answered.
+                Row row = Row.at(time, parent, "spawn", Site.NONE, hint + name, null);
                 unwritten.append(row.text(Integer.parseInt(reply.substring(4))));
-                return new Task(tried);
+                return new Task(name);
             }
             if (codeOf(reply) != TASK_EXISTS) {
-                throw new IOException("spawn root " + tried + ": " + reply);
+                throw new IOException("spawn " + parent + " " + name + ": " + reply);
             }
         }
     }
@@ -118,113 +202,272 @@ final class Tracer {
     }
 
     /** The task reads or writes the thing, which is of this process if it is not one across all. */
-    synchronized void touch(Task task, String thing, boolean writes, boolean isAcross, Row.Site site) {
-        leave(task);
-        long time = 0; // The first row of the event tells it.
-        if (task.touches == null) {
-            Task.Touches touches = new Task.Touches();
-            report("local " + task.name, task, null, touches, false, null);
-            task.touches = touches;
-            growing.add(touches);
-            time = Row.now();
-        }
-        if (task.touches.isNew(new Task.Touch(thing, writes, isAcross, site, task.held))) {
-            String kind = writes ? "write" : "read";
-            String named = isAcross ? thing : thing + " of " + main.name;
-            task.touches.add(new Row(task.name, named, kind, site, kind + " " + thing, task.held, null, time));
-        }
-    }
-
-    /** A place in the task that somebody may come after. */
-    synchronized Task.Token mark(Task task, Task.What what, Row.Site site) {
-        Task.Token token = new Task.Token(task, what, site);
-        task.pending.add(token);
-        return token;
-    }
-
-    /** Nobody is going to come after the token's place. */
-    synchronized void withdraw(Task.Token token) {
-        token.task.pending.remove(token);
-    }
-
-    /** The task comes after the token's place. */
-    synchronized void take(Task task, Task.Token token, Row.Site site) {
-        if (token == null || isOver) {
+    synchronized void touch(Task task, String thing, boolean writes, boolean isAcross, Site site, Held held) {
+        if (stage == Stage.OVER) {
             return;
         }
-        if (token.task == task) {
-            if (token.what.isForOne()) {
-                task.pending.remove(token);
+        Segment segment = task.grow();
+        Touch touch = new Touch(thing, writes, isAcross, site, held);
+        if (!segment.has(touch)) {
+            if (segment.isEmpty()) {
+                segment.time = Row.now();
             }
-            return;
+            String kind = writes ? "write" : "read";
+            String named = isAcross ? thing : thing + " of " + process;
+            List<String> locks = held == null ? List.of() : held.inOrder();
+            segment.add(touch, new Row(task.name, named, kind, site, kind + " " + thing, locks, null, 0));
         }
-        for (List<Task.Token> pending = token.task.pending; token.message == null && pending.contains(token); ) {
-            send(pending.get(0)); // Those that were made before come first, so that the times of a task increase.
+        advance(task);
+        done(task);
+    }
+
+    /** Reports what stands behind no place that somebody may come after. */
+    private void advance(Task task) {
+        List<Segment> open = task.open;
+        while (open.size() > 1 && open.get(0).isClosed && !(open.get(0).place.hasMark() && open.get(0).place.hasUnsent())) {
+            open.remove(0);
         }
-        if (token.message != null && token.message.takers().add(task)) {
-            leave(task);
-            Row row = Row.of(task.name, "recv", site, token.what.taking(), token.what.lock());
-            report("recv " + task.name + " " + token.message.name(), task, row);
+        if (open.size() == 1) {
+            tellTouches(task, open.get(0));
+        } else if (open.size() > MOST_WAITING) {
+            tellWaiting(task);
         }
     }
 
-    synchronized Task spawn(Task parent, String hint, Row.Site site) {
+    /** Reports the event of a segment, if it has touches and is not reported yet. */
+    private void tellTouches(Task task, Segment segment) {
+        if (segment.event != null || segment.rows.isEmpty()) {
+            return;
+        }
+        segment.event = new Touches();
+        task.time = Math.max(segment.time, task.time);
+        segment.rows.set(0, segment.rows.get(0).withTime(task.time));
+        segment.event.fresh = segment.rows;
+        segment.rows = new ArrayList<>();
+        growing.add(segment.event);
+        report(new Report("local " + task.name, null, segment.event, Refusable.NEVER, null));
+    }
+
+    private static void close(Segment segment) {
+        segment.isClosed = true;
+        if (segment.event != null) {
+            segment.event.isClosed = true;
+        }
+    }
+
+    /** Sends the place at the end of a segment, as what this says. */
+    private void send(Task task, Segment segment, Noted noted) {
+        close(segment);
+        String message = freshMessage(noted.gives().hint());
+        Place place = segment.place;
+        if (place.position == 0) {
+            place.position = ++task.position;
+        }
+        place.slot(noted.gives().isLuck()).message = message;
+        long time = Math.max(noted.time(), task.time);
+        Row row = Row.at(time, task.name, "send", noted.site(), noted.gives().giving(), noted.gives().luck());
+        tell(task, "send " + task.name + " " + message, row, Refusable.NEVER, null);
+    }
+
+    /** Reports all of a segment, and the place at its end if somebody may come after it. */
+    private void tellWhole(Task task, Segment segment) {
+        tellTouches(task, segment);
+        if (segment.place.hasMark()) {
+            for (Slot slot : List.of(segment.place.luck, segment.place.meant)) {
+                if (slot.unsent() != null) {
+                    send(task, segment, slot.unsent());
+                }
+            }
+        }
+        close(segment);
+    }
+
+    /** Before the task goes on: all that it did is reported. Only the task's own thread may do that. */
+    private void leave(Task task) {
+        task.open.forEach(segment -> tellWhole(task, segment));
+        Place here = task.here;
+        if (here.hasMark() || here.position > 0) {
+            here = new Place(task); // Else nobody knows it, and it may as well stand for the end of the next one.
+        }
+        task.here = here;
+        task.open = new ArrayList<>(List.of(new Segment(here)));
+    }
+
+    /** At the end of the process, or after some time: what waits to become one with other touches is reported. */
+    private boolean tellWaiting(Task task) {
+        int before = reports;
+        Segment last = task.last();
+        for (Segment segment : task.open) {
+            if (segment != last) {
+                tellWhole(task, segment);
+            }
+        }
+        task.open = new ArrayList<>(List.of(last));
+        tellTouches(task, last);
+        return reports > before;
+    }
+
+    private void losePatience() {
+        long now = System.nanoTime();
+        if (now < impatientAt || stage == Stage.OVER) {
+            return;
+        }
+        boolean told = false;
+        for (Task task : live) {
+            told |= task.open.size() > 1 && tellWaiting(task);
+        }
+        patience *= told ? 2 : 1;
+        impatientAt = now + patience;
+    }
+
+    /** The task comes after the place. */
+    synchronized void take(Task task, Place place, Noted noted, Site site) {
+        boolean isLuck = noted.gives().isLuck();
+        if (stage == Stage.OVER || place.task == task || task.knows(place, isLuck)) {
+            return;
+        }
+        Slot slot = place.slot(isLuck);
+        if (slot.message == null) {
+            give(place, noted);
+        }
+        if (slot.message == null) {
+            return;
+        }
+        task.learn(place.task, place.position, isLuck);
+        leave(task);
+        Row row = Row.of(task.name, "recv", site, noted.gives().taking(), noted.gives().luck());
+        tell(task, "recv " + task.name + " " + slot.message, row, Refusable.RECEIVED, null);
+        done(task);
+    }
+
+    /** Sends a place, and reports all that its task did before. */
+    private void give(Place place, Noted noted) {
+        Task task = place.task;
+        for (int index = 0; index < task.open.size(); index++) {
+            Segment segment = task.open.get(index);
+            if (segment.place == place) {
+                tellTouches(task, segment);
+                send(task, segment, noted);
+                task.open = new ArrayList<>(task.open.subList(index, task.open.size()));
+                return;
+            }
+            tellWhole(task, segment);
+        }
+    }
+
+    synchronized Task spawn(Task parent, String hint, Site site) {
         leave(parent);
         Task child = new Task(freshName(hint));
-        report("spawn " + parent.name + " " + child.name, parent, Row.of(parent.name, "spawn", site, "start " + child.name, null));
+        tell(
+                parent,
+                "spawn " + parent.name + " " + child.name,
+                Row.of(parent.name, "spawn", site, "start " + child.name, null),
+                Refusable.NEVER,
+                null);
+        child.begin(parent);
+        live.add(child);
+        done(parent);
         return child;
     }
 
     /** The task of a thread that nobody was seen to start. */
     Task stranger(String hint) {
-        return spawn(others, hint, Row.Site.NONE);
+        return spawn(others, hint, Site.NONE);
     }
 
     synchronized void end(Task task) {
         if (task.end == null) {
-            task.end = mark(task, Task.What.forAll("end", "end", "see the end"), Row.Site.NONE);
+            Noted noted = new Noted(END, Site.NONE, Row.now());
+            task.here.meant.noted = noted;
+            task.end = new Mark(task.here, noted);
             leave(task);
-            report("end " + task.name, task, Row.of(task.name, "end", Row.Site.NONE, "end", null));
+            tell(task, "end " + task.name, Row.of(task.name, "end", Site.NONE, "end", null), Refusable.NEVER, null);
+            live.remove(task);
+            if (isChild) {
+                ended.add(task);
+            }
+            task.forget();
+            done(task);
         }
     }
 
     /** The task has seen that the child is done. */
-    synchronized void join(Task task, Task child, Row.Site site) {
+    synchronized void join(Task task, Task child, Site site) {
         if (child.end == null || child == task) {
             return;
         }
         if (child.joinedBy == null) {
             child.joinedBy = task;
+            ended.remove(child);
+            task.learn(child, child.position, false);
             leave(task);
-            report("join " + task.name + " " + child.name, task, Row.of(task.name, "join", site, "join " + child.name, null));
+            Row row = Row.of(task.name, "join", site, "join " + child.name, null);
+            tell(task, "join " + task.name + " " + child.name, row, Refusable.NEVER, null);
+            done(task);
         } else if (child.joinedBy != task) {
-            take(task, child.end, site);
+            take(task, child.end.place, child.end.noted, site);
         }
     }
 
     /** Sends a message to another process. It returns once the collector has it, so that no receipt can come before. */
-    String outgoing(Task task, Row.Site site) {
+    String outgoing(Task task, Site site) {
         CountDownLatch answered = new CountDownLatch(1);
         String message;
         synchronized (this) {
             leave(task);
-            message = prefix + "out_" + ++messages;
+            message = freshMessage("out");
             Row row = Row.of(task.name, "send", site, "send to another process", null);
-            report("send " + task.name + " " + message, task, row, null, false, answered);
+            tell(task, "send " + task.name + " " + message, row, Refusable.NEVER, answered);
+            done(task);
+        }
+        return isAnswered(answered) ? message : null;
+    }
+
+    private boolean isAnswered(CountDownLatch answered) {
+        synchronized (this) {
             notifyAll();
         }
         try {
-            return answered.await(ANSWER_SECONDS, TimeUnit.SECONDS) && !isOver ? message : null;
+            return answered.await(ANSWER_SECONDS, TimeUnit.SECONDS) && !isOver;
         } catch (InterruptedException interrupted) {
             Thread.currentThread().interrupt();
-            return null;
+            return false;
         }
     }
 
-    synchronized void incoming(Task task, String message, Row.Site site) {
+    synchronized void incoming(Task task, String message, Site site) {
         leave(task);
         Row row = Row.of(task.name, "recv", site, "receive from another process", null);
-        report("recv " + task.name + " " + message, task, row, null, true, null);
+        tell(task, "recv " + task.name + " " + message, row, Refusable.FOREIGN, null);
+        done(task);
+    }
+
+    /** Starts the task of a child process. It returns once the collector has it. */
+    Child beginChild(Task task, String hint, Site site) {
+        CountDownLatch answered = new CountDownLatch(1);
+        String name;
+        String tag;
+        synchronized (this) {
+            leave(task);
+            name = freshName(hint);
+            tag = prefix.substring(0, prefix.length() - 1) + "c" + ++children;
+            Row row = Row.of(task.name, "spawn", site, "start " + name, null);
+            tell(task, "spawn " + task.name + " " + name, row, Refusable.NEVER, answered);
+            done(task);
+        }
+        return isAnswered(answered) ? new Child(name, tag, process + "/" + name.substring(prefix.length())) : null;
+    }
+
+    /** The task has seen that the child process is over. */
+    synchronized void joinProcess(Task task, Child child, Site site) {
+        leave(task);
+        Row row = Row.of(task.name, "join", site, "join " + child.task(), null);
+        tell(task, "join " + task.name + " " + child.task(), row, Refusable.CHILD, null);
+        done(task);
+    }
+
+    String journal() {
+        return journal.path();
     }
 
     /** What tells a lock from others of the same name. */
@@ -232,97 +475,135 @@ final class Tracer {
         return "#" + prefix + ++locks + " " + name;
     }
 
-    /** Before the task goes on: its places become messages. */
-    private void leave(Task task) {
-        while (!task.pending.isEmpty()) {
-            send(task.pending.get(0));
-        }
+    // Reports
+
+    private void tell(Task task, String request, Row row, Refusable refusable, CountDownLatch answered) {
+        task.time = Math.max(row.time(), task.time);
+        report(new Report(request, row.withTime(task.time), null, refusable, answered));
     }
 
-    /** One message stands for all places of the same lock, or of none. */
-    private void send(Task.Token token) {
-        Task.What what = token.what;
-        Task.Message message = new Task.Message(prefix + what.hint() + "_" + ++messages);
-        Row row = Row.at(token.time, token.task.name, "send", token.site, what.giving(), what.lock());
-        report("send " + token.task.name + " " + message.name(), token.task, row);
-        token.task.pending.removeIf(
-                other -> {
-                    boolean isSame = what.lock() == null ? other.what.lock() == null : what.lock().equals(other.what.lock());
-                    if (isSame) {
-                        other.message = message;
-                    }
-                    return isSame;
-                });
-    }
-
-    private void report(String request, Task task, Row row) {
-        report(request, task, row, null, false, null);
-    }
-
-    private void report(String request, Task task, Row row, Task.Touches touches, boolean mayBeRefused, CountDownLatch answered) {
-        if (task.touches != null) {
-            task.touches.isClosed = true;
-            task.touches = null;
-        }
-        if (isOver || ++reports > MOST_EVENTS + 1) { // No trace takes so many, and the reply that says so is on its way.
-            if (answered != null) {
-                answered.countDown();
+    private void report(Report report) {
+        if (stage == Stage.OVER || ++reports > MOST_EVENTS + 1) { // No trace takes so many, and the reply that says so is on its way.
+            if (report.answered != null) {
+                report.answered.countDown();
             }
             return;
         }
-        unsent.append(request).append('\n');
-        outstanding.add(new Report(request, row, touches, mayBeRefused, answered));
+        unsent.append(report.text).append('\n');
+        outstanding.add(report);
     }
 
     /** A name that no other task of this process has, short and readable. */
     private String freshName(String hint) {
-        int room = MOST_NAME - prefix.length() - MOST_DIGITS;
-        String cleaned = hint.replaceAll("[^A-Za-z0-9]+", "_");
-        String letters = cleaned.substring(0, Math.min(room, cleaned.length())).replaceAll("^_+|_+$", "");
-        String base = letters.isEmpty() ? "task" : letters;
-        for (int number = names.getOrDefault(base, 0) + 1; ; number++) {
-            String name = number == 1 ? base : base + "_" + number;
-            names.put(base, number);
-            if (name.equals(base) || names.putIfAbsent(name, 1) == null) {
-                return prefix + name;
-            }
+        int room = Environment.MOST_NAME - prefix.length();
+        String base = cleaned(hint, room);
+        int number = names.getOrDefault(base, 0) + 1;
+        String name = numbered(base, number, room);
+        while (number > 1 && names.containsKey(name)) {
+            name = numbered(base, ++number, room);
         }
+        names.put(base, number);
+        names.putIfAbsent(name, 1);
+        return prefix + name;
+    }
+
+    private static String cleaned(String hint, int room) {
+        String letters = hint.replaceAll("[^A-Za-z0-9]", "_").replaceAll("^_+", "");
+        String cut = letters.substring(0, Math.min(room, letters.length())).replaceAll("_+$", "");
+        return cut.isEmpty() ? "task" : cut;
+    }
+
+    private static String numbered(String base, int number, int room) {
+        String digits = number == 1 ? "" : "_" + number;
+        return base.substring(0, Math.min(base.length(), room - digits.length())) + digits;
+    }
+
+    private String freshMessage(String hint) {
+        int room = Environment.MOST_NAME - prefix.length() - MOST_DIGITS - 1;
+        return prefix + hint.substring(0, Math.min(room, hint.length())) + "_" + ++messages;
     }
 
     // The end
 
-    /** Waits until all is answered, and writes the journal's last line. */
-    void close() {
-        synchronized (this) {
-            isClosing = true;
-            notifyAll();
+    /**
+     * Reports all that was noted, and writes the journal's last line. What others do from then on is reported at once. At the end of the
+     * process a child ends its task, behind all tasks that have ended by then.
+     */
+    synchronized void finish(boolean isEnd) {
+        if (stage == Stage.OVER) {
+            return;
         }
-        try {
-            for (int left = -1; sender.isAlive() && left != waiting(); ) {
-                left = waiting();
-                sender.join(TimeUnit.SECONDS.toMillis(END_SECONDS));
+        if (isEnd && isChild) {
+            List.copyOf(ended).forEach(task -> join(main, task, Site.NONE));
+            end(main);
+        }
+        stage = Stage.ENDING;
+        live.forEach(this::tellWaiting);
+        settle();
+    }
+
+    /** A task has done something. At the end of the process it waits until that is reported. */
+    private void done(Task task) {
+        if (stage == Stage.ENDING) {
+            if (task.open.size() > 1 || task.last().event == null) {
+                tellWaiting(task);
             }
-            giveUp("collector", "the collector does not answer");
-            sender.join(TimeUnit.SECONDS.toMillis(ANSWER_SECONDS));
-        } catch (InterruptedException interrupted) {
+            settle();
+        }
+    }
+
+    /** Waits until the journal has all that was noted, and its last line. */
+    private void settle() {
+        long goal = ++wanted;
+        int left = Integer.MAX_VALUE;
+        boolean isInterrupted = false;
+        notifyAll();
+        while (settled < goal && stage != Stage.OVER) {
+            if (outstanding.size() == left) {
+                giveUp("collector", "the collector does not answer");
+                break;
+            }
+            left = outstanding.size();
+            isInterrupted |= waitUntilSettled(goal);
+        }
+        if (isInterrupted) {
             Thread.currentThread().interrupt();
         }
     }
 
-    private synchronized int waiting() {
-        return outstanding.size();
+    /** Waits for some time. Gives whether the thread was interrupted. */
+    private boolean waitUntilSettled(long goal) {
+        long until = System.nanoTime() + TimeUnit.SECONDS.toNanos(END_SECONDS);
+        boolean isInterrupted = false;
+        for (long time = END_SECONDS * 1000; settled < goal && stage != Stage.OVER && time > 0; ) {
+            try {
+                wait(time);
+            } catch (InterruptedException interrupted) {
+                isInterrupted = true;
+            }
+            time = TimeUnit.NANOSECONDS.toMillis(until - System.nanoTime());
+        }
+        return isInterrupted;
+    }
+
+    private boolean canSettle() {
+        return stage == Stage.ENDING && outstanding.isEmpty() && unsent.length() == 0 && settled < wanted;
     }
 
     /** Ends tracing in the middle. The program goes on. */
     private synchronized void giveUp(String cause, String reason) {
-        if (isOver) {
+        if (stage == Stage.OVER) {
             return;
         }
         gatherRows();
+        stage = Stage.OVER;
         isOver = true;
         unwritten.append(Row.unseen(cause, reason));
         outstanding.stream().map(Report::answered).filter(answered -> answered != null).forEach(CountDownLatch::countDown);
         outstanding.clear();
+        growing.clear();
+        live.forEach(Task::forget);
+        live.clear();
         System.err.println("itc_trace: tracing stops: " + reason);
         notifyAll();
     }
@@ -330,8 +611,9 @@ final class Tracer {
     // The thread that sends, and writes the journal
 
     private void sendAll() {
-        try (socket; journal) {
-            while (!sendSome()) {
+        try (socket;
+                OutputStream output = journal.output()) {
+            while (!sendSome(output)) {
                 continue;
             }
         } catch (IOException failure) { // All was written, and the program does not care how its session is closed.
@@ -340,23 +622,33 @@ final class Tracer {
     }
 
     /** Gives whether that was the last of it. */
-    private boolean sendSome() {
+    private boolean sendSome(OutputStream output) {
         String lines;
         String rows;
         boolean isLast;
+        boolean settles;
+        long served;
         synchronized (this) {
-            if (unsent.length() == 0 && !isOver && !(isClosing && outstanding.isEmpty())) {
+            if (unsent.length() == 0 && stage != Stage.OVER && !canSettle()) {
                 rest();
             }
+            losePatience();
             gatherRows();
-            isLast = isOver || isClosing && outstanding.isEmpty();
+            isLast = stage == Stage.OVER;
+            settles = canSettle();
+            served = wanted;
             lines = isLast ? "" : unsent.toString();
-            rows = unwritten + (isLast && !isOver ? Row.END : "");
-            isOver |= isLast;
+            rows = unwritten + (settles ? lastLine : "");
             unsent.setLength(0);
             unwritten.setLength(0);
         }
-        keep(rows);
+        keep(output, rows);
+        if (settles) {
+            synchronized (this) {
+                settled = served;
+                notifyAll();
+            }
+        }
         sendNow(lines);
         return isLast;
     }
@@ -369,11 +661,10 @@ final class Tracer {
         }
     }
 
-    private void keep(String rows) {
+    private void keep(OutputStream output, String rows) {
         try {
             if (!rows.isEmpty()) {
-                journal.write(rows);
-                journal.flush();
+                output.write(rows.getBytes(StandardCharsets.UTF_8));
             }
         } catch (IOException failure) {
             giveUp("journal", "the journal cannot be written: " + failure.getMessage());
@@ -390,9 +681,10 @@ final class Tracer {
 
     /** Brings the journal up to what was touched by now. */
     private synchronized void gatherRows() {
-        for (Task.Touches touches : growing) {
+        for (Touches touches : growing) {
             if (touches.event > 0) {
-                touches.takeRows().forEach(row -> unwritten.append(row.text(touches.event)));
+                touches.fresh.forEach(row -> unwritten.append(row.text(touches.event)));
+                touches.fresh = new ArrayList<>();
             }
         }
         growing.removeIf(touches -> touches.isClosed && touches.event > 0);
@@ -423,7 +715,7 @@ final class Tracer {
             unwritten.append(report.row.text(event));
         } else if (FULL.contains(codeOf(reply))) {
             giveUp("full", "the trace is full (" + reply + ")");
-        } else if (!report.mayBeRefused || !NOT_MINE.contains(codeOf(reply))) {
+        } else if (!report.refusable.codes.contains(codeOf(reply))) {
             giveUp("tracer", report.text + ": " + reply);
         }
         if (report.answered != null) {

@@ -1,0 +1,51 @@
+package itctrace;
+
+import itctrace.Place.Gives;
+import itctrace.Place.Mark;
+import itctrace.Row.Site;
+import java.util.HashMap;
+import java.util.Map;
+import java.util.function.Supplier;
+
+/** What somebody may come after, of each task at most one place. Whoever comes, comes after all of them. */
+final class Givers {
+    private final Map<Integer, Mark> marks = new HashMap<>();
+
+    /** Whoever comes from now on, comes after this place too. A later place of a task stands for its earlier ones. */
+    synchronized void give(Gives gives, Site site) {
+        add(Traced.mark(gives, site));
+    }
+
+    /** Whoever comes from now on, comes after this place alone, which comes after the others. */
+    synchronized void replace(Gives gives, Site site) {
+        Mark mark = Traced.mark(gives, site);
+        clear();
+        add(mark);
+    }
+
+    private void add(Mark mark) {
+        if (mark != null) {
+            Mark.endIfAny(marks.put(mark.place.task.number, mark));
+        }
+    }
+
+    synchronized void take(Site site) {
+        marks.values().forEach(mark -> Traced.take(mark, site));
+    }
+
+    /** Takes all, and forgets them. */
+    synchronized void takeAway(Site site) {
+        take(site);
+        clear();
+    }
+
+    synchronized void clear() {
+        marks.values().forEach(Mark::end);
+        marks.clear();
+    }
+
+    /** Does this while nobody else gives or takes. */
+    synchronized <T> T with(Supplier<T> body) {
+        return body.get();
+    }
+}

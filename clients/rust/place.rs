@@ -1,0 +1,157 @@
+//! Places in the tasks of the program that somebody may come after.
+
+use crate::journal::{self, LockName, Site, Time};
+use crate::tracer::Task;
+use std::sync::atomic::{AtomicU64, Ordering};
+use std::sync::{Arc, Mutex, MutexGuard, OnceLock, PoisonError};
+
+/// What an order is called: its message, its giving and its taking.
+#[derive(Debug)]
+pub(crate) struct What {
+    pub hint: &'static str,
+    pub giving: &'static str,
+    pub taking: &'static str,
+}
+
+impl What {
+    pub const fn new(hint: &'static str, giving: &'static str, taking: &'static str) -> What {
+        What { hint, giving, taking }
+    }
+}
+
+/// What gives an order.
+#[derive(Clone, Copy, Debug)]
+pub(crate) enum Gives {
+    /// A lock that only luck hands over.
+    Luck(LockName),
+    /// A lock for whose hand-over somebody waits.
+    Signal(LockName),
+    Order(&'static What),
+}
+
+impl Gives {
+    pub fn is_luck(self) -> bool {
+        matches!(self, Gives::Luck(_))
+    }
+
+    /// The lock that a row names.
+    pub fn lock(self) -> Option<LockName> {
+        match self {
+            Gives::Luck(lock) => Some(lock),
+            Gives::Signal(_) | Gives::Order(_) => None,
+        }
+    }
+
+    pub fn hint(self) -> String {
+        match self {
+            Gives::Luck(lock) | Gives::Signal(lock) => format!("lock{}", lock.made.line()),
+            Gives::Order(what) => what.hint.into(),
+        }
+    }
+
+    pub fn giving(self) -> String {
+        match self {
+            Gives::Luck(lock) | Gives::Signal(lock) => format!("release {}", lock.told()),
+            Gives::Order(what) => what.giving.into(),
+        }
+    }
+
+    pub fn taking(self) -> String {
+        match self {
+            Gives::Luck(lock) | Gives::Signal(lock) => format!("acquire {}", lock.told()),
+            Gives::Order(what) => what.taking.into(),
+        }
+    }
+}
+
+/// What has marked a place last, and where and when.
+#[derive(Clone, Copy, Debug)]
+pub(crate) struct Noted {
+    pub gives: Gives,
+    pub site: Site,
+    pub time: Time,
+}
+
+impl Noted {
+    pub fn now(gives: Gives, site: Site) -> Noted {
+        Noted { gives, site, time: journal::now() }
+    }
+}
+
+/// One of the two messages that a place may be sent as.
+#[derive(Debug, Default)]
+pub(crate) struct Slot {
+    noted: Mutex<Option<Noted>>,
+    message: OnceLock<Arc<str>>,
+}
+
+impl Slot {
+    fn noted(&self) -> MutexGuard<'_, Option<Noted>> {
+        self.noted.lock().unwrap_or_else(PoisonError::into_inner)
+    }
+
+    pub fn note(&self, noted: Noted) {
+        *self.noted() = Some(noted);
+    }
+
+    /// What has marked the place, if that is not sent yet.
+    pub fn unsent(&self) -> Option<Noted> {
+        if self.message.get().is_some() {
+            None
+        } else {
+            *self.noted()
+        }
+    }
+
+    pub fn message(&self) -> Option<&Arc<str>> {
+        self.message.get()
+    }
+
+    pub fn is_sent_as(&self, message: &str) {
+        let _ = self.message.set(message.into());
+    }
+}
+
+/// A place in a task, behind all that it did until then. Who holds it besides the task may come after it.
+#[derive(Debug)]
+pub(crate) struct Place {
+    pub task: Task,
+    /// How many places of the task were sent up to this one. It is 0 as long as it is not sent.
+    position: AtomicU64,
+    luck: Slot,
+    meant: Slot,
+}
+
+impl Place {
+    pub fn new(task: Task) -> Arc<Place> {
+        Arc::new(Place { task, position: AtomicU64::new(0), luck: Slot::default(), meant: Slot::default() })
+    }
+
+    pub fn slot(&self, is_luck: bool) -> &Slot {
+        if is_luck {
+            &self.luck
+        } else {
+            &self.meant
+        }
+    }
+
+    pub fn position(&self) -> u64 {
+        self.position.load(Ordering::Relaxed)
+    }
+
+    pub fn is_sent_at(&self, position: u64) {
+        self.position.store(position, Ordering::Relaxed);
+    }
+
+    /// What has marked the place by luck and by what was meant, and is not sent yet.
+    pub fn unsent(&self) -> impl Iterator<Item = Noted> + '_ {
+        [&self.luck, &self.meant].into_iter().filter_map(Slot::unsent)
+    }
+}
+
+/// A place that somebody may come after, and what has marked it. As long as it is kept, it counts.
+#[derive(Clone, Debug)]
+pub(crate) struct Mark {
+    pub place: Arc<Place>,
+    pub noted: Noted,
+}
