@@ -126,15 +126,15 @@ class Beside {
     if (this.trace === null) return;
     const { view, page } = this, filter = new Filter(), first = page.view.layout;
     filter.lanes = this.lanes();
-    view.layout = new Layout(this.trace, time === "number", filter);
+    view.layout = new Layout(this.trace, { axis: time === CLOCK ? CHAIN : time, filter });
     view.layout.columns = first.columns = Math.max(view.layout.columns, first.columns);
   }
 
   /** Shows the same part as the first run's picture. */
   follow() {
     if (this.trace === null || this.view.layout === null) return;
-    const { left, top, scale } = this.page.view;
-    Object.assign(this.view, { left, top, scale });
+    const { left, top, scale, high } = this.page.view;
+    Object.assign(this.view, { left, top, scale, high });
     this.view.draw();
   }
 

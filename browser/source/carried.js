@@ -16,18 +16,28 @@ async function carried(id) {
   return new Uint8Array(await new Response(unpacked).arrayBuffer());
 }
 
-/** Opens the export that the page carries: what is shown comes first, and the stamps last. */
-async function openCarried() {
-  if (at("export").textContent.trim() === "") return;
+/** Where the page carries what is of a part. The first one stands where that of a run without parts does. */
+const idOf = (name, part) => part === 1 ? name : `${name}-${part}`;
+
+/** Opens the export that the page carries, or a part of it: what is shown comes first, and the stamps last. */
+async function openCarried(part = 1, isFirst = false) {
+  if (at(idOf("export", part)) === null || at(idOf("export", part)).textContent.trim() === "") return;
   tell("Unpacking the export.", " ");
-  const opening = page.opened, bytes = await carried("export"), labels = await carried("labels"), races = await carried("carriedRaces");
+  const opening = page.opened, [bytes, labels] = [await carried(idOf("export", part)), await carried(idOf("labels", part))];
+  const [races, about] = [await carried("carriedRaces"), await carried("carriedAbout")];
   if (opening !== page.opened) return;
-  const trace = readExport(bytes), isWhole = at("stamps").textContent.trim() === "";
+  const text = (packed) => new TextDecoder().decode(packed), trace = readExport(bytes);
+  page.labels.clear();
+  page.waits = true;
+  page.useAbout(about === null ? null : objectIn(text(about)));
+  page.part = part;
   page.show(trace, "");
-  if (labels !== null && page.isShown) page.openLabels(new TextDecoder().decode(labels));
-  if (races !== null && page.isShown) page.openRaces(new TextDecoder().decode(races));
+  if (labels !== null && page.isShown) page.openLabels(text(labels));
+  if (races !== null && page.isShown) page.openRaces(text(races));
+  page.waits = false;
+  page.begin(isFirst);
   await new Promise((resolve) => requestAnimationFrame(() => setTimeout(resolve)));
-  const stamps = isWhole ? null : await carried("stamps");
+  const stamps = await carried(idOf("stamps", part));
   if (page.trace !== trace) return;
   if (stamps !== null) trace.packed = new PackedStamps(stamps);
   page.describeChosen();

@@ -13,7 +13,7 @@ const Choosing = (Base) => class extends Base {
       view.standings = trace.standings(event);
     }
     this.isPairing = false;
-    if (this.isFiltered()) this.useLayout(true);
+    if (this.wantsLayout([event])) this.useLayout(true);
     if (stays) view.ask();
     else view.show(event, closer);
     this.describeChosen();
@@ -23,6 +23,14 @@ const Choosing = (Base) => class extends Base {
       this.reach();
       this.buttons.get(event)?.focus({ preventScroll: true });
     }
+  }
+
+  /** Whether these events only show up in a new layout: by the filters, or since they stand in a fold. They keep lanes of their own. */
+  wantsLayout(events) {
+    const { layout } = this.view, places = events.filter((event) => event > 0).map((event) => this.trace.taskOf[event]);
+    const isFolded = places.some((place) => layout !== null && layout.isFolded(place));
+    if (isFolded) for (const place of places) this.kept.add(place);
+    return isFolded || this.isFiltered();
   }
 
   chooseNothing() {
@@ -52,7 +60,8 @@ const Choosing = (Base) => class extends Base {
     const { chosen, other } = this.view, words = [];
     if (chosen > 0) words.push(`event=${chosen}`);
     if (other > 0) words.push(`other=${other}`);
-    if (at("time").value === "number") words.push("time=number");
+    if (at("time").value !== CHAIN) words.push(`time=${at("time").value}`);
+    if (this.partCount > 1) words.push(`part=${this.part}`);
     const address = `#${words.join("&")}`;
     if (location.hash === address || (address === "#" && location.hash === "")) return;
     history.replaceState(null, "", address);
@@ -60,7 +69,7 @@ const Choosing = (Base) => class extends Base {
 
   readAddress() {
     const { view } = this, words = new URLSearchParams(location.hash.slice(1));
-    const time = words.get("time") === "number" ? "number" : "chain";
+    const asked = words.get("time"), time = asked === NUMBER || (asked === CLOCK && this.clocks !== null) ? asked : CHAIN;
     const chosen = wholeNumber(words.get("event") ?? ""), other = wholeNumber(words.get("other") ?? "");
     if (at("time").value !== time) {
       at("time").value = time;

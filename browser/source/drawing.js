@@ -1,36 +1,73 @@
 // Drawing what is in view
 
+const OPEN_END = 44, SMALL_MARK = 2.6;
+
 /** Draws lanes, edges and marks. */
 const Drawing = (Base) => class extends Base {
+  /** Draws the line of each task from its beginning to its end, in the colour of its process. */
   drawLanes() {
     const { context, layout } = this, thick = this.isNear ? 2 : 1;
-    context.fillStyle = this.isNear ? palette.lane : palette.pale;
     for (let lane = this.fromLane; lane <= this.toLane; lane++) {
-      const places = layout.tasksIn[lane], y = Math.round(this.y(lane)) - thick / 2;
+      if (layout.folded.has(lane)) continue;
+      const places = layout.tasksIn[lane], y = Math.round(this.y(lane)) - thick / 2, colour = this.colourOfLane(lane);
+      context.fillStyle = colour ?? (this.isNear ? palette.lane : palette.pale);
+      context.globalAlpha = colour === null || this.isNear ? 1 : 0.5;
       let from = 0, to = -10;
       for (let at = layout.taskInLane(lane, this.fromTime); at < places.length && layout.from[places[at]] <= this.toTime; at++) {
-        const begin = Math.max(-10, this.x(layout.from[places[at]])), end = this.x(Math.min(layout.to[places[at]], this.toTime));
-        if (begin > to + 1) {
+        const begin = Math.max(-10, this.x(layout.from[places[at]])), end = this.endOf(places[at]);
+        if (begin > to + 1 || this.isNear) {
           if (to > from) context.fillRect(from, y, to - from, thick);
           from = begin;
         }
-        to = Math.max(to, end);
+        to = Math.max(this.isNear ? -10 : to, end);
       }
       if (to > from) context.fillRect(from, y, to - from, thick);
     }
-    if (this.isNear) this.drawOpenEnds();
+    context.globalAlpha = 1;
+    if (this.isNear) this.drawEnds();
   }
 
-  /** Cuts the lane of a task that did not end into dashes behind its last event. */
-  drawOpenEnds() {
-    const { context, layout } = this, { tasks } = layout.trace;
-    context.fillStyle = palette.paper;
+  /** Where the line of a task ends. That of one that did not end goes a little beyond its last event. */
+  endOf(place) {
+    const { layout } = this, last = this.x(Math.min(layout.last[place], this.toTime));
+    return layout.to[place] === Infinity ? last + OPEN_END : last;
+  }
+
+  /** The colour of the process that a lane is of, or null where there is but one. */
+  colourOfLane(lane) {
+    const { headings } = this.layout;
+    if (headings.length === 0) return null;
+    let at = headings.length - 1;
+    while (headings[at].lane > lane) at--;
+    return colourOfProcess(headings[at].colour);
+  }
+
+  /** Cuts the line of a task that did not end into a few dashes behind its last event, and draws a break before a task that has the lane
+   * of another one: two strokes across. */
+  drawEnds() {
+    const { context, layout } = this;
     for (let lane = this.fromLane; lane <= this.toLane; lane++) {
-      const place = layout.tasksIn[lane].at(-1), y = Math.round(this.y(lane)) - 2;
-      if (place === undefined || layout.to[place] !== Infinity) continue;
-      const last = this.x(tasks[place].last > 0 ? layout.times[tasks[place].last] : layout.from[place]);
-      for (let x = last + 16 + Math.max(0, Math.floor(-last / 10) * 10); x < this.width; x += 10) context.fillRect(x, y, 5, 4);
+      if (layout.folded.has(lane)) continue;
+      const places = layout.tasksIn[lane], y = Math.round(this.y(lane));
+      for (let at = layout.taskInLane(lane, this.fromTime); at < places.length && layout.from[places[at]] <= this.toTime; at++) {
+        context.fillStyle = palette.paper;
+        const last = this.x(layout.last[places[at]]);
+        if (layout.to[places[at]] === Infinity) for (let x = last + 14; x < last + OPEN_END; x += 9) context.fillRect(x, y - 2, 4, 4);
+        if (at > 0) this.drawBreak(this.x(layout.from[places[at]]), y);
+      }
     }
+  }
+
+  drawBreak(x, y) {
+    const { context } = this, high = Math.min(7, this.high / 4);
+    context.beginPath();
+    for (const aside of [-7, -3]) {
+      context.moveTo(x + aside - 2, y + high);
+      context.lineTo(x + aside + 2, y - high);
+    }
+    context.lineWidth = 1.5;
+    context.strokeStyle = palette.edge;
+    context.stroke();
   }
 
   edgeStanding(edge) {
@@ -102,6 +139,11 @@ const Drawing = (Base) => class extends Base {
     return Math.max(2.5, Math.min(7, this.scale / 6, this.laneHeight / 5));
   }
 
+  /** Whether an event has a small mark: it is of the tool, or only has to do with what is folded. */
+  isSmall(event) {
+    return this.layout.minor !== undefined && this.layout.minor[event] === 1 && event !== this.chosen && event !== this.other;
+  }
+
   drawMarks(count) {
     const least = this.standings === null ? 0 : PAST, most = this.standings === null ? 0 : ITSELF;
     for (let standing = least; standing <= most; standing++) {
@@ -115,7 +157,8 @@ const Drawing = (Base) => class extends Base {
     context.beginPath();
     for (let place = 0; place < count; place++) {
       const event = marks[place], x = this.x(layout.times[event]);
-      if (standings[event] === standing) addStanding(context, standing, x, this.y(layout.lane(event)), radius * 1.9);
+      const size = this.isSmall(event) ? Math.min(radius, SMALL_MARK) : radius;
+      if (standings[event] === standing) addStanding(context, standing, x, this.y(layout.lane(event)), size * 1.9);
     }
     context.fillStyle = COLOURS[standing];
     context.fill();
@@ -128,7 +171,8 @@ const Drawing = (Base) => class extends Base {
     for (let place = 0; place < count; place++) {
       const event = marks[place];
       if (kinds[event] !== kind || (standings !== null && standings[event] !== standing)) continue;
-      addMark(context, kind, this.x(layout.times[event]), this.y(layout.lane(event)), radius);
+      const size = this.isSmall(event) ? Math.min(radius, SMALL_MARK) : radius;
+      addMark(context, kind, this.x(layout.times[event]), this.y(layout.lane(event)), size);
     }
     context.fillStyle = standing === 0 ? COLOURS[0] : standing === CONCURRENT ? palette.onConcurrent : palette.paper;
     context.fill("evenodd");
@@ -141,7 +185,9 @@ const Drawing = (Base) => class extends Base {
     for (let standing = 0; standing <= ITSELF; standing++) {
       if (standings === null ? standing > 0 : standing === 0) continue;
       this.context.fillStyle = COLOURS[standing];
-      for (let lane = this.fromLane; lane <= this.toLane; lane++) this.drawRunsOf(layout.eventsIn[lane], lane, standing);
+      for (let lane = this.fromLane; lane <= this.toLane; lane++) {
+        if (!layout.folded.has(lane)) this.drawRunsOf(layout.eventsIn[lane], lane, standing);
+      }
     }
   }
 
@@ -174,7 +220,7 @@ const Drawing = (Base) => class extends Base {
       context.moveTo(this.x(layout.times[first]), this.y(layout.lane(first)));
       for (const event of rest) {
         const y = this.y(layout.lane(event));
-        if (tasks[taskOf[event]].started === from) context.lineTo(this.x(layout.times[from] + 0.5), y);
+        if (tasks[taskOf[event]].started === from) context.lineTo(this.x(layout.from[taskOf[event]]), y);
         context.lineTo(this.x(layout.times[event]), y);
         from = event;
       }

@@ -25,7 +25,7 @@ function headerWords({ tenant, events, tasks, messages }) {
 const wordsOfFault = ({ line, reason }) => `no ${line} ${reason}. Line ${line} is faulty, reason ${reason}: ${REASONS[reason]}`;
 
 /** What a line of a journal says, and the file and line of the program, if it has them. */
-const labelAndPlace = ({ label, place }) => place === "" ? label : `${label}, ${place}`;
+const labelAndPlace = ({ words, place }) => place === "" ? words : words === "" ? place : `${words}, ${place}`;
 
 /** The number that the text is, or 0. */
 function wholeNumber(text) {
@@ -67,6 +67,11 @@ const raceIcon = () => icon((context) => {
   context.beginPath();
   addMark(context, LOCAL, 18, 18, 12);
 });
+const chainIcon = () => icon((context) => {
+  context.fillStyle = palette.chain;
+  context.rect(0, 12, 36, 12);
+});
+const STANDINGS = [[PAST, "past"], [FUTURE, "could be influenced"], [CONCURRENT, "concurrent"], [ITSELF, "chosen"]];
 const standingIcon = (standing) => icon((context) => {
   context.fillStyle = COLOURS[standing];
   addStanding(context, standing, 18, 18, 14);

@@ -8,6 +8,12 @@ class Filter {
     this.groups = null;
     this.lanes = null;
     this.folded = new Set();
+    this.families = null;
+    this.mostLanes = Infinity;
+    this.kept = new Set();
+    this.opened = new Set();
+    this.closed = new Set();
+    this.own = null;
   }
 
   shows(event) {
@@ -21,12 +27,22 @@ class Filter {
   groupOf(place) {
     return this.groups === null ? "" : this.groups[place];
   }
+
+  /** Whether a task stands in a lane of its own whatever is folded: it races, it is chosen, or somebody opened its family. */
+  keepsOpen(place) {
+    return this.kept.has(place) || this.opened.has(this.families.keys[place]);
+  }
+
+  /** Whether the event is of the tool itself, and not of the program. */
+  isOwn(event) {
+    return this.own !== null && this.own[event] === 1;
+  }
 }
 
 /** The filter of a trace, as it is asked for. The events to keep are shown whatever is asked. */
-function filterOf(trace, { hidesLocal, hidesUnshared, within, around, keeps, shared, groups, folded }) {
+function filterOf(trace, { hidesLocal, hidesUnshared, within, around, keeps, shared, groups, folded, folds = {} }) {
   const filter = new Filter();
-  Object.assign(filter, { groups, folded: groups === null ? new Set() : folded });
+  Object.assign(filter, { groups, folded: groups === null ? new Set() : folded }, folds);
   if (!hidesLocal && !hidesUnshared && within === 0) return filter;
   const events = filter.events = new Uint8Array(trace.events + 1).fill(1), near = within > 0 ? eventsWithin(trace, around, within) : null;
   const tasks = filter.tasks = new Uint8Array(trace.tasks.length).fill(1), { taskOf } = trace, kept = new Set(keeps);
@@ -55,4 +71,23 @@ function eventsWithin(trace, around, within) {
     for (const event of seen) found.add(event);
   }
   return found;
+}
+
+const LEAST_FAMILY = 4;
+
+/** A name without the number behind it, by which a tool tells tasks of one function apart. */
+const stemOf = (name) => name.replace(/_[0-9]+$/, "");
+
+/** Which tasks are of one family: the same line of the program started them, and their names differ by a number alone. Of each family
+ * the name that they have in common. Without a journal no line is known. */
+function familiesOf(trace, labels, groups) {
+  const titles = new Map();
+  const keys = trace.tasks.map(({ name, started }, place) => {
+    if (started === 0) return null;
+    const [line] = labels.get(started)?.lines ?? [], parent = stemOf(trace.taskName(started)), stem = stemOf(name);
+    const key = [groups?.[place] ?? "", line?.source || parent, stem].join(" ");
+    titles.set(key, stem);
+    return key;
+  });
+  return { keys, titles };
 }

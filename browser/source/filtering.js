@@ -3,7 +3,7 @@
 /** Filters what is shown, and tells what is hidden. */
 const Filtering = (Base) => class extends Base {
   isFiltered() {
-    return at("hidesLocal").checked || at("hidesUnshared").checked || at("within").value !== "0" || at("groups").checked;
+    return at("hidesLocal").checked || at("hidesUnshared").checked || at("within").value !== "0";
   }
 
   filter() {
@@ -11,7 +11,47 @@ const Filtering = (Base) => class extends Base {
     const keeps = [...chosen, ...this.chainsOf(view.chosen, view.other).flat()];
     return filterOf(trace, { hidesLocal: at("hidesLocal").checked, hidesUnshared: at("hidesUnshared").checked,
       within: chosen.length > 0 ? Number(at("within").value) : 0, around: chosen, keeps, shared: this.shared,
-      groups: at("groups").checked ? this.groups() : null, folded: this.folded });
+      groups: at("groups").checked ? this.groups() : null, folded: this.folded, folds: this.folds() });
+  }
+
+  /** What is folded where lanes do not fit, and what is not. */
+  folds() {
+    const { view, trace, kept, openedFolds: opened, closedFolds: closed, own } = this, mostLanes = Math.max(4, Math.floor(view.room / LEAST_LANE));
+    for (const event of [...view.racing, view.chosen, view.other]) if (event > 0) kept.add(trace.taskOf[event]);
+    return { families: at("alike").checked ? this.families() : null, mostLanes, kept, opened, closed, own };
+  }
+
+  families() {
+    return this.familiesOfTasks ??= familiesOf(this.trace, this.labels, this.processes.begun.length > 0 ? this.groups() : null);
+  }
+
+  /** Lists what is folded, and what somebody opened, as boxes. */
+  listFamilies() {
+    const { view, openedFolds: opened } = this, list = at("families"), keys = [], { families } = view.layout.filter;
+    for (const { key, title } of view.layout.folded.values()) if (families !== null && families.titles.has(key)) keys.push([key, title, true]);
+    for (const key of opened) keys.push([key, this.families().titles.get(key), false]);
+    list.replaceChildren(...keys.slice(0, MOST_LISTED).map(([key, title, checked]) => {
+      const box = element("input", { type: "checkbox", checked });
+      box.dataset.family = key;
+      return element("li", {}, element("label", {}, box, ` Fold ${title}`));
+    }));
+  }
+
+  /** Gives each task of a fold a lane of its own. */
+  openFold(key) {
+    const before = this.view.layout;
+    if (key.startsWith("process ")) this.folded.delete(key.slice("process ".length));
+    else this.openedFolds.add(key);
+    this.closedFolds.delete(key);
+    this.listFolds();
+    this.useLayout(true);
+    if (this.view.chosen === 0 && before.height < this.view.layout.height) this.view.keepInside();
+  }
+
+  closeFold(key) {
+    this.openedFolds.delete(key);
+    this.closedFolds.add(key);
+    this.useLayout(true);
   }
 
   groups() {
@@ -40,7 +80,7 @@ const Filtering = (Base) => class extends Base {
     const words = counts.filter(([count]) => count > 0).map(([count, word]) => counted(count, word)).join(", ");
     view.hiddenWords = words === "" ? "" : `hidden: ${words}`;
     at("hidden").textContent = words === "" ? "Nothing is hidden." : `Hidden: ${words}.`;
-    at("filters").classList.toggle("active", this.isFiltered());
+    at("filter").classList.toggle("active", this.isFiltered());
   }
 
   listFolds() {
@@ -55,7 +95,12 @@ const Filtering = (Base) => class extends Base {
 
   /** Takes over what was set in the panel of filters. */
   applyFilters(target) {
-    const { group } = target.dataset;
+    const { group, family } = target.dataset;
+    if (family !== undefined) {
+      if (target.checked) this.closeFold(family);
+      else this.openFold(family);
+      return;
+    }
     if (group !== undefined && target.checked) this.folded.add(group);
     if (group !== undefined && !target.checked) this.folded.delete(group);
     if (target.id === "groups") this.listFolds();
@@ -64,11 +109,16 @@ const Filtering = (Base) => class extends Base {
 
   clearFilters() {
     for (const id of ["hidesLocal", "hidesUnshared", "groups"]) at(id).checked = false;
+    at("alike").checked = true;
     at("within").value = "0";
     at("hidesUnshared").disabled = true;
     this.folded = new Set();
     this.shared = new Set();
-    this.groupsOfTasks = null;
+    this.kept = new Set();
+    this.openedFolds = new Set();
+    this.closedFolds = new Set();
+    this.own = null;
+    this.groupsOfTasks = this.familiesOfTasks = null;
     this.listFolds();
   }
 };

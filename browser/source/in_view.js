@@ -4,18 +4,19 @@
 const Looking = (Base) => class extends Base {
   /** The lanes in view, and the times a little beyond it. */
   findRange() {
-    const high = this.laneHeight, beyond = 14 / this.scale;
-    this.fromLane = Math.max(0, Math.floor(this.top - 20 / high));
-    this.toLane = Math.min(this.layout.lanes - 1, Math.ceil(this.top + this.height / high));
+    const { layout } = this, beyond = 14 / this.scale;
+    this.fromLane = Math.max(0, layout.laneAt(this.lanesAt(this.head - 20)));
+    this.toLane = Math.min(layout.lanes - 1, layout.laneAt(this.lanesAt(this.height)));
     this.fromTime = this.left - beyond;
     this.toTime = this.left + this.width / this.scale + beyond;
   }
 
-  /** Leaves the events in view in `marks`, and gives how many there are. */
+  /** Leaves the events in view in `marks`, but those of folds, and gives how many there are. */
   findMarks() {
     const { layout, marks } = this;
     let count = 0;
     for (let lane = this.fromLane; lane <= this.toLane; lane++) {
+      if (layout.folded.has(lane)) continue;
       const events = layout.eventsIn[lane];
       for (let place = layout.placeInLane(lane, this.fromTime); place < events.length; place++) {
         if (layout.times[events[place]] > this.toTime) break;
@@ -30,8 +31,7 @@ const Looking = (Base) => class extends Base {
     const { layout, edges } = this, count = layout.edgeTo.length;
     let near = 0, far = edges.length;
     for (let block = 0; block < layout.blockTo.length; block++) {
-      if (layout.edgeFrom[block * BLOCK] > this.toTime) break;
-      if (layout.blockTo[block] < this.fromTime) continue;
+      if (layout.blockFrom[block] > this.toTime || layout.blockTo[block] < this.fromTime) continue;
       for (let edge = block * BLOCK; edge < Math.min(count, (block + 1) * BLOCK); edge++) {
         const side = this.sideOf(edge);
         if (side === 2) edges[near++] = edge;
@@ -46,11 +46,10 @@ const Looking = (Base) => class extends Base {
   sideOf(edge) {
     const { layout } = this, from = layout.edgeFrom[edge], to = layout.edgeTo[edge];
     const fromLane = layout.edgeFromLane[edge], toLane = layout.edgeToLane[edge];
-    if (from > this.toTime || to < this.fromTime) return 0;
+    if (Math.min(from, to) > this.toTime || Math.max(from, to) < this.fromTime) return 0;
     if (Math.max(fromLane, toLane) < this.fromLane || Math.min(fromLane, toLane) > this.toLane) return 0;
-    const begins = from >= this.fromTime && fromLane >= this.fromLane && fromLane <= this.toLane;
-    const ends = to <= this.toTime && toLane >= this.fromLane && toLane <= this.toLane;
-    return begins || ends ? 2 : 1;
+    const isIn = (time, lane) => time >= this.fromTime && time <= this.toTime && lane >= this.fromLane && lane <= this.toLane;
+    return isIn(from, fromLane) || isIn(to, toLane) ? 2 : 1;
   }
 
   /** The message whose arrow is nearest to this place, as the event that receives it, or 0 where none is near. */
@@ -70,22 +69,35 @@ const Looking = (Base) => class extends Base {
     return nearest;
   }
 
+  /** The lane at this height, or -1. */
+  laneNear(atY, within = 20) {
+    if (this.layout === null || atY < this.head) return -1;
+    const { layout } = this, lane = Math.min(layout.lanes - 1, layout.laneAt(this.lanesAt(atY)));
+    return lane < 0 || Math.abs(this.y(lane) - atY) > Math.max(within, 0) ? -1 : lane;
+  }
+
   /** The task in whose lane this place is, or -1. */
   taskAt(atX, atY) {
-    if (this.layout === null) return -1;
-    const { layout } = this, lane = Math.floor((atY - MARGIN) / this.laneHeight + this.top), time = this.left + atX / this.scale;
-    if (lane < 0 || lane >= layout.lanes || Math.abs(this.y(lane) - atY) > 20) return -1;
+    const lane = this.laneNear(atY), { layout } = this, time = this.left + atX / this.scale;
+    if (lane < 0) return -1;
     const place = layout.tasksIn[lane][layout.taskInLane(lane, time)];
-    return place !== undefined && layout.from[place] <= time && time <= layout.to[place] ? place : -1;
+    const isThere = place !== undefined && layout.from[place] <= time && time <= Math.min(layout.to[place], layout.last[place] + 60 / this.scale);
+    return isThere ? place : -1;
+  }
+
+  /** The fold at this place, or null. */
+  foldAt(atX, atY) {
+    const place = this.taskAt(atX, atY);
+    return place < 0 ? null : this.layout.folded.get(this.layout.laneOf[place]) ?? null;
   }
 
   /** The event nearest to this place, or 0 where none is near. */
   eventAt(atX, atY, within) {
-    if (this.layout === null) return 0;
-    const { layout } = this, middle = Math.round((atY - MARGIN) / this.laneHeight + this.top - 0.5);
-    const lanes = Math.ceil(within / this.laneHeight);
+    if (this.layout === null || this.layout.lanes === 0) return 0;
+    const { layout } = this, middle = layout.laneAt(this.lanesAt(atY)), lanes = Math.ceil(within / this.high);
     let nearest = 0, least = within;
     for (let lane = Math.max(0, middle - lanes); lane <= Math.min(layout.lanes - 1, middle + lanes); lane++) {
+      if (layout.folded.has(lane)) continue;
       const events = layout.eventsIn[lane], place = layout.placeInLane(lane, this.left + atX / this.scale);
       for (const event of [events[place - 1], events[place]]) {
         if (event === undefined) continue;

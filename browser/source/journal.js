@@ -10,14 +10,39 @@ function objectIn(line) {
   }
 }
 
+// What the tool itself does, which is no part of the program: the runs of its loops, and what a part of a run takes over from the one before.
+const OWN_LABELS = new Set(["run loop", "run in loop", "run until loop stops", "loop has stopped", "goes on", "border"]);
+const OWN_TASKS = new Set(["ended_threads", "ended_tasks", "keeper"]);
+// Labels that say nothing of the program, and those of touches that a person would say in other words.
+const BARE_LABELS = new Set(["touch", "send to another process", "receive from another process"]);
+const OTHER_WORDS = [["making ", "make "], ["lookup ", "look up in "], ["replacement ", "replace an entry of "]];
+const RANKS = new Map([["write", 0], ["read", 1], ["replacement", 3], ["lookup", 4], ["making", 5]]);
+
+/** A label in the words of a program. */
+function programWords(label) {
+  const [from, to] = OTHER_WORDS.find(([start]) => label.startsWith(start)) ?? ["", ""];
+  return BARE_LABELS.has(label) ? "" : to + label.slice(from.length);
+}
+
+/** What a message carries, by the label of who sends it, or nothing where that says only that it is sent. */
+const wordsOfMessage = (label) => programWords(label).replace(/^(send|put|post) /, "");
+
 /** What a row of a journal says of its event, or null. It has to be one of so many events. */
 function labelOf(row, events = Infinity) {
   if (row === null || !Number.isInteger(row.event) || typeof row.label !== "string") return null;
   if (row.event < 1 || row.event > events) return null;
   const isPlaced = typeof row.file === "string" && Number.isInteger(row.line);
-  return { event: row.event, label: row.label, kind: row.kind, place: isPlaced ? `${fileName(row.file)}:${row.line}` : "",
-    source: isPlaced ? `${row.file}:${row.line}` : "", isTouch: typeof row.thing === "string",
-    thing: typeof row.thing === "string" ? row.thing : null, isLock: typeof row.lock === "string" };
+  const isTouch = typeof row.thing === "string", isBare = !isTouch && (isPlaced ? false : row.label === "touch");
+  return { event: row.event, label: row.label, words: programWords(row.label), kind: row.kind, isOwn: isBare || OWN_LABELS.has(row.label),
+    name: typeof row.name === "string" ? row.name : row.thing, place: isPlaced ? `${fileName(row.file)}:${row.line}` : "",
+    source: isPlaced ? `${row.file}:${row.line}` : "", isTouch,
+    thing: isTouch ? row.thing : null, isLock: typeof row.lock === "string" };
+}
+
+/** The line that tells most of an event: a write before a read, and both before what looks a thing up or makes it. */
+function bestLine(lines) {
+  const rank = ({ isTouch, kind }) => isTouch ? RANKS.get(kind) ?? 2 : 6;
+  return lines.reduce((best, line) => rank(line) < rank(best) ? line : best);
 }
 
 /** The last part of a path. */

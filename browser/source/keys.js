@@ -1,17 +1,33 @@
 // Keys and buttons
 
+const ZOOM = 1.6;
+
+// What the buttons do, by their ids.
+const BUTTONS = {
+  in: () => page.view.zoom(ZOOM), out: () => page.view.zoom(1 / ZOOM), fit: () => page.view.whole(), near: () => page.view.showChosen(),
+  save: () => page.saveSvg(), unpair: () => page.chooseNothing(), raceBefore: () => page.turn(-1), raceBehind: () => page.turn(1),
+  ask: () => at("help").showModal(), filter: () => page.toggleFilters(), hide: () => page.togglePanel(), seen: () => page.hideHint(),
+  partBefore: () => page.openPart(page.part - 1), partBehind: () => page.openPart(page.part + 1),
+};
+
+// What the keys do, where nobody is typing. Those of an arrow are apart.
+const KEYS_OF_PAGE = {
+  "+": BUTTONS.in, "=": BUTTONS.in, "-": BUTTONS.out, 0: BUTTONS.fit, z: BUTTONS.near, n: BUTTONS.raceBehind, p: BUTTONS.raceBefore,
+  "?": BUTTONS.ask, "/": () => at("search").focus(), f: BUTTONS.filter, h: BUTTONS.hide, "[": BUTTONS.partBefore, "]": BUTTONS.partBehind,
+};
+// These are of use without a picture, too.
+const ALWAYS = ["?"];
+
 function onClick(event) {
   const button = event.target.closest("button");
   if (button === null) return;
   const isOther = event.shiftKey || event.ctrlKey || event.metaKey;
   const chosen = Number(button.dataset.event ?? 0);
   if (button.dataset.race !== undefined) page.chooseRace(Number(button.dataset.race));
+  if (button.dataset.fold !== undefined) page.openFold(button.dataset.fold);
+  if (button.dataset.part !== undefined) page.openPart(Number(button.dataset.part), () => page.choose(Number(button.dataset.eventThere), { closer: true }));
   if (chosen > 0) page.choose(chosen, { asOther: isOther, closer: !at("events").contains(button) });
-  if (button.id === "in") page.view.zoom(1.6);
-  if (button.id === "out") page.view.zoom(1 / 1.6);
-  if (button.id === "fit") page.view.whole();
-  if (button.id === "save") page.saveSvg();
-  if (button.id === "unpair") page.chooseNothing();
+  BUTTONS[button.id]?.();
   if (button.id === "pair") {
     page.isPairing = !page.isPairing;
     page.describeChosen();
@@ -21,13 +37,18 @@ function onClick(event) {
 
 function onKey(event) {
   const target = event.target, isTyping = target instanceof HTMLInputElement || target instanceof HTMLSelectElement;
-  if (isTyping || !page.isShown || event.altKey || event.ctrlKey || event.metaKey) return;
+  if (event.key === "Escape" && target.id === "search") target.blur();
+  if (isTyping || at("help").open || event.altKey || event.ctrlKey || event.metaKey) return;
+  if (!page.isShown && !ALWAYS.includes(event.key)) return;
   if (event.key === "Escape") {
     page.hideTip();
     page.chooseNothing();
   }
-  if (event.key === "+" || event.key === "-") page.view.zoom(event.key === "+" ? 1.6 : 1 / 1.6);
-  if (!event.key.startsWith("Arrow") || target.closest("aside") !== null) return;
+  if (Object.hasOwn(KEYS_OF_PAGE, event.key)) {
+    event.preventDefault();
+    KEYS_OF_PAGE[event.key]();
+  }
+  if (!event.key.startsWith("Arrow") || target.closest("aside, #divider, #filters") !== null) return;
   event.preventDefault();
   const focused = at("events").contains(target) ? Number(target.dataset.event) : 0;
   const from = focused || page.view.chosen, to = from === 0 ? Math.min(...page.buttons.keys()) : page.step(event.key, from);

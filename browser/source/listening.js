@@ -17,8 +17,11 @@ function listen() {
     });
   }
   document.addEventListener("click", onClick);
+  page.listenToDivider();
+  at("part").addEventListener("change", () => page.openPart(Number(at("part").value)));
   at("events").addEventListener("focusin", ({ target }) => {
-    const event = Number(target.dataset.event), { view } = page;
+    const event = Number(target.dataset.event ?? 0), { view } = page;
+    if (event === 0) return;
     page.showTip(page.eventTip(event), view.x(view.layout.times[event]), view.y(view.layout.lane(event)));
   });
   at("events").addEventListener("focusout", () => page.hideTip());
@@ -42,7 +45,9 @@ function listen() {
   at("search").addEventListener("input", () => page.search(at("search").value));
   at("search").addEventListener("keydown", (event) => {
     const first = at("found").querySelector("button");
-    if (event.key === "Enter" && first !== null && !at("found").hidden) page.choose(Number(first.dataset.event), { closer: true });
+    if (event.key !== "Enter" || first === null || at("found").hidden) return;
+    if (first.dataset.race !== undefined) page.chooseRace(Number(first.dataset.race));
+    else page.choose(Number(first.dataset.event), { closer: true });
   });
   at("filters").addEventListener("change", ({ target }) => page.applyFilters(target));
   at("time").addEventListener("change", () => {
@@ -56,12 +61,16 @@ function listen() {
   new Pointers(page, at("canvas"), true);
   new Pointers(page, at("besideCanvas"), false);
   new ResizeObserver(() => {
-    page.view.resize();
+    const { view } = page, isThere = view.layout !== null, isWhole = isThere && view.isWhole;
+    view.resize();
     page.beside.view.resize();
-    if (page.view.layout !== null) page.view.keepInside();
+    if (isWhole) view.whole();
+    else if (isThere && page.lastInput === -Infinity) view.showChosen();
+    else if (isThere) view.keepInside();
   }).observe(at("stage"));
   page.view.resize();
-  openCarried().catch(() => {
+  openCarried(1, true).catch(() => {
+    page.waits = false;
     tell("The export in this page cannot be unpacked.");
   });
 }

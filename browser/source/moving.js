@@ -1,12 +1,19 @@
 // Which part of the picture is in view
 
-/** Moves and zooms the picture. */
+/** Moves and zooms the picture. `left` is a time, `scale` how wide one is; `top` counts lanes, and `high` is how high one is. */
 const Moving = (Base) => class extends Base {
-  /** How high a lane is: what shows all lanes, where that can be read and is not too much; less where the picture is far off. */
+  /** How high the rulers above the lanes are. */
+  get head() {
+    return this.times === null || this.layout?.axis === CLOCK ? RULER : 2 * RULER;
+  }
+
+  /** How high what is between the rulers and the lower end is. */
+  get room() {
+    return Math.max(1, this.height - this.head - 2 * MARGIN);
+  }
+
   get laneHeight() {
-    const share = (this.height - 2 * MARGIN) / Math.max(1, this.layout.lanes);
-    const most = share < LEAST_LANE ? LANE : Math.min(GREATEST_LANE, share);
-    return Math.min(most, Math.max(3, share, LANE * Math.sqrt(this.scale / 44)));
+    return this.high;
   }
 
   x(time) {
@@ -14,7 +21,16 @@ const Moving = (Base) => class extends Base {
   }
 
   y(lane) {
-    return (lane + 0.5 - this.top) * this.laneHeight + MARGIN;
+    return this.yOf(this.layout.tops[lane] + 0.5);
+  }
+
+  /** Where so many lanes from above stand. */
+  yOf(lanes) {
+    return (lanes - this.top) * this.high + this.head + MARGIN;
+  }
+
+  lanesAt(y) {
+    return this.top + (y - this.head - MARGIN) / this.high;
   }
 
   resize() {
@@ -37,32 +53,52 @@ const Moving = (Base) => class extends Base {
   }
 
   get leastScale() {
-    return Math.min(GREATEST_SCALE, (this.width - 2 * ROOM) / Math.max(1, this.layout.columns - 1));
+    return Math.min(GREATEST_SCALE, Math.max(1, this.width - 2 * ROOM) / Math.max(1, this.layout.columns - 1));
+  }
+
+  get leastHigh() {
+    return Math.min(GREATEST_LANE, this.room / this.layout.height);
+  }
+
+  /** Whether all of it is in view. */
+  get isWhole() {
+    return this.scale <= this.leastScale * 1.001 && this.high <= this.leastHigh * 1.001;
   }
 
   keepInside() {
     const { layout } = this;
     this.scale = Math.min(GREATEST_SCALE, Math.max(this.leastScale, this.scale));
+    this.high = Math.min(GREATEST_LANE, Math.max(this.leastHigh, this.high));
     const room = ROOM / this.scale, most = layout.columns + room - this.width / this.scale;
     this.left = Math.max(1 - room, Math.min(this.left, most));
-    this.top = Math.max(0, Math.min(this.top, layout.lanes - (this.height - 2 * MARGIN) / this.laneHeight));
+    this.top = Math.max(0, Math.min(this.top, layout.height - this.room / this.high));
   }
 
   pan(byX, byY) {
     if (this.layout === null) return;
     this.left += byX / this.scale;
-    this.top += byY / this.laneHeight;
+    this.top += byY / this.high;
     this.keepInside();
     this.ask();
+  }
+
+  /** By which power of the zoom the lanes grow, so that times and lanes can be read at once. */
+  get laneZoom() {
+    const wide = NEAR_SCALE / this.leastScale, high = LANE / this.leastHigh;
+    if (high <= 1) return 0;
+    return wide <= 1.05 ? 1 : Math.min(1, Math.log(high) / Math.log(wide));
   }
 
   /** Makes everything so many times as wide, and keeps what stands at this place there. */
   zoom(factor, atX = this.width / 2, atY = this.height / 2) {
     if (this.layout === null) return;
-    const time = this.left + atX / this.scale, lane = this.top + (atY - MARGIN) / this.laneHeight;
+    const time = this.left + atX / this.scale, lanes = this.lanesAt(atY), power = this.laneZoom;
+    const isFar = this.scale <= this.leastScale * 1.001 && factor < 1;
     this.scale = Math.min(GREATEST_SCALE, Math.max(this.leastScale, this.scale * factor));
+    const most = Math.max(this.leastHigh, Math.min(LANE, GREATEST_LANE));
+    this.high = Math.min(Math.max(most, this.high), Math.max(this.leastHigh, this.high * factor ** (isFar ? 1 : power)));
     this.left = time - atX / this.scale;
-    this.top = lane - (atY - MARGIN) / this.laneHeight;
+    this.top = lanes - (atY - this.head - MARGIN) / this.high;
     this.keepInside();
     this.ask();
   }
@@ -70,14 +106,7 @@ const Moving = (Base) => class extends Base {
   whole() {
     if (this.layout === null) return;
     this.scale = this.leastScale;
-    this.left = this.top = 0;
-    this.keepInside();
-    this.ask();
-  }
-
-  /** The beginning of the trace, as much of it as can be read well. */
-  begin() {
-    this.scale = Math.min(78, Math.max(44, this.leastScale));
+    this.high = this.leastHigh;
     this.left = this.top = 0;
     this.keepInside();
     this.ask();
@@ -86,24 +115,36 @@ const Moving = (Base) => class extends Base {
   /** Moves as little as brings the event into view; `closer` also makes it readable. */
   show(event, closer = true) {
     const { layout } = this;
-    if (closer && this.scale < 30) this.scale = 48;
-    const time = layout.times[event], lane = layout.lane(event), aside = Math.min(90, this.width / 4) / this.scale;
-    const wide = this.width / this.scale, high = (this.height - 2 * MARGIN) / this.laneHeight;
+    if (closer && this.scale < 30) this.scale = Math.max(this.leastScale, 48);
+    if (closer && this.high < LEAST_LANE) this.high = LANE;
+    const time = layout.times[event], lane = layout.tops[layout.lane(event)], aside = Math.min(90, this.width / 4) / this.scale;
+    const wide = this.width / this.scale, high = this.room / this.high;
     if (time < this.left + aside || time > this.left + wide - aside) this.left = time - wide / 2;
     if (lane < this.top || lane + 1 > this.top + high) this.top = lane - high / 2;
     this.keepInside();
     this.ask();
   }
 
-  /** Shows both events, as near as their distance lets. */
-  showBoth(one, other) {
-    const { layout } = this, times = [one, other].map((event) => layout.times[event]);
-    const lanes = [one, other].map((event) => layout.lane(event));
-    const apart = Math.abs(times[0] - times[1]), aside = Math.min(120, this.width / 4);
-    this.scale = Math.max(this.leastScale, Math.min(78, (this.width - 2 * aside) / Math.max(1, apart)));
-    this.left = (times[0] + times[1]) / 2 - this.width / this.scale / 2;
-    this.top = (lanes[0] + lanes[1] + 1) / 2 - (this.height - 2 * MARGIN) / this.laneHeight / 2;
+  /** Shows these events, as near as their distance lets. */
+  showAll(events) {
+    const { layout } = this, times = events.map((event) => layout.times[event]), lanes = events.map((event) => layout.tops[layout.lane(event)]);
+    const [least, most] = [Math.min(...times), Math.max(...times)], [upper, lower] = [Math.min(...lanes), Math.max(...lanes) + 1];
+    const aside = Math.min(120, this.width / 4);
+    this.scale = Math.max(this.leastScale, Math.min(READ_SCALE, (this.width - 2 * aside) / Math.max(1, most - least)));
+    this.high = Math.max(this.leastHigh, Math.min(LANE, this.room / (lower - upper)));
+    this.left = (least + most) / 2 - this.width / this.scale / 2;
+    this.top = (upper + lower) / 2 - this.room / this.high / 2;
     this.keepInside();
     this.ask();
+  }
+
+  /** Shows what is chosen: an event, or two of them with the latest that happened before both. */
+  showChosen() {
+    if (this.layout === null || this.chosen === 0) return;
+    const pair = [this.chosen, this.other].filter((event) => event > 0), { trace } = this.layout;
+    const before = pair.length === 2 ? trace.latestBeforeBoth(...pair) : 0;
+    const events = [...pair, ...before > 0 && this.layout.filter.shows(before) ? [before] : []];
+    if (events.length > 1) this.showAll(events);
+    else this.show(events[0]);
   }
 };

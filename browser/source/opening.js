@@ -78,9 +78,11 @@ const Opening = (Base) => class extends Base {
   }
 
   tellVerdict() {
-    const { trace, verdict, fault, name } = this, isFaulty = trace.fault !== null || (verdict !== null && fault !== null);
-    const words = isFaulty ? this.faultWords() : this.countWords() + (verdict === null ? "" : ` Checked: ${verdict}.`);
+    const { trace, verdict, fault, name } = this, isFaulty = trace.fault !== null || trace.events === 0 || (verdict !== null && fault !== null);
+    const isEmpty = trace.fault === null && trace.events === 0;
+    const words = isEmpty ? "the export has no event, so nothing is drawn." : isFaulty ? this.faultWords() : this.countWords() + (verdict === null ? "" : ` Checked: ${verdict}.`);
     const progress = verdict === null ? `Not yet checked: ${this.compared} of ${trace.events} lines compared.` : "";
+    if (verdict !== null && fault !== null && this.isShown) at("title").classList.add("racy");
     tell(name === "" ? words : `${name}: ${words}`, progress, this.compared / Math.max(1, trace.events));
     at("notice").classList.toggle("faulty", isFaulty);
   }
@@ -110,22 +112,34 @@ const Opening = (Base) => class extends Base {
     this.view.chosen = this.view.other = 0;
     this.view.standings = null;
     this.races = [];
-    this.view.racing.clear();
+    this.headOfRaces = null;
+    this.racePlace = -1;
+    this.racing();
     this.clearFilters();
     this.beside.leave();
     at("openBeside").hidden = !this.isShown;
     this.describeRaces();
-    at("invitation").hidden = trace.fault === null;
+    this.tellRefusal();
     at("search").value = "";
     at("found").hidden = true;
     this.useLayout(false);
     this.describeTrace();
     this.describeChosen();
-    if (this.isShown) this.readAddress();
+    if (this.isShown && !this.waits) this.readAddress();
   }
 
+  /** Says in the place of the picture why there is none. */
+  tellRefusal() {
+    const { trace } = this, place = at("invitation"), isEmpty = trace.fault === null && trace.events === 0;
+    place.hidden = this.isShown;
+    place.classList.toggle("faulty", !this.isShown);
+    if (!this.isShown) place.replaceChildren(element("p", {}, isEmpty ? "Nothing is drawn: the export has no event." : `Nothing is drawn: ${wordsOfFault(trace.fault)}`));
+  }
+
+  /** Lays the picture out as the filters ask, unless more is about to be opened. */
   useLayout(keepsPlace) {
-    const { view } = this, time = at("time").value;
+    const { view } = this, axis = at("time").value;
+    if (this.waits) return;
     if (!this.isShown) {
       view.layout = null;
       view.ask();
@@ -134,15 +148,24 @@ const Opening = (Base) => class extends Base {
     }
     const filter = this.filter();
     filter.lanes = this.beside.lanes();
-    const isPlain = filter.events === null && filter.groups === null && filter.lanes === null;
-    if (isPlain && !this.layouts.has(time)) this.layouts.set(time, new Layout(this.trace, time === "number"));
-    view.layout = isPlain ? this.layouts.get(time) : new Layout(this.trace, time === "number", filter);
-    this.beside.useLayout(time);
+    view.layout = this.layoutFor(axis, filter);
+    this.beside.useLayout(axis);
     this.tellHidden(filter);
-    if (!keepsPlace || view.chosen === 0) view.begin();
-    else view.show(view.chosen, false);
+    this.listFamilies();
+    if (!keepsPlace) view.whole();
+    else if (view.chosen > 0) view.show(view.chosen, false);
     view.keepInside();
     view.ask();
+  }
+
+  /** The layout for these filters. Those without a hidden event are kept, since somebody goes from one to the other. */
+  layoutFor(axis, filter) {
+    const make = () => new Layout(this.trace, { axis, filter, clocks: this.clocks });
+    if (filter.events !== null || filter.lanes !== null) return make();
+    const { opened, closed, kept, folded, groups, families, mostLanes } = filter;
+    const key = JSON.stringify([axis, groups !== null, families !== null, mostLanes, [...opened], [...closed], [...kept], [...folded]]);
+    if (!this.layouts.has(key)) this.layouts.set(key, make());
+    return this.layouts.get(key);
   }
 
   /** Opens an export, or the journal of the one that is open. */
@@ -152,6 +175,7 @@ const Opening = (Base) => class extends Base {
       this.tellVerdict();
       return;
     }
+    this.leaveParts();
     this.labels.clear();
     this.processes = new Processes();
     this.useClocks(null);

@@ -5,10 +5,10 @@ const Panel = (Base) => class extends Base {
   /** What an event was in the program, as its journal says it, or what it did. */
   wordsOf(event) {
     const { trace } = this, lines = this.labels.get(event)?.lines ?? [];
-    if (lines.length === 0) return deed(trace, event);
+    if (lines.length === 0 || this.isOwn(event)) return deed(trace, event);
     const touches = this.chosenRace()?.sides.map((side) => this.touchOf(side, event)) ?? [];
-    const line = touches.find((touch) => touch !== undefined) ?? lines[0], more = lines.length > 1 ? ` and ${lines.length - 1} more` : "";
-    return `${trace.taskName(event)}: ${labelAndPlace(line)}${more}`;
+    const line = touches.find((touch) => touch !== undefined) ?? bestLine(lines), more = lines.length > 1 ? ` and ${lines.length - 1} more` : "";
+    return labelAndPlace(line) === "" ? deed(trace, event) : `${trace.taskName(event)}: ${labelAndPlace(line)}${more}`;
   }
 
   /** The line of the journal that tells of this touch of a race. */
@@ -47,20 +47,23 @@ const Panel = (Base) => class extends Base {
     for (const button of at("races").querySelectorAll("button")) {
       button.setAttribute("aria-pressed", String(Number(button.dataset.race) === place));
     }
+    if (at("turned") !== null) at("turned").textContent = place < 0 ? `${this.races.length} in all` : `${place + 1} of ${this.races.length}`;
     if (event === 0) {
+      this.describeLegend();
       this.beside.describe();
       section.append(element("p", { className: "quiet" },
         "Choose an event: click or tap it, or go to it with Tab and press Enter. ",
         "Arrow keys left and right walk along its task, up and down along edges from and to other tasks."));
       return;
     }
+    this.describeLegend();
+    if (race === undefined) section.append(element("h2", {}, `Event ${event}`), this.rowOf(event));
+    else this.describeRace(section, race);
+    this.describePair(section, race);
     if (race !== undefined) {
-      section.append(element("h2", {}, `Events ${event} and ${view.other}`));
-      this.describeRace(section, race);
-      this.describePair(section);
+      const events = [event, view.other].filter((one) => one > 0);
+      section.append(...events.map((one) => element("details", { className: "row" }, element("summary", {}, `Event ${one}`), this.rowOf(one))));
     }
-    section.append(element("h2", {}, `Event ${event}`), this.rowOf(event));
-    if (race === undefined) this.describePair(section);
     this.beside.describe();
     section.append(element("h2", {}, "How the others stand to it"));
     const lists = [PAST, FUTURE, CONCURRENT].map((standing) => this.standingList(standing));
@@ -73,8 +76,8 @@ const Panel = (Base) => class extends Base {
     const { trace } = this, list = element("dl");
     const add = (term, value) => list.append(element("dt", {}, term), element("dd", {}, value));
     const kind = trace.kinds[event], named = ["", "starts", "message", "message", "", "takes in"][kind];
-    for (const { label, source } of (this.labels.get(event)?.lines ?? []).slice(0, MOST_LINES)) {
-      add("label", label);
+    for (const { words: label, source } of (this.labels.get(event)?.lines ?? []).slice(0, MOST_LINES)) {
+      if (label !== "") add("label", label);
       if (source !== "") add("source", source);
     }
     const more = (this.labels.get(event)?.lines.length ?? 0) - MOST_LINES;
@@ -96,8 +99,14 @@ const Panel = (Base) => class extends Base {
     return this.numberButtons(trace.message(name).receipts, "nobody", (event) => `${trace.taskName(event)}, ${event}`);
   }
 
-  describePair(section) {
+  describePair(section, race) {
     const { view, trace } = this, { chosen, other } = view;
+    if (other === 0 && race !== undefined) {
+      const words = "One touch is in another part of the run. No event of this part that stands for it comes before the other touch.";
+      section.append(element("p", {}, words));
+      this.describeSource(section, race);
+      return;
+    }
     if (other === 0) {
       const words = this.isPairing ? "Now choose the other event" : "Compare with another event";
       const pair = element("button", { type: "button", id: "pair" }, words);
@@ -105,13 +114,19 @@ const Panel = (Base) => class extends Base {
       section.append(element("p", {}, pair));
       return;
     }
+    const order = trace.order(chosen, other), why = () => {
+      if (order === "concurrent") this.describeFreedom(section, chosen, other);
+      if (order === "before" || order === "after") this.describeChain(section, view.chains[0]);
+    };
+    if (race !== undefined) {
+      why();
+      this.describeSource(section, race);
+    }
     section.append(element("p", { id: "words" }, this.orderWords(chosen, other)));
-    section.append(element("ul", {}, element("li", {}, this.eventButton(chosen)), element("li", {}, this.eventButton(other))));
+    if (race === undefined) section.append(element("ul", {}, element("li", {}, this.eventButton(chosen)), element("li", {}, this.eventButton(other))));
     this.describeTimes(section, chosen, other);
     section.append(element("p", {}, element("button", { type: "button", id: "unpair" }, "Leave the other event")));
-    const order = trace.order(chosen, other);
-    if (order === "concurrent") this.describeFreedom(section, chosen, other);
-    if (order === "before" || order === "after") this.describeChain(section, view.chains[0]);
+    if (race === undefined) why();
   }
 
   /** What is drawn to show why two events are ordered or not: a shortest chain, or each event with the synchronizations around it. */
@@ -129,14 +144,14 @@ const Panel = (Base) => class extends Base {
   describeFreedom(section, one, other) {
     const { trace } = this, list = element("dl", { id: "freedom" });
     const add = (term, event, none) => list.append(element("dt", {}, term), element("dd", {}, event > 0 ? this.eventButton(event) : none));
+    add("last before both", trace.latestBeforeBoth(one, other), "nothing happened before both");
     for (const event of [one, other]) {
       const before = trace.synchronizationBefore(event), after = trace.synchronizationAfter(event), name = trace.taskName(event);
-      add(`last of ${name} before ${event}`, before, "nothing");
-      add(`next of ${name} after ${event}`, after, "nothing more");
+      add(`${name} came from`, before, "nothing");
+      add(`${name} went on to`, after, "nothing more");
     }
-    add("latest before both", trace.latestBeforeBoth(one, other), "nothing happened before both");
-    section.append(element("h2", {}, "Why nothing orders them"), element("p", { className: "quiet" },
-      "Only what tasks do with one another orders their events: starts, messages, locks, ends and joins."), list);
+    section.append(element("h2", {}, "Why nothing orders them"), list, element("p", { className: "quiet" },
+      "Only what tasks do with one another orders their events: starts, messages, locks, ends and joins. None of it stands between the two."));
   }
 
   /** Lists the edges of a chain. What follows in one task is one step. */
@@ -187,23 +202,35 @@ const Panel = (Base) => class extends Base {
   }
 
   describeTrace() {
-    const { trace } = this, section = at("about"), marks = element("ul", { className: "legend" });
+    const { trace } = this, section = at("about"), marks = at("marks");
     section.replaceChildren();
+    marks.replaceChildren();
+    this.describeLegend();
     if (trace.fault === null && trace.header !== null) section.append(...headerWords(trace.header));
     if (!this.isShown) return;
     KINDS.forEach((kind, place) => marks.append(element("li", {}, kindIcon(place), kind)));
-    if (this.races.length > 0) marks.append(element("li", {}, raceIcon(), "race"));
-    const alone = [...trace.messages.values()].filter((message) => message.sent > 0 && message.receipts.length === 0);
+    marks.append(element("li", {}, raceIcon(), "race"));
+    for (const [standing, words] of STANDINGS) marks.append(element("li", {}, standingIcon(standing), words));
+    const alone = [...trace.messages.values()].filter(({ sent, receipts }) => sent > 0 && receipts.length === 0 && !this.isOwn(sent));
     const isLock = ({ sent }) => this.labels.get(sent)?.lines.some((line) => line.isLock) === true;
     const unread = alone.filter((message) => !isLock(message)), free = alone.filter(isLock);
-    const open = this.tasks().filter((task) => task.ended === 0 && !this.processes.haveEnded(task.name));
-    section.append(element("h2", {}, "Marks"), marks);
+    const isOfTool = ({ name, started }) => this.own !== null && started > 0 && OWN_TASKS.has(stemOf(name));
+    const open = this.tasks().filter((task) => task.ended === 0 && !this.processes.haveEnded(task.name) && !isOfTool(task));
     const sent = (message) => this.eventButton(message.sent);
     const last = (task) => this.eventButton(task.last || task.started, `${task.name}, last event`);
     section.append(this.list("unread", `Messages that nobody received: ${unread.length}`, unread, sent));
     if (free.length > 0) section.append(this.list("free", `Locks that nobody took again: ${free.length}`, free, sent, false));
     section.append(this.list("open", `Tasks that did not end: ${open.length}`, open, last));
     this.describeClocks(section);
+  }
+
+  /** Says below the picture what its marks are: those of events, and those of how they stand to the chosen one. */
+  describeLegend() {
+    const { view } = this, items = !this.isShown ? [] : view.chosen === 0 ? KINDS.map((kind, place) => [kindIcon(place), kind])
+      : STANDINGS.map(([standing, words]) => [standingIcon(standing), words]);
+    if (this.isShown && this.races.length > 0) items.push([raceIcon(), "race"]);
+    if (view.chains?.length > 0) items.push([chainIcon(), view.other > 0 && view.chains.length > 1 ? "last and next with other tasks" : "what orders them"]);
+    at("legend").replaceChildren(...items.map(([mark, words]) => element("li", {}, mark, words)));
   }
 
   /** A list that is filled once it is opened, with so many of the things as can be read. One of another trace stays as it is. */
@@ -221,6 +248,10 @@ const Panel = (Base) => class extends Base {
   useClocks(clocks) {
     this.clocks = clocks !== null && clocks.names.length > 0 ? clocks : null;
     this.view.times = this.clocks?.times ?? null;
+    this.view.clocks = this.clocks;
+    const option = at("time").querySelector('[value="clock"]');
+    option.disabled = this.clocks === null;
+    if (this.clocks === null && at("time").value === CLOCK) at("time").value = CHAIN;
   }
 
   /** When the event was, or nothing where its journal does not tell. */

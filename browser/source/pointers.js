@@ -47,6 +47,7 @@ class Pointers {
     const after = this.spread();
     this.moved += Math.hypot(after.x - before.x, after.y - before.y) + Math.abs(after.wide - before.wide);
     if (this.moved < 5) return;
+    this.page.hideHint();
     view.pan(before.x - after.x, before.y - after.y);
     if (this.down.size > 1 && before.wide > 10 && after.wide > 10) view.zoom(after.wide / before.wide, after.x, after.y);
   }
@@ -57,12 +58,15 @@ class Pointers {
     if (place === undefined || !wasAlone || this.moved >= 5 || !this.mayChoose) return;
     const chosen = this.page.view.eventAt(place.x, place.y, event.pointerType === "mouse" ? 16 : 26);
     const asOther = event.shiftKey || event.ctrlKey || event.metaKey;
+    const fold = chosen > 0 ? null : this.page.view.foldAt(place.x, place.y);
     if (chosen > 0) this.page.choose(chosen, { asOther, stays: true });
+    else if (fold !== null) this.page.openFold(fold.key);
   }
 
   wheel(event) {
     event.preventDefault();
     this.page.hideTip();
+    this.page.hideHint();
     this.page.lastInput = performance.now();
     const { view } = this.page, unit = event.deltaMode === 1 ? 20 : event.deltaMode === 2 ? 400 : 1;
     const { x, y } = this.place(event);

@@ -23,14 +23,31 @@ const Reaching = (Base) => class extends Base {
       else group.insertBefore(button, before);
       this.placeButton(button, event);
     }
+    this.reachFolds(group);
     group.setAttribute("aria-label", `Events in view: ${shown.length} of ${view.layout === null ? 0 : view.count}`);
+  }
+
+  /** Puts a button over the band of each fold in view, behind those of events. */
+  reachFolds(group) {
+    const { view } = this;
+    for (const button of group.querySelectorAll("button[data-fold]")) if (button !== document.activeElement) button.remove();
+    if (view.layout === null) return;
+    for (const [lane, { key, title, places: [first] }] of view.layout.folded) {
+      if (lane < view.fromLane || lane > view.toLane || document.activeElement?.dataset?.fold === key) continue;
+      const button = element("button", { type: "button" });
+      button.dataset.fold = key;
+      button.setAttribute("aria-label", `${title}, folded: opens them`);
+      button.style.left = `${Math.max(16, view.x(view.layout.from[first]))}px`;
+      button.style.top = `${view.y(lane)}px`;
+      group.append(button);
+    }
   }
 
   eventsToReach() {
     const { view } = this, events = [...view.marks.subarray(0, view.count)];
     const inside = events.filter((event) => {
       const x = view.x(view.layout.times[event]), y = view.y(view.layout.lane(event));
-      return event === view.chosen || (x >= 0 && x <= view.width && y >= 0 && y <= view.height);
+      return event === view.chosen || (x >= 0 && x <= view.width && y >= view.head && y <= view.height);
     });
     inside.sort((one, other) => one - other);
     const from = Math.max(0, Math.min(inside.indexOf(view.chosen) - MOST_REACHED / 2, inside.length - MOST_REACHED));

@@ -6,7 +6,7 @@ const Saving = (Base) => class extends Base {
   svg() {
     const { chosen } = this.view, pair = at("words")?.textContent ?? (chosen > 0 ? `Event ${chosen} is chosen.` : "");
     const said = [at("told").textContent, at("progress").textContent, pair, at("hidden").textContent];
-    return this.view.svg("Picture of a trace", said.filter((words) => words !== "").join(" "));
+    return this.view.svg(document.title, said.filter((words) => words !== "").join(" "));
   }
 
   saveSvg() {

@@ -8,12 +8,14 @@ const Search = (Base) => class extends Base {
     section.replaceChildren();
     if (section.hidden) return;
     const found = this.find(sought), list = element("ul");
-    for (const { event, words } of found.slice(0, MOST_FOUND)) list.append(element("li", {}, this.eventButton(event, words)));
+    for (const { event, words, race } of found.slice(0, MOST_FOUND)) {
+      list.append(element("li", {}, race === undefined ? this.eventButton(event, words) : this.raceButton(this.races[race], race)));
+    }
     const more = found.length > MOST_FOUND ? `, the first ${MOST_FOUND} here` : "";
     section.append(element("h2", {}, `Found: ${found.length}${more}`), list);
   }
 
-  /** The event of that number, the tasks and the messages with the text in their names; whole names first. */
+  /** The event of that number, and the tasks, messages, things, places and races with the text in their names; whole names first. */
   find(sought) {
     const { trace } = this, found = [], number = wholeNumber(sought);
     const add = (event, words, name) => found.push({ event, words, rank: name === sought ? 0 : 1 });
@@ -28,9 +30,14 @@ const Search = (Base) => class extends Base {
       for (const receipt of receipts) add(receipt, `message ${name} is received by ${trace.taskName(receipt)}`, name);
     }
     for (const [event, { lines }] of this.labels) {
-      const line = lines.find(({ label }) => label.includes(sought));
-      if (line !== undefined) add(event, `${trace.taskName(event)}: ${line.label}`, line.label);
+      const isIt = ({ label, words: said, name, place, source }) => [label, said, name ?? "", place, source].some((text) => text.includes(sought));
+      const line = lines.find(({ label }) => label.includes(sought)) ?? lines.find(isIt);
+      if (line !== undefined) add(event, `${trace.taskName(event)}: ${labelAndPlace(line)}`, line.label);
     }
+    this.races.forEach(({ thing, made, sides }, race) => {
+      const texts = [thing, made, ...sides.flatMap((side) => [placeIn(side), `${side.file}:${side.line}`, side.task])];
+      if (texts.some((text) => text.includes(sought))) found.push({ race, event: sides[0].event, words: thing, rank: thing === sought ? 0 : 0.5 });
+    });
     return found.sort((one, other) => one.rank - other.rank);
   }
 };

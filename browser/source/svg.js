@@ -67,7 +67,8 @@ class SvgContext {
   }
 
   fillText(text, x, y) {
-    const look = { fill: this.fillStyle, "font-family": FAMILY, "font-size": FONT_SIZE };
+    const look = { fill: this.fillStyle, "font-family": FAMILY, "font-size": FONT_SIZE,
+      ...this.font?.startsWith("bold") ? { "font-weight": "bold" } : {} };
     this.add("text", { x: tenths(x), y: tenths(y), ...look }).textContent = printable(text);
   }
 

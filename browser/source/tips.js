@@ -28,7 +28,7 @@ const Tips = (Base) => class extends Base {
 
   eventTip(event) {
     const { trace } = this, lines = this.labels.get(event)?.lines ?? [];
-    const told = lines.slice(0, MOST_TIPS).map(labelAndPlace);
+    const told = lines.filter(({ words }) => words !== "").slice(0, MOST_TIPS).map(labelAndPlace);
     const more = lines.length > MOST_TIPS ? [`and ${lines.length - MOST_TIPS} more`] : [];
     const time = this.timeWords(event);
     return [...told, ...more, `Event ${event}, ${deed(trace, event)}`, ...time === "" ? [] : [time]];
@@ -37,15 +37,19 @@ const Tips = (Base) => class extends Base {
   messageTip(receipt) {
     const { trace } = this, name = trace.nameOf[receipt], { sent } = trace.message(name);
     const said = [["sent", sent], ["received", receipt]].map(([word, event]) => {
-      const line = this.labels.get(event)?.lines[0], label = line === undefined ? "" : `: ${labelAndPlace(line)}`;
+      const line = this.labels.get(event)?.lines[0], label = line === undefined || labelAndPlace(line) === "" ? "" : `: ${labelAndPlace(line)}`;
       return `${word} by ${trace.taskName(event)}, event ${event}${label}`;
     });
-    return [`Message ${name}`, ...said];
+    const words = this.view.wordsOfMessages.get(name);
+    return [...words === undefined ? [] : [words], `Message ${name}`, ...said];
   }
 
   taskTip(place) {
     const { layout } = this.view, folded = layout.folded.get(layout.laneOf[place]);
-    if (folded !== undefined) return [layout.names[place], folded.slice(0, MOST_TIPS).map((one) => this.trace.tasks[one].name).join(", ")];
+    if (folded !== undefined) {
+      const names = folded.places.slice(0, MOST_TIPS).map((one) => this.trace.tasks[one].name).join(", ");
+      return [folded.title, `${names}${folded.places.length > MOST_TIPS ? ", .." : ""}`, "A click opens them."];
+    }
     const { trace } = this, { name, started, first, last, ended, isOver } = trace.tasks[place];
     const count = trace.eventsOf(place), line = this.labels.get(started)?.lines[0];
     const label = line === undefined || line.place === "" ? "" : `, ${line.place}`;
