@@ -312,7 +312,7 @@ def _keep(system: System, port: int, lines: list[str], folder: str, races: Races
         with open(export, "w", encoding="ascii", newline="\n") as output:
             snapshot(system.tenant, port, output)
         Path(f"{export}.journal").write_text("".join(lines), encoding="utf-8")
-        is_drawn = system.picture is not None and draw(export, f"{export}.journal", system.picture, races)
+        is_drawn = system.picture is not None and draw(export, ["--labels", f"{export}.journal"], system.picture, races)
         return system.picture if is_drawn else None
     except (OSError, Refused, NoJournal) as fault:
         races.unseen.append(Unseen(Cause.COLLECTOR, f"the trace cannot be kept ({fault})"))
