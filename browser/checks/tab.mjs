@@ -17,7 +17,8 @@ export async function picked(tab, path) {
   await tab.frame();
 }
 
-export const notice = (tab) => text(tab, "#notice");
+/** What is told of the export, without the title and the progress. */
+export const notice = (tab) => text(tab, "#told");
 export const chosen = (tab) => text(tab, "#chosen h2");
 
 export async function text(tab, selector) {

@@ -20,26 +20,33 @@ async function carried(id) {
 const idOf = (name, part) => part === 1 ? name : `${name}-${part}`;
 
 /** Opens the export that the page carries, or a part of it: what is shown comes first, and the stamps last. */
-async function openCarried(part = 1, isFirst = false) {
+async function openCarried(part, then = () => {}) {
   if (at(idOf("export", part)) === null || at(idOf("export", part)).textContent.trim() === "") return;
   tell("Unpacking the export.", " ");
   const opening = page.opened, [bytes, labels] = [await carried(idOf("export", part)), await carried(idOf("labels", part))];
-  const [races, about] = [await carried("carriedRaces"), await carried("carriedAbout")];
+  const races = await carried("carriedRaces");
   if (opening !== page.opened) return;
   const text = (packed) => new TextDecoder().decode(packed), trace = readExport(bytes);
   page.labels.clear();
   page.waits = true;
-  page.useAbout(about === null ? null : objectIn(text(about)));
   page.part = part;
   page.show(trace, "");
   if (labels !== null && page.isShown) page.openLabels(text(labels));
   if (races !== null && page.isShown) page.openRaces(text(races));
   page.waits = false;
-  page.begin(isFirst);
+  page.begin();
+  if (page.isShown) then();
   await new Promise((resolve) => requestAnimationFrame(() => setTimeout(resolve)));
   const stamps = await carried(idOf("stamps", part));
   if (page.trace !== trace) return;
   if (stamps !== null) trace.packed = new PackedStamps(stamps);
   page.describeChosen();
   page.compare();
+}
+
+/** Opens the part that the address names, or the first one. */
+async function openFirst() {
+  const about = await carried("carriedAbout"), asked = wholeNumber(new URLSearchParams(location.hash.slice(1)).get("part") ?? "");
+  page.useAbout(about === null ? null : objectIn(new TextDecoder().decode(about)));
+  await openCarried(asked >= 1 && asked <= page.partCount ? asked : 1);
 }

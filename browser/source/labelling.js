@@ -68,7 +68,7 @@ const Labelling = (Base) => class extends Base {
       if (this.isSmall(event)) continue;
       const label = this.labelOf(event), most = rank(event) > 0 ? MOST_LETTERS : Math.floor(this.roomOf(event) / this.letter);
       const text = label === "" ? String(event) : clipped(`${event} ${label}`, most);
-      if (text.length < String(event).length + 4 || !this.writeBelow(text, event)) this.writeBelow(String(event), event);
+      if ((text.endsWith("…") && text.length < String(event).length + 7) || !this.writeBelow(text, event)) this.writeBelow(String(event), event);
     }
     for (let place = 0; place < this.nearEdges; place++) {
       if (layout.edgeKinds[this.edges[place]] === MESSAGE_EDGE || layout.edgeCounts[this.edges[place]] > 1) this.labelEdge(this.edges[place]);

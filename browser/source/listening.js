@@ -69,7 +69,7 @@ function listen() {
     else if (isThere) view.keepInside();
   }).observe(at("stage"));
   page.view.resize();
-  openCarried(1, true).catch(() => {
+  openFirst().catch(() => {
     page.waits = false;
     tell("The export in this page cannot be unpacked.");
   });

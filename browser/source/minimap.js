@@ -32,7 +32,7 @@ class Minimap {
   follow() {
     const { view, canvas } = this;
     canvas.hidden = view.layout === null || view.isWhole;
-    if (canvas.hidden) return;
+    if (canvas.hidden || canvas.clientWidth === 0) return;
     if (canvas.width !== canvas.clientWidth * view.ratio || canvas.height !== canvas.clientHeight * view.ratio) this.key = null;
     if (this.key !== view.layout || this.standings !== view.standings || this.colours !== COLOURS) this.paint();
     const context = canvas.getContext("2d"), { width, height } = this.little, { layout } = view;

@@ -46,21 +46,17 @@ class Page extends Parting(Panes(Reaching(Racing(WithLabels(Search(Panel(Tips(Ch
   }
 
   /** Shows what there is to see first: what the address says, else the first race, else the whole. */
-  begin(isFirst) {
+  begin() {
     if (!this.isShown) return;
     this.useLayout(false);
     this.tellParts();
-    if (this.program === "") this.program = programOf(this.labels);
+    if (this.program === "") this.program = programOf(this.labels) || fileName(this.races[0]?.sides[0].file ?? "");
     this.describeRaces();
     at("hint").hidden = this.isHinted;
-    const words = new URLSearchParams(location.hash.slice(1)), asked = wholeNumber(words.get("part") ?? "");
-    if (isFirst && asked !== this.part && asked > 1 && asked <= this.partCount) {
-      this.openPart(asked, () => this.readAddress());
-      return;
-    }
-    if (isFirst && (wholeNumber(words.get("event") ?? "") > 0 || words.has("time"))) this.readAddress();
+    const words = new URLSearchParams(location.hash.slice(1)), asked = wholeNumber(words.get("part") ?? "1");
+    if (asked === this.part && (words.has("event") || words.has("time"))) this.readAddress();
     const isHere = ({ sides }) => sides.some(({ part }) => part === this.part), first = this.races.findIndex(isHere);
-    if (this.view.chosen === 0 && first >= 0 && !words.has("event")) this.chooseRace(first, false);
+    if (this.view.chosen === 0 && first >= 0 && !(asked === this.part && words.has("event"))) this.chooseRace(first, false);
     else this.describeChosen();
   }
 }

@@ -9,7 +9,7 @@ const Parting = (Base) => class extends Base {
     this.part = 1;
     at("parts").hidden = this.partCount === 1;
     at("part").replaceChildren(...Array.from({ length: this.partCount }, (_, place) =>
-      element("option", { value: String(place + 1) }, `Part ${place + 1} of ${this.partCount}`)));
+      element("option", { value: String(place + 1) }, `Part ${place + 1}/${this.partCount}`)));
   }
 
   /** Says of each part how many races have a touch in it, and which parts are beside this one. */
@@ -17,7 +17,7 @@ const Parting = (Base) => class extends Base {
     const { part, partCount, races } = this;
     for (const option of at("part").options) {
       const own = Number(option.value), count = races.filter(({ sides }) => sides.some((side) => side.part === own)).length;
-      option.textContent = `Part ${own} of ${partCount}${count > 0 ? `: ${counted(count, "race")}` : ""}`;
+      option.textContent = `Part ${own}/${partCount}${count > 0 ? `, ${counted(count, "race")}` : ""}`;
     }
     at("part").value = String(part);
     at("partBefore").disabled = part === 1;
@@ -34,7 +34,9 @@ const Parting = (Base) => class extends Base {
   /** Opens a part, and goes on then. */
   async openPart(part, then = () => {}) {
     if (part < 1 || part > this.partCount) return;
-    await openCarried(part);
-    if (this.part === part && this.isShown) then();
+    await openCarried(part, () => {
+      then();
+      this.writeAddress();
+    });
   }
 };

@@ -1,6 +1,6 @@
 // The panel of races
 
-const FEW_RACES = 3;
+const FEW_RACES = 3, MOST_TITLE = 80;
 
 /** Lists the races, and shows one. */
 const Racing = (Base) => class extends Base {
@@ -73,7 +73,7 @@ const Racing = (Base) => class extends Base {
     const { races, headOfRaces: head } = this, sure = races.filter(({ isPossible }) => !isPossible).length, possible = races.length - sure;
     const counts = [...sure > 0 ? [counted(sure, "race")] : [], ...possible > 0 ? [counted(possible, "possible race")] : []].join(", ");
     if (counts !== "" || head === null) return counts;
-    return head.unseen.length > 0 ? "incomplete, no race seen" : "no race in this run";
+    return head.unseen.length > 0 ? "Incomplete, no race seen" : "No race in this run";
   }
 
   describeRaces() {
@@ -97,8 +97,8 @@ const Racing = (Base) => class extends Base {
   raceButton(race, place) {
     const { sides } = race, [one, other] = sides, parts = new Set(sides.map(({ part }) => part));
     const where = this.partCount > 1 ? `; part ${[...parts].join(" and ")}` : "";
-    const lines = isOneLine(sides) ? [`${one.kind}, ${other.kind} ${placeIn(one)}`] : sides.map((side) => `${side.kind} ${placeIn(side)}`);
-    const button = element("button", { type: "button" }, element("strong", {}, race.thing), ...lines.map((line) => element("span", {}, line)),
+    const line = isOneLine(sides) ? `${one.kind}, ${other.kind} ${placeIn(one)}` : sides.map((side) => `${side.kind} ${placeIn({ ...side, function: "" })}`).join(", ");
+    const button = element("button", { type: "button" }, element("strong", {}, race.thing), element("span", {}, line),
       element("span", { className: "quiet" }, `${race.isPossible ? "possible; " : ""}${one.task}, ${other.task}; ${timesOf(race)}${where}`));
     button.dataset.race = place;
     button.setAttribute("aria-pressed", "false");
@@ -131,9 +131,9 @@ const Racing = (Base) => class extends Base {
   /** Writes what the page shows over it, and into its title. */
   nameTrace() {
     const { program, trace } = this, races = this.racesInWords(), isRacy = this.races.length > 0;
-    const tenant = trace?.header?.tenant, name = program !== "" ? program : this.name !== "" ? this.name : "";
-    const said = `${races.slice(0, 1).toUpperCase()}${races.slice(1)}`, where = name === "" ? "" : `${races === "" ? "Trace of" : " in"} ${name}`;
-    const title = races === "" && where === "" ? tenant === undefined ? "Picture of a trace" : `Trace of ${tenant}` : `${said}${where}`;
+    const tenant = trace?.header?.tenant, name = clipped(program || this.name, MOST_TITLE);
+    const where = name === "" ? "" : ` ${isRacy ? "in" : "of"} ${name}`, plain = tenant === undefined ? "Picture of a trace" : `Trace of ${tenant}`;
+    const title = races !== "" ? `${races}${where}` : name === "" ? plain : `Trace of ${name}`;
     at("title").textContent = title;
     at("title").title = title;
     at("title").classList.toggle("racy", isRacy);
