@@ -11,7 +11,7 @@ const FLAGS = ["--headless=new", "--remote-debugging-pipe", "--no-first-run", "-
   "--force-color-profile=srgb"];
 
 // Beside other work a page may wait for minutes until it draws.
-const MOST_WAITING = 240000;
+const MOST_WAITING = Number(process.env.MOST_WAITING ?? 240000);
 
 /** What the promise gives, unless it takes too long. */
 function inTime(what, promise) {

@@ -54,7 +54,7 @@ export async function opening(tab) {
   assert.match(await notice(tab), /^cut\.export: no 4 1\. Line 4 is faulty, reason 1: The line is no JSON /);
   assert.equal(await tab.run(() => page.isShown), false);
   await tab.drop(file("dropped.export", exportOf(WITH_LOCK)), 400, 400);
-  await tab.until(() => document.getElementById("notice").textContent.startsWith("dropped.export: 9 events"));
+  await tab.until(() => document.getElementById("told").textContent.startsWith("dropped.export: 9 events"));
   assert.deepEqual(await tab.run(() => [page.isShown, page.verdict]), [true, "yes 9"]);
 }
 

@@ -1,5 +1,7 @@
 // Reading an export
 
+const MOST_KEPT_BYTES = 1 << 25;
+const KEYS = ["event", "kind", "name", "preds", "stamp", "task"];
 const HEADER_KEYS = ["events", "messages", "tasks", "tenant", "version"], MOST = [16384, 16384, 2048], VERSION = 2;
 const NAME = /^[A-Za-z0-9_]{1,24}$/;
 const STARTED = "start process ";

@@ -39,13 +39,14 @@ const Filtering = (Base) => class extends Base {
 
   /** Gives each task of a fold a lane of its own. */
   openFold(key) {
-    const before = this.view.layout;
+    const { view } = this, { left, top, scale, high } = view;
     if (key.startsWith("process ")) this.folded.delete(key.slice("process ".length));
     else this.openedFolds.add(key);
     this.closedFolds.delete(key);
     this.listFolds();
     this.useLayout(true);
-    if (this.view.chosen === 0 && before.height < this.view.layout.height) this.view.keepInside();
+    Object.assign(view, { left, top, scale, high: Math.max(high, LEAST_LANE) });
+    view.keepInside();
   }
 
   closeFold(key) {

@@ -1,29 +1,10 @@
 // Reading JSON from bytes
 
-const MOST_BYTES = 65536, MOST_EVENTS = 16384, MOST_JSON_LEVELS = 127, MOST_STAMP_LEVELS = 2048;
-const KINDS = ["local", "spawn", "send", "recv", "end", "join"];
-const [LOCAL, SPAWN, SEND, RECV, END, JOIN] = KINDS.keys();
-const REASONS = ["",
-  "The line is no JSON of at most 127 levels, or it has more than 65536 bytes.",
-  "The line is no object with exactly the keys and values of an event, or of a header in line 1.",
-  "The number of the event is not that of the line, the header not counted, or is above 16384.",
-  "The predecessors do not increase, or one of them is no earlier event.",
-  "The stamp is no text of a stamp: its shape is wrong, it is not normal, or it is too large.",
-  "The trees of this event and of an earlier one do not compare as the predecessors say."];
 const NOT_WHOLE = Symbol("a number that is not whole, or beyond 64 bits");
 const OTHER = Symbol("true, false or null");
 const NO_JSON = Symbol("no JSON"), NO_STAMP = Symbol("no stamp"), TOO_WIDE = Symbol("a sum beyond the exact numbers");
-const MOST_KEPT_BYTES = 1 << 25;
 const isDigit = (byte) => byte >= 48 && byte <= 57;
 const utf8 = new TextDecoder("utf-8", { fatal: true, ignoreBOM: true });
-
-/** A line is faulty, for this reason. */
-class Fault {
-  constructor(line, reason) {
-    this.line = line;
-    this.reason = reason;
-  }
-}
 
 /** A text of JSON: where it stands between its quotes, or what it says where that is another thing. */
 class Text {

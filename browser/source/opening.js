@@ -146,13 +146,13 @@ const Opening = (Base) => class extends Base {
       this.reach();
       return;
     }
-    const filter = this.filter();
+    const filter = this.filter(), wasWhole = view.layout !== null && view.isWhole;
     filter.lanes = this.beside.lanes();
     view.layout = this.layoutFor(axis, filter);
     this.beside.useLayout(axis);
     this.tellHidden(filter);
     this.listFamilies();
-    if (!keepsPlace) view.whole();
+    if (!keepsPlace || wasWhole) view.whole();
     else if (view.chosen > 0) view.show(view.chosen, false);
     view.keepInside();
     view.ask();

@@ -124,5 +124,3 @@ function stampBetween(bytes, from, to) {
   }
   return null;
 }
-
-const KEYS = ["event", "kind", "name", "preds", "stamp", "task"];
