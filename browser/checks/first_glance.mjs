@@ -2,7 +2,7 @@
 import assert from "node:assert/strict";
 import { exportOf, file, pictureOf } from "./program.mjs";
 import { race, rows, side } from "./racing.mjs";
-import { opened, press, text } from "./tab.mjs";
+import { opened, press, shown, text } from "./tab.mjs";
 import { LOST_UPDATE } from "./traces.mjs";
 
 const head = (races, unseen = []) => ({ races, possible: 0, unseen });
@@ -47,7 +47,7 @@ const inView = () => {
  * source. The others are folded by the line that started them. */
 export async function manyTasks(tab) {
   for (const tasks of [200, 2000]) {
-    await opened(tab, pictureOfAlike(`alike_${tasks}.html`, alike(tasks), ["--program", "server.py"]));
+    await shown(tab, pictureOfAlike(`alike_${tasks}.html`, alike(tasks), ["--program", "server.py"]));
     await tab.until(() => page.view.chosen > 0);
     assert.deepEqual(await tab.run(inView), { all: true, isNear: true, folds: [`handle × ${tasks - 2}`], race: true, own: true });
     assert.deepEqual([await text(tab, "#title"), await text(tab, "#reason")], ["1 race in server.py", "Nothing orders them."]);
@@ -119,10 +119,10 @@ export async function words(tab) {
   const races = [race("stock['left']", [side(4, "alice", "read", 11), side(7, "bob", "write", 12)])];
   const journal = file("words.journal", rows(TOUCHES)), list = file("words.races", rows(races));
   await opened(tab, pictureOf("words.html", exportOf(LOST_UPDATE), ["--labels", journal, "--races", list]));
-  const shown = () => tab.run(() => [2, 4, 5, 7].map((event) => [page.labelInPicture(event), page.isOwn(event), page.view.isSmall(event)]));
-  assert.deepEqual(await shown(), [["", true, true], ["read stock['left']", false, false], ["", true, true], ["write stock['left']", false, false]]);
+  const told = () => tab.run(() => [2, 4, 5, 7].map((event) => [page.labelInPicture(event), page.isOwn(event), page.view.isSmall(event)]));
+  assert.deepEqual(await told(), [["", true, true], ["read stock['left']", false, false], ["", true, true], ["write stock['left']", false, false]]);
   await opened(tab, pictureOf("words.html", exportOf(LOST_UPDATE), ["--labels", journal]));
-  assert.deepEqual(await shown(), [["", true, true], ["read stock['left'] +2", false, false], ["", true, true], ["replace an entry of stock", false, false]]);
+  assert.deepEqual(await told(), [["", true, true], ["read stock['left'] +2", false, false], ["", true, true], ["replace an entry of stock", false, false]]);
   assert.deepEqual(await tab.run(() => page.eventTip(4)), ["look up in stock, shop.py:6", "make stock, shop.py:6", "read stock['left'], shop.py:6", "Event 4, alice: local"]);
   const lock = { ...ROW, event: 4, task: "root", kind: "send", label: "run loop" };
   await opened(tab, pictureOf("loop.html", exportOf(["spawn root a", "spawn root ended_tasks_1", "local a", "send root m1", "send root m2"]),

@@ -5,7 +5,7 @@ import { join } from "node:path";
 import { alike, pictureOfAlike } from "./first_glance.mjs";
 import { exportOf, file, pageOf, pictureOf, ran, TOP } from "./program.mjs";
 import { race, rows } from "./racing.mjs";
-import { opened, pause } from "./tab.mjs";
+import { opened, pause, shown } from "./tab.mjs";
 import { greatest, LOST_UPDATE, seeded, WITH_LOCK, WORKED } from "./traces.mjs";
 
 const DESK = ["desk", 1280, 800, {}], DARK = ["dark", 1280, 800, { isDark: true }], SMALL = ["small", 900, 600, {}];
@@ -16,7 +16,8 @@ async function shot(browser, path, hash, [, width, height, settings], target, be
   const tab = await browser.page(width, height, settings);
   const features = [{ name: "prefers-color-scheme", value: settings.isDark ? "dark" : "light" }];
   await tab.send("Emulation.setEmulatedMedia", { features });
-  await opened(tab, path, hash);
+  if (path.endsWith("empty_shot.html")) await opened(tab, path, hash);
+  else await shown(tab, path, hash);
   await before(tab);
   await pause(300);
   await tab.screenshot(target);

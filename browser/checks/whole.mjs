@@ -3,20 +3,20 @@ import assert from "node:assert/strict";
 import { exportOf, file, inWork, pictureOf } from "./program.mjs";
 import { alike, pictureOfAlike } from "./first_glance.mjs";
 import { race, rows, side } from "./racing.mjs";
-import { opened, placeOf, press, text } from "./tab.mjs";
+import { opened, placeOf, press, shown, text } from "./tab.mjs";
 import { LOST_UPDATE, WITH_LOCK } from "./traces.mjs";
 
 /** Whole is whole, also where there are more lanes than pixels: each event is in view, and what is drawn has a mark where it stands. The
  * map shows which part is in view, and moves it. */
 export async function whole(tab) {
-  await opened(tab, pictureOfAlike("whole.html", alike(2000)));
+  await shown(tab, pictureOfAlike("whole.html", alike(2000)));
   await tab.run(() => {
     document.getElementById("alike").click();
     page.chooseNothing();
     page.chooseNothing();
   });
   await press(tab, "#fit");
-  const shown = await tab.run(() => {
+  const drawn = await tab.run(() => {
     const { view, trace } = page, { layout } = view, faults = [];
     view.draw();
     for (let event = 1; event <= trace.events; event += 37) {
@@ -28,8 +28,8 @@ export async function whole(tab) {
     }
     return { faults, lanes: layout.lanes, height: view.high, dense: view.isDense, map: document.getElementById("map").hidden };
   });
-  assert.deepEqual([shown.faults, shown.lanes, shown.dense, shown.map], [[], 2001, true, true]);
-  assert.ok(shown.height < 1, `a lane is ${shown.height} high`);
+  assert.deepEqual([drawn.faults, drawn.lanes, drawn.dense, drawn.map], [[], 2001, true, true]);
+  assert.ok(drawn.height < 1, `a lane is ${drawn.height} high`);
   await tab.run(() => page.view.zoom(20));
   await tab.frame();
   assert.equal(await tab.run(() => document.getElementById("map").hidden), false);
@@ -57,7 +57,7 @@ const SYSTEM = PROCESSES.map((report, place) => ({ event: place + 1, task: repor
  * stands where its clock says, with a bar for when it was by the other clock, as the messages bound it. */
 export async function processes(tab) {
   await opened(tab, pictureOf("processes.html", exportOf(PROCESSES), ["--labels", file("processes.journal", rows(SYSTEM))]));
-  const shown = await tab.run(() => {
+  const found = await tab.run(() => {
     const { view } = page, texts = [];
     view.context.fillText = (words) => texts.push(words);
     view.draw();
@@ -66,9 +66,9 @@ export async function processes(tab) {
     return { texts, headings: headings.map(({ group }) => group), tops: names.map((name, place) => [name, tops[laneOf[place]]]),
       colours: [...Array(view.layout.lanes).keys()].map((lane) => view.colourOfLane(lane)), checked: document.getElementById("groups").checked };
   });
-  assert.deepEqual([shown.headings, shown.checked, new Set(shown.colours).size], [["root", "till", "store"], true, 3]);
-  for (const words of ["GET /stock", "200", "till: 1 task", "store: 1 task"]) assert.ok(shown.texts.includes(words), `${words} of ${shown.texts}`);
-  assert.ok(!shown.texts.some((words) => /another process/.test(words)), shown.texts.join());
+  assert.deepEqual([found.headings, found.checked, new Set(found.colours).size], [["root", "till", "store"], true, 3]);
+  for (const words of ["GET /stock", "200", "till: 1 task", "store: 1 task"]) assert.ok(found.texts.includes(words), `${words} of ${found.texts}`);
+  assert.ok(!found.texts.some((words) => /another process/.test(words)), found.texts.join());
   await tab.run(() => {
     const time = document.getElementById("time");
     time.value = "clock";

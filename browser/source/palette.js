@@ -21,7 +21,7 @@ function usePalette() {
 const colourOfProcess = (place) => palette.processes[place % palette.processes.length];
 
 const FAMILY = 'ui-monospace, "DejaVu Sans Mono", Menlo, monospace', FONT_SIZE = 12, FONT = `${FONT_SIZE}px ${FAMILY}`;
-const MOST_MARKS = 600, MOST_EDGES = 500, MOST_PASSING = 100, FEW_EDGES = 90;
+const MOST_MARKS = 600, MOST_SMALL = 6000, MOST_EDGES = 500, MOST_PASSING = 100, FEW_EDGES = 90;
 const MOST_NUMBERS = 260, MOST_LABELS = 400, MOST_REACHED = 120;
 const MOST_LINES = 12;
 const GREATEST_SCALE = 110, LANE = 64, LEAST_LANE = 22, GREATEST_LANE = 96, ROOM = 46, MARGIN = 8;

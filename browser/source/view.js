@@ -42,7 +42,7 @@ class View extends Measuring(Crowding(Banding(Labelling(Drawing(Looking(Moving(O
     if (this.layout === null) return;
     this.findRange();
     const count = this.count = this.findMarks();
-    this.isNear = count <= MOST_MARKS && this.scale >= NEAR_LANE && this.high >= NEAR_LANE;
+    this.isNear = count <= MOST_SMALL && this.countLarge(count) <= MOST_MARKS && this.scale >= NEAR_LANE && this.high >= NEAR_LANE;
     this.findEdges();
     this.labels.clear();
     this.drawHeadings();
