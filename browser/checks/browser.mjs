@@ -11,7 +11,7 @@ const FLAGS = ["--headless=new", "--remote-debugging-pipe", "--no-first-run", "-
   "--force-color-profile=srgb"];
 
 // Beside other work a page may wait for minutes until it draws.
-const MOST_WAITING = 240000;
+const MOST_WAITING = Number(process.env.MOST_WAITING ?? 240000);
 
 /** What the promise gives, unless it takes too long. */
 function inTime(what, promise) {
@@ -183,9 +183,9 @@ class Page {
   }
 
   async key(key, modifiers = 0) {
-    const code = { Tab: 9, Enter: 13, Escape: 27, ArrowLeft: 37, ArrowUp: 38, ArrowRight: 39, ArrowDown: 40 }[key];
+    const isLetter = key.length === 1, code = isLetter ? key.toUpperCase().charCodeAt(0) : { Tab: 9, Enter: 13, Escape: 27, ArrowLeft: 37, ArrowUp: 38, ArrowRight: 39, ArrowDown: 40 }[key];
     for (const type of ["keyDown", "keyUp"]) {
-      const text = key === "Enter" && type === "keyDown" ? "\r" : undefined;
+      const text = type !== "keyDown" ? undefined : isLetter ? key : key === "Enter" ? "\r" : undefined;
       await this.send("Input.dispatchKeyEvent", { type, key, code: key, windowsVirtualKeyCode: code, modifiers, text });
     }
     await this.frame();

@@ -2,6 +2,7 @@
 import { clocks } from "./clocks.mjs";
 import { beside } from "./comparing.mjs";
 import { filters } from "./filtering.mjs";
+import { firstRace, manyTasks, words } from "./first_glance.mjs";
 import { hostileFiles } from "./hostile.mjs";
 import { looks } from "./looks.mjs";
 import { hostileText, names, opening, spoilt, spoiltPictures, versions } from "./opening.mjs";
@@ -11,12 +12,14 @@ import { why } from "./reasons.mjs";
 import { svg } from "./saving.mjs";
 import { broadcasts, busyTrace, lanes, shapes, topic, workedExport } from "./showing.mjs";
 import { size } from "./size.mjs";
+import { ends as breaks, keys, parts, processes, whole } from "./whole.mjs";
 import { address, keyboard, labels, listsAndSearch, moving, tips } from "./using.mjs";
 
 export const CHECKS = { "worked export": workedExport, shapes, "500 events": busyTrace, topic, broadcasts, lanes, "spoilt exports": spoilt,
   opening, versions, "spoilt pictures": spoiltPictures, names, "hostile text": hostileText, "lists and search": listsAndSearch, labels, keyboard,
   address, moving, tips, races, "hostile races": hostileRaces, "hostile files": hostileFiles, ends, why, filters, stamps,
   "spoilt stamps": spoiltStamps, worker, "big pages": bigPages, svg, beside, clocks, looks,
+  "first race": firstRace, "many tasks": manyTasks, words, whole, processes, keys, parts, breaks,
   "unjoined tasks": unjoinedTasks, "16384 events": size };
 
 // What takes longest, and is begun first.

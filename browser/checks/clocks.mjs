@@ -30,22 +30,31 @@ async function oneClock(tab) {
   assert.ok(shown.some(([term, value]) => term === "wall clock" && value === "2026-11-27 16:53:20.500012 UTC"), shown.join());
   await tab.hover(...await placeOf(tab, 3));
   assert.match(await text(tab, "#tip"), /2026-11-27 16:53:20\.500012 UTC$/);
-  const written = (hidden) => tab.run((hiddenWords) => {
-    const { view } = page, lines = new Map();
-    view.hiddenWords = hiddenWords;
-    view.context.fillText = (words, x, y) => lines.set(words, view.height - y);
-    view.draw();
-    delete view.context.fillText;
-    return [...lines].filter(([words]) => words.startsWith("wall clock") || words === hiddenWords);
-  }, hidden);
-  assert.deepEqual(await written(""), [["wall clock 16:53:20.250 to 16:53:22.000 UTC", 8]]);
-  const many = `hidden: ${"9".repeat(200)} events`;
-  assert.deepEqual(await written(many), [[many, 8], ["wall clock 16:53:20.250 to 16:53:22.000 UTC", 22]]);
+  await rulerIsRight(tab);
   await tab.click(...await placeOf(tab, 5));
   await tab.click(...await placeOf(tab, 6), SHIFT);
   assert.deepEqual([await text(tab, "#words"), await text(tab, "#apart")],
     ["Event 5 happened before event 6.", "By the clock event 6 was 50 ms before event 5. Clocks order nothing."]);
   assert.deepEqual(await tab.run(() => [3, 4, 5, 6].map((event) => page.view.layout.times[event])), [3, 3, 4, 5]);
+}
+
+/** Above the lanes stand two rulers, and nothing else does: steps, and the times of the events that stand there. */
+async function rulerIsRight(tab) {
+  const { texts, places, head } = await tab.run(() => {
+    const { view } = page, found = [];
+    view.whole();
+    view.context.fillText = (words, x, y) => found.push([words, Math.round(x), y]);
+    view.draw();
+    delete view.context.fillText;
+    return { texts: found.filter(([, , y]) => y <= view.head), head: view.head,
+      places: [1, 2, 3, 4, 5, 6, 7, 8].map((event) => Math.round(view.x(view.layout.times[event]))) };
+  });
+  const [steps, times] = [texts.filter(([, , y]) => y < head / 2), texts.filter(([, , y]) => y > head / 2)];
+  assert.deepEqual([steps[0][0], times[0][0]], ["step", "clock"]);
+const due = [1, 2, 3, 5, 6, 8].map((event, place) => `${place + 1} ${places[event - 1]}`), told = steps.slice(1).map(([words, x]) => `${words} ${x - 3}`);
+  assert.ok(told.length > 2 && told.every((tick) => due.includes(tick)), `${told} of ${due}`);
+  assert.ok(times.some(([words, x]) => words === "16:53:20.250" && x === places[0] + 3), times.join());
+  assert.ok(texts.every(([, x], place) => texts.every(([words, other, y], at) => at <= place || y !== texts[place][2] || other >= x)), "in order");
 }
 
 // Two processes and their starts, and what they send to each other or not.

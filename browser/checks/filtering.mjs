@@ -27,7 +27,7 @@ const shown = (tab) => tab.run(() => {
 async function localEvents(tab) {
   await opened(tab, inWork("busy.html"));
   assert.equal(await text(tab, "#hidden"), "Nothing is hidden.");
-  await press(tab, "#filters summary");
+  await press(tab, "#filter");
   await press(tab, "#hidesLocal");
   const all = BUSY.map((_, place) => place + 1), isLocal = (event) => kindOf(BUSY[event - 1]) === "local";
   const { events, areWhole, hidden, inPicture } = await shown(tab), locals = all.filter(isLocal);
@@ -93,7 +93,7 @@ async function processes(tab) {
   await tab.run(() => document.querySelector('#folds input[data-group="till"]').click());
   assert.deepEqual(await lanes(), ["0 root", "1 helper", "1 till", "1 till_1", "2 stock", "3 stock_1"]);
   assert.deepEqual(await tab.run(() => [...page.view.layout.eventsIn[1]].sort((one, other) => one - other)), [3, 4, 6, 9, 10, 11]);
-  assert.equal(await tab.run(() => page.view.layout.names[page.view.layout.tasksIn[1][0]]), "till: 3 tasks folded");
+  assert.equal(await tab.run(() => page.view.layout.names[page.view.layout.tasksIn[1][0]]), "till: 3 tasks");
   assert.equal(await text(tab, "#hidden"), "Nothing is hidden.");
   await tab.run(() => page.openBytes(new TextEncoder().encode(""), "none"));
   assert.deepEqual(await tab.run(() => [page.isFiltered(), document.querySelectorAll("#folds li").length]), [false, 0]);

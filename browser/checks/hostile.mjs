@@ -1,7 +1,7 @@
 // The checks of journals, races and files that somebody made to do harm. Nothing in them runs, is asked for, or holds the page up.
 import assert from "node:assert/strict";
-import { exportOf, file, pictureOf } from "./program.mjs";
-import { pictureOfRaces, race, rows, side } from "./racing.mjs";
+import { exportOf, file, pageOf, pictureOf } from "./program.mjs";
+import { race, rows, side } from "./racing.mjs";
 import { chosen, notice, opened, picked, text } from "./tab.mjs";
 import { LOST_UPDATE, WORKED } from "./traces.mjs";
 
@@ -22,7 +22,7 @@ async function processorSeconds(tab, act) {
 }
 
 const openedWith = async (tab, name, reports, journal) => {
-  await opened(tab, pictureOf(`${name}.html`, exportOf(reports), ["--labels", file(`${name}.journal`, journal)]));
+  await opened(tab, pageOf(`${name}.html`, exportOf(reports), { labels: journal }));
   await tab.until(() => page.labels.size > 0);
 };
 
@@ -89,14 +89,15 @@ async function manyClocks(tab) {
 async function manyRaces(tab) {
   const odd = race("odd", [{ ...side(4, "alice", "read", HUGE), begin: -HUGE }, side(4, "alice", "read", -1)], { times: -HUGE });
   const last = race("last", [side(5, "alice", "write", 12), side(8, "bob", "write", 12)]), first = race("stock", [side(4, "alice", "read", 11), side(7, "bob", "write", 12)]);
-  const path = pictureOfRaces("many_races", LOST_UPDATE, [odd, ...Array(RACES - 2).fill(first), last]);
+  const path = pageOf("many_races.html", exportOf(LOST_UPDATE), { carriedRaces: rows([odd, ...Array(RACES - 2).fill(first), last]) });
   await opened(tab, path, "#event=8&other=5");
   await tab.until((count) => page.races.length === count, RACES);
   const listed = await tab.run(() => document.querySelectorAll("#races li").length);
-  assert.deepEqual([await text(tab, "#races h2"), listed, await text(tab, "#races > p")], [`${RACES} races`, 400, `and ${RACES - 400} more`]);
-  assert.deepEqual([await chosen(tab), await text(tab, "#chosen p")], ["Events 8 and 5", "Race on last, once: nothing orders them."]);
+  assert.deepEqual([await text(tab, "#races h2"), listed, await text(tab, "#allRaces > p")],
+    [`${RACES} races`, 400, `and ${RACES - 400} more, by Next and Search`]);
+  assert.deepEqual([await chosen(tab), await text(tab, "#reason")], ["Race on last", "Nothing orders them."]);
   await tab.run(() => page.chooseRace(0));
-  assert.deepEqual([await chosen(tab), await text(tab, "#words")], ["Events 4 and 4", "Both are event 4."]);
+  assert.deepEqual([await chosen(tab), await text(tab, "#words")], ["Race on odd", "Both are event 4."]);
   await tab.run(() => page.view.draw());
 }
 
@@ -112,7 +113,8 @@ async function emptyFiles(tab) {
   await picked(tab, none);
   assert.match(await notice(tab), /^none: no 1 2\./);
   await picked(tab, empty);
-  assert.match(await notice(tab), /^empty: 0 events, .* Checked: yes 0\.$/);
+  assert.equal(await notice(tab), "empty: the export has no event, so nothing is drawn.");
+  assert.equal(await text(tab, "#invitation"), "Nothing is drawn: the export has no event.");
 }
 
 export async function hostileFiles(tab) {

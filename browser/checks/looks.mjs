@@ -67,7 +67,7 @@ async function narrow(tab) {
       const box = (part) => part.getBoundingClientRect(), isIn = ({ left, right, top, bottom }) =>
         left >= 0 && right <= innerWidth + 0.5 && top >= 0 && bottom <= innerHeight + 0.5;
       const controls = [...document.querySelectorAll("header button, header select, header .open, header #search")].filter((part) =>
-        part.offsetParent !== null && part.closest("#filters > div") === null);
+        part.offsetParent !== null);
       const outside = controls.filter((part) => !isIn(box(part))).map((part) => part.id || part.textContent);
       const aside = document.querySelector("aside"), high = box(document.getElementById("stage")).height;
       const isWide = (part) => part.scrollWidth > part.clientWidth + 1;

@@ -54,18 +54,16 @@ export async function opening(tab) {
   assert.match(await notice(tab), /^cut\.export: no 4 1\. Line 4 is faulty, reason 1: The line is no JSON /);
   assert.equal(await tab.run(() => page.isShown), false);
   await tab.drop(file("dropped.export", exportOf(WITH_LOCK)), 400, 400);
-  await tab.until(() => document.getElementById("notice").textContent.startsWith("dropped.export: 9 events"));
+  await tab.until(() => document.getElementById("told").textContent.startsWith("dropped.export: 9 events"));
   assert.deepEqual(await tab.run(() => [page.isShown, page.verdict]), [true, "yes 9"]);
 }
 
-/** Both versions are drawn, and a header alone is taken. A header tells whose trace it is, and under which limits. */
+/** Both versions are drawn. A header tells whose trace it is, and under which limits. */
 export async function versions(tab) {
   const whole = exportOf(LOST_UPDATE), behind = whole.indexOf(10) + 1;
   const limits = "Limits: 16384 events, 2048 tasks, 16384 messages.";
   const counts = "11 events, 3 tasks, 0 messages, 12 edges. Checked: yes 11.";
-  const none = "0 events, 0 tasks, 0 messages, 0 edges. Checked: yes 0.";
-  const cases = [[whole, counts, "Tenant x", limits], [whole.subarray(behind), counts, "Marks", ""],
-    [whole.subarray(0, behind), none, "Tenant x", limits]];
+  const cases = [[whole, counts, "Tenant x", limits], [whole.subarray(behind), counts, "", ""]];
   for (const [bytes, told, ...about] of cases) {
     await opened(tab, pictureOf("version.html", bytes));
     assert.equal(await notice(tab), told);
@@ -83,9 +81,37 @@ export function spoiltPictures() {
   for (const [input, line, reason] of cases) {
     const { status, stdout, stderr } = pictureRun(input);
     const told = `picture: no export: line ${line}, reason ${reason}: ${words.get(reason)}\n`;
-    assert.deepEqual([status, stdout.length, stderr.toString()], [1, 0, told]);
+    assert.deepEqual([status, stdout.length, stderr.toString()], [2, 0, told]);
   }
+  refusals(lost);
   assert.deepEqual(pictureRun(lost).stdout, pictureRun(lost).stdout, "the same export gives the same page");
+}
+
+/** An export without an event, and a journal or a list of races that is empty or broken, are refused in a line, and nothing is written. */
+function refusals(lost) {
+  const row = (event) => JSON.stringify({ event, task: "alice", thing: null, kind: "local", file: null, line: 0, label: "x" });
+  const side = (event) => ({ event, task: "alice", kind: "read", file: "a.py", line: 1, function: "f", begin: 1, text: [] });
+  const race = (more) => JSON.stringify({ thing: "x", made: "", possible: false, why: "y", times: 1, sides: [side(4), side(7)], ...more });
+  const head = (races) => JSON.stringify({ races, possible: 0, unseen: [] });
+  const journals = [["", "is empty"], ["\n \n", "is empty"], [row(4), "line 1 breaks off"], [`${row(4)}\n${row(5).slice(0, 20)}`, "line 2 breaks off"],
+    [`${row(4)}\n{]\n`, "line 2 is no line of a journal"], [`${row(12)}\n`, "of a journal of 11 events"], [`${row(0)}\n`, "line 1"], [`${row("4")}\n`, "line 1"],
+    [`${row(true)}\n`, "line 1"], ['{"x":1}\n', "line 1"], ["[]\n", "line 1"], [lost, "line 1"], ["[".repeat(100000) + "\n", "line 1"], ["\u0000\n", "line 1"]];
+  const races = [["", "is empty"], [race({}), "line 1 breaks off"], [`${head(1)}\n`, "it has 0 of 1 races"], [`${head(1)}\n${race({})}\n${race({})}\n`, "it has 2 of 1"],
+    [`${race({ times: "1" })}\n`, "line 1 is no race"], [`${race({ sides: [side(4)] })}\n`, "line 1"], [`${race({ sides: [side(4), side(12)] })}\n`, "line 1"],
+    [`${race({ sides: [side(4), { ...side(7), part: 2 }] })}\n`, "line 1"], [`${head(0)}\n{}\n`, "line 2"], ["null\n", "line 1"]];
+  const cases = [...["", lost.split("\n")[0] + "\n"].map((bytes) => [bytes, [], "the export has no event"]),
+    ...journals.map(([text, told], place) => [lost, ["--labels", file(`refused_${place}.journal`, text)], told]),
+    ...races.map(([text, told], place) => [lost, ["--races", file(`refused_${place}.races`, text)], told]),
+    [lost, ["--labels", "/nothing/there"], "cannot be read"], ["", ["--parts", file("no.parts", "")], "it lists no parts"]];
+  for (const [bytes, words, told] of cases) {
+    const { status, stdout, stderr } = pictureRun(bytes, words);
+    assert.deepEqual([status, stdout.length], [2, 0], `${words} ${told}: ${stderr}`);
+    assert.match(stderr.toString(), /^picture: [^\n]*\n$/);
+    assert.ok(stderr.toString().includes(told), `${told}: ${stderr}`);
+  }
+  for (const [text, words] of [[`${row(4)}\n{"end":true}\n`, "--labels"], [`${head(0)}\n`, "--races"], [`${head(1)}\n${race({})}\n`, "--races"]]) {
+    assert.equal(pictureRun(lost, [words, file("taken", text)]).status, 0, text);
+  }
 }
 
 /** Words that mean something elsewhere are names. */

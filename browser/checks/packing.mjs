@@ -2,7 +2,7 @@
 import assert from "node:assert/strict";
 import { readFileSync } from "node:fs";
 import { gzipSync } from "node:zlib";
-import { exportOf, file, pictureOf, verdictOf } from "./program.mjs";
+import { exportOf, file, pictureOf, TEMPLATE, verdictOf } from "./program.mjs";
 import { notice, opened, pause, picked } from "./tab.mjs";
 import { BUSY, greatest, seeded, unjoined, WORKED } from "./traces.mjs";
 
@@ -51,7 +51,7 @@ export async function worker(tab) {
   const stamp = /"stamp":"([^"]*)"/, last = lines.length - 2;
   const wrong = [...lines.slice(0, last), lines[last].replace(stamp, () => lines[last - 1].match(stamp)[0]), ""].join("\n");
   for (const [name, bytes] of [["right", right], ["wrong", Buffer.from(wrong)]]) {
-    await tab.open(file("nothing.html", readFileSync(pictureOf("empty.html", ""))));
+    await tab.open(TEMPLATE);
     await tab.pick("#file", file(`${name}.export`, bytes));
     await tab.until(() => page.isShown === true && page.worker !== null);
     const meanwhile = await tab.run(() => {
@@ -73,7 +73,7 @@ export async function worker(tab) {
   }, right.toString("base64"));
   await pause(300);
   assert.ok(left, "the worker of an export that is left is ended");
-  assert.equal(await notice(tab), "small: 0 events, 0 tasks, 0 messages, 0 edges. Checked: yes 0.");
+  assert.equal(await notice(tab), "small: the export has no event, so nothing is drawn.");
   const slow = await tab.run((base64) => {
     self.Worker = undefined;
     page.open(bytesOf(base64), "slices");

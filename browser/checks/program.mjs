@@ -1,10 +1,11 @@
 // The program, asked as from a shell, and files made with it in a folder that is gone afterwards.
 import assert from "node:assert/strict";
 import { spawnSync } from "node:child_process";
-import { mkdtempSync, rmSync, writeFileSync } from "node:fs";
+import { mkdtempSync, readFileSync, rmSync, writeFileSync } from "node:fs";
 import { tmpdir } from "node:os";
 import { dirname, join } from "node:path";
 import { fileURLToPath } from "node:url";
+import { gzipSync } from "node:zlib";
 
 export const TOP = dirname(dirname(dirname(fileURLToPath(import.meta.url))));
 export const TEMPLATE = join(TOP, "browser/picture.html");
@@ -66,4 +67,10 @@ export function sentences() {
 
 export const pictureOf = (name, bytes, words = []) => file(name, ran(PICTURE, words, bytes));
 
-export const pictureRun = (bytes) => run(PICTURE, [], bytes);
+export const pictureRun = (bytes, words = []) => run(PICTURE, words, bytes);
+
+/** A page with these bytes in it, as somebody may make one: `picture` would refuse some of them. */
+export function pageOf(name, bytes, carried = {}) {
+  const fill = (page, [id, content]) => page.replace(`id="${id}">`, () => `id="${id}">${gzipSync(Buffer.from(content)).toString("base64")}`);
+  return file(name, Object.entries({ export: bytes, ...carried }).reduce(fill, readFileSync(TEMPLATE, "utf8")));
+}

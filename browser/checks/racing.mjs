@@ -1,6 +1,6 @@
 // The checks of the panel of races: from a list of races to the two events and their lines of source.
 import assert from "node:assert/strict";
-import { exportOf, file, pictureOf } from "./program.mjs";
+import { exportOf, file, pageOf, pictureOf } from "./program.mjs";
 import { chosen, opened, press, text } from "./tab.mjs";
 import { LOST_UPDATE, WITH_LOCK } from "./traces.mjs";
 
@@ -28,29 +28,33 @@ export async function races(tab) {
   assert.equal(await text(tab, "#races h2"), "1 race, 1 possible race");
   const listed = await tab.run(() => [...document.querySelectorAll("#races li button")].map((button) =>
     [...button.children].map((part) => part.textContent)));
-  assert.deepEqual(listed, [["stock (a Shop made at shop.py:3)", "read shop.py:11 in buy: alice, event\u00a04",
-    "write shop.py:12 in buy: bob, event\u00a07", "3 times; nothing orders them"], ["price", "write shop.py:12 in buy: alice, event\u00a06",
-    "write shop.py:12 in buy: bob, event\u00a07", "possible; once; the hand-over of a lock"]]);
+  assert.deepEqual(listed, [["stock", "read shop.py:11, write shop.py:12", "alice, bob; 3 times"],
+    ["price", "write, write shop.py:12 in buy", "possible; alice, bob; once"]]);
+  await press(tab, "#races li:nth-child(2) button");
   await press(tab, "#races li:nth-child(1) button");
-  assert.equal(await chosen(tab), "Events 4 and 7");
-  assert.equal(await text(tab, "#chosen p"), "Race on stock, 3 times: nothing orders them.");
+  assert.deepEqual([await chosen(tab), await text(tab, "#reason")], ["Race on stock", "Nothing orders them."]);
+  const sides = await tab.run(() => [...document.querySelectorAll("#sides button")].map((button) => button.textContent));
+  assert.deepEqual(sides, ["alice reads shop.py:11 in buy: event\u00a04", "bob writes shop.py:12 in buy: event\u00a07"]);
+  assert.match(await text(tab, "#chosen"), /a Shop made at shop\.py:3; 3 times/);
   assert.equal(await tab.run(() => location.hash), "#event=4&other=7");
   const sources = await tab.run(() => [...document.querySelectorAll("#chosen figure")].map((figure) =>
     [figure.firstChild.textContent, figure.lastChild.textContent, figure.querySelector("strong").textContent]));
   const shown = (line) => SOURCE.map((text, place) => `${10 + place === line ? ">" : " "} ${10 + place}  ${text}\n`).join("");
-  assert.deepEqual(sources, [["Event 4, alice: read at /home/ann/shop.py:11", shown(11), "> 11      left = shop.stock"],
-    ["Event 7, bob: write at /home/ann/shop.py:12", shown(12), "> 12      shop.stock = left - 1"]]);
+  assert.deepEqual(sources, [["alice: read at /home/ann/shop.py:11", shown(11), "> 11      left = shop.stock"],
+    ["bob: write at /home/ann/shop.py:12", shown(12), "> 12      shop.stock = left - 1"]]);
   await pairIsMarked(tab, [4, 7]);
   await press(tab, "#fit");
   await pairIsMarked(tab, [4, 7]);
   assert.deepEqual(await pressed(tab), ["true", "false"]);
   await press(tab, "#races li:nth-child(2) button");
-  assert.deepEqual([await chosen(tab), ...await pressed(tab)], ["Events 6 and 7", "false", "true"]);
+  assert.deepEqual([await chosen(tab), ...await pressed(tab)], ["Possible race on price", "false", "true"]);
+  const once = await tab.run(() => [...document.querySelectorAll("#chosen figcaption")].map((words) => words.textContent));
+  assert.deepEqual(once, ["alice: write, bob: write at /home/ann/shop.py:12"], "both touches of one line have it once");
   await opened(tab, pictureOfRaces("races", LOST_UPDATE, RACES), "#event=7&other=4");
-  assert.deepEqual([await chosen(tab), ...await pressed(tab)], ["Events 7 and 4", "true", "false"]);
+  assert.deepEqual([await chosen(tab), ...await pressed(tab)], ["Race on stock", "true", "false"]);
   await tab.key("Escape");
   assert.deepEqual([await chosen(tab), ...await pressed(tab)], ["Event 7", "false", "false"]);
-  assert.ok((await tab.spokenButtons()).some((name) => name.startsWith("stock (a Shop made at shop.py:3) read shop.py:11 in buy: alice")));
+  assert.ok((await tab.spokenButtons()).some((name) => name.startsWith("stock read shop.py:11, write shop.py:12 alice, bob")));
 }
 
 const pressed = (tab) => tab.run(() =>
@@ -84,15 +88,14 @@ export async function hostileRaces(tab) {
   const others = [{ event: 12 }, { event: 0 }, { event: 1.5 }, { text: [1] }, { text: Array(41).fill("") }].map((more) => ({ ...evil, ...more }));
   const wrong = [...[null, ...others].map((other) => ({ ...right, sides: [evil, other] })), { ...right, sides: [evil] },
     { ...right, times: "1" }, { ...right, thing: null }, [], null, 1, "x"];
-  const path = pictureOfRaces("hostile_races", LOST_UPDATE, [...wrong, right]);
+  const path = pageOf("hostile_races.html", exportOf(LOST_UPDATE), { carriedRaces: rows([...wrong, right]) });
   await opened(tab, path);
   assert.equal(await tab.run(() => page.races.length), 1);
-  await press(tab, "#races li button");
-  assert.equal(await chosen(tab), "Events 4 and 7");
-  assert.ok((await text(tab, "#races li strong")).startsWith(HOSTILE));
+  assert.equal(await chosen(tab), `Race on ${HOSTILE}`);
+  assert.equal(await text(tab, "#title"), `1 race in ${HOSTILE.slice(HOSTILE.lastIndexOf("/") + 1)}`);
   assert.ok((await text(tab, "#chosen figure pre")).includes(HOSTILE));
   assert.deepEqual(await tab.run(() => [document.querySelectorAll("img").length, window.wasRead ?? "nothing"]), [0, "nothing"]);
-  await opened(tab, pictureOf("spoilt_races.html", exportOf(LOST_UPDATE), ["--races", file("spoilt.races", '{"thing":\n\u0000\n')]));
+  await opened(tab, pageOf("spoilt_races.html", exportOf(LOST_UPDATE), { carriedRaces: '{"thing":\n\u0000\n' }));
   assert.deepEqual(await tab.run(() => [page.races.length, document.getElementById("races").hidden]), [0, true]);
 }
 

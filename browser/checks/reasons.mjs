@@ -32,15 +32,15 @@ function distance(events, earlier, later) {
 const nearest = (list, none) => list.length > 0 ? list[0] : none;
 
 function freedomOf(events, past, one, other) {
-  const told = [one, other].flatMap((event) => {
+  const both = past.get(one).filter((event) => past.get(other).includes(event));
+  const around = [one, other].flatMap((event) => {
     const { task } = events[event], all = [...events.keys()].slice(1);
     const isOwn = (at) => events[at].task === task && events[at].kind !== "local";
     const start = all.filter((at) => events[at].kind === "spawn" && events[at].name === task);
     return [nearest([...all.filter((at) => at <= event && isOwn(at)).reverse(), ...start], "nothing"),
       nearest(all.filter((at) => at >= event && isOwn(at)), "nothing more")];
   });
-  const both = past.get(one).filter((event) => past.get(other).includes(event));
-  return [...told, both.length > 0 ? Math.max(...both) : "nothing happened before both"].map(String);
+  return [both.length > 0 ? Math.max(...both) : "nothing happened before both", ...around].map(String);
 }
 
 /** What the page says of the edge between these two. */

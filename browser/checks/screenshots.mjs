@@ -1,23 +1,23 @@
-// The screenshots: those that are to be looked at before the page is handed on, and the pictures of docs/guide.md and README.md.
+// The screenshots: of ten traces, which are to be looked at before the page is handed on, and the pictures of docs/guide.md and README.md.
+// `browser/README.md` says what the first glance at each has to show.
 import { mkdirSync, readFileSync } from "node:fs";
 import { join } from "node:path";
-import { exportOf, file, inWork, pictureOf, TOP } from "./program.mjs";
+import { alike, pictureOfAlike } from "./first_glance.mjs";
+import { exportOf, file, pageOf, pictureOf, ran, TOP } from "./program.mjs";
 import { race, rows } from "./racing.mjs";
-import { opened, pause, press } from "./tab.mjs";
-import { LOST_UPDATE, seeded, shortTasks, WITH_LOCK, WORKED } from "./traces.mjs";
+import { opened, pause, shown } from "./tab.mjs";
+import { greatest, LOST_UPDATE, seeded, WITH_LOCK, WORKED } from "./traces.mjs";
 
-const SIZES = [["desk", 1280, 800, {}], ["dark", 1280, 800, { isDark: true }], ["phone", 390, 844, { ratio: 2, mobile: true }],
-  ["guide", 1000, 400, {}], ["readme", 1120, 720, {}]];
-const IN_GUIDE = ["lost_update", "lock"], EXAMPLE = "clients/python/examples/lost_update.py", AROUND = 2;
-const SHORT = shortTasks(seeded(2), 300, 8);
-const TRACES = [["worked", WORKED, "#event=5"], ["lost_update", LOST_UPDATE, "#event=6"], ["lock", WITH_LOCK, "#event=5"],
-  ["short_tasks", SHORT, ""], ["short_tasks_chosen", SHORT, "#event=900"]];
+const DESK = ["desk", 1280, 800, {}], DARK = ["dark", 1280, 800, { isDark: true }], SMALL = ["small", 900, 600, {}];
+const PHONE = ["phone", 390, 844, { ratio: 2, mobile: true }], GUIDE = ["guide", 1000, 400, {}], README = ["readme", 1120, 720, {}];
+const EXAMPLE = "clients/python/examples/lost_update.py", AROUND = 2, STORED = join(TOP, "browser/checks/stored");
 
 async function shot(browser, path, hash, [, width, height, settings], target, before = () => {}) {
   const tab = await browser.page(width, height, settings);
   const features = [{ name: "prefers-color-scheme", value: settings.isDark ? "dark" : "light" }];
   await tab.send("Emulation.setEmulatedMedia", { features });
-  await opened(tab, path, hash);
+  if (path.endsWith("empty_shot.html")) await opened(tab, path, hash);
+  else await shown(tab, path, hash);
   await before(tab);
   await pause(300);
   await tab.screenshot(target);
@@ -36,24 +36,67 @@ const RACES = [race("stock['left']", [touch(6, "alice", ...WRITE), touch(7, "bob
   race("stock['left']", [touch(4, "alice", ...READ), touch(7, "bob", ...WRITE)], { times: 2 })];
 const LABELS = [[4, "alice", ...READ], [5, "bob", ...READ], [6, "alice", ...WRITE], [7, "bob", ...WRITE]];
 
+const head = (count, unseen = []) => ({ races: count, possible: 0, unseen });
+
 /** The lost update with its races and labels, as `run` draws it. */
-function racing() {
+function guide(races = RACES, name = "guide") {
   const labels = LABELS.map(([event, task, kind, text]) =>
     ({ ...touch(event, task, kind, text), thing: "stock", label: `${kind} stock['left']` }));
-  const words = ["--labels", file("race.journal", rows(labels)), "--races", file("race.races", rows(RACES))];
-  return pictureOf("race_shot.html", exportOf(LOST_UPDATE), words);
+  const list = file(`${name}.races`, rows([head(races.length), ...races]));
+  return pictureOf(`${name}_shot.html`, exportOf(LOST_UPDATE), ["--labels", file(`${name}.journal`, rows(labels)), "--races", list,
+    "--program", "lost_update.py"]);
+}
+
+/** A trace that a run left in the folder of stored ones: its export, its journal and its races. */
+function stored(name, program) {
+  const path = join(STORED, name);
+  return pictureOf(`${name}_shot.html`, readFileSync(`${path}.export`), ["--labels", `${path}.journal`, "--races", `${path}.races`, "--program", program]);
+}
+
+/** A run in three parts, with a race in the first one, and one from there to the last. */
+function parts() {
+  const names = [LOST_UPDATE, WITH_LOCK, LOST_UPDATE].map((reports, place) => {
+    file(`shot.part-${place + 1}`, exportOf(reports));
+    file(`shot.part-${place + 1}.journal`, rows([{ event: 1, task: "root", thing: null, kind: "local", file: EXAMPLE, line: 1, label: "begin" }]));
+    return `shot.part-${place + 1}\n`;
+  });
+  const across = race("stock['left']", [touch(4, "alice", ...READ), { ...touch(6, "alice", ...WRITE), part: 3 }]);
+  const list = file("shot_parts.races", rows([head(2), RACES[0], across]));
+  return pictureOf("parts_shot.html", "", ["--parts", file("shot", names.join("")), "--races", list, "--program", "lost_update.py"]);
+}
+
+/** Each trace, what is chosen in it, in which sizes, and what is done first. */
+function traces() {
+  const many = (tasks) => pictureOfAlike(`tasks_${tasks}_shot.html`, alike(tasks), ["--program", "server.py"]);
+  const all = [DESK, DARK, SMALL];
+  return [["race", guide(), "", [...all, PHONE, README]], ["no_race", guide([], "none"), "", [DESK]], ["one_process", stored("shop", "shop.py"), "", all],
+    ["three_processes", stored("day", "system.toml"), "", all], ["tasks_200", many(200), "", all], ["tasks_2000", many(2000), "", [DESK, SMALL]],
+    ["events_16384", pictureOf("greatest_shot.html", exportOf(greatest(seeded(3)))), "", [DESK, DARK]], ["parts", parts(), "", [DESK]],
+    ["by_clock", stored("day", "system.toml"), "#time=clock", [DESK, DARK]],
+    ["search", guide(RACES, "search"), "", [DESK], (tab) => tab.run(() => {
+      document.getElementById("search").value = "nothing like it";
+      page.search("nothing like it");
+    })],
+    ["help", guide(RACES, "help"), "", [DESK], (tab) => tab.run(() => document.getElementById("help").showModal())],
+    ["empty", pageOf("empty_shot.html", exportOf([])), "", [DESK]],
+    ["worked", pictureOf("worked_shot.html", exportOf(WORKED)), "#event=5", [DESK, GUIDE]],
+    ["lost_update", pictureOf("lost_update_shot.html", exportOf(LOST_UPDATE)), "#event=6", [GUIDE]],
+    ["lock", pictureOf("lock_shot.html", exportOf(WITH_LOCK)), "#event=5", [GUIDE]]];
 }
 
 export async function screenshots(browser, folder) {
   mkdirSync(folder, { recursive: true });
-  const race = racing();
-  for (const size of SIZES) await shot(browser, race, "#event=6&other=7", size, join(folder, `race_${size[0]}.png`));
-  for (const [name, reports, hash] of TRACES) {
-    const path = pictureOf(`${name}_shot.html`, exportOf(reports));
-    const sizes = IN_GUIDE.includes(name) ? SIZES.slice(0, 4) : SIZES.slice(0, 3);
-    for (const size of sizes) await shot(browser, path, hash, size, join(folder, `${name}_${size[0]}.png`));
+  for (const [name, path, hash, sizes, before] of traces()) {
+    for (const size of sizes) await shot(browser, path, hash, size, join(folder, `${name}_${size[0]}.png`), before);
   }
-  const target = join(folder, "short_tasks_whole.png");
-  await shot(browser, inWork("short_tasks_shot.html"), "#event=900", SIZES[0], target, (tab) => press(tab, "#fit"));
+  return `in ${folder}`;
+}
+
+/** Five pages with races for somebody who has not seen one: what races, and where, has to be found in them. */
+export function trials(folder) {
+  mkdirSync(folder, { recursive: true });
+  const pages = { 1: stored("shop", "shop.py"), 2: stored("day", "system.toml"), 3: pictureOfAlike("trial_200.html", alike(200), ["--program", "server.py"]),
+    4: guide(RACES, "trial"), 5: parts() };
+  for (const [name, path] of Object.entries(pages)) ran("cp", [path, join(folder, `${name}.html`)]);
   return `in ${folder}`;
 }

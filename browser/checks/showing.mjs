@@ -59,6 +59,8 @@ async function names(tab) {
     view.context.fillText = (text, x, y) => written.push([text, x + text.length * view.letter / 2, y]);
     view.draw();
     delete view.context.fillText;
+    const rulers = view.head;
+    written.splice(0, written.length, ...written.filter(([, , y]) => y > rulers));
     const place = (_, event) => [view.x(view.layout.times[event]), view.y(view.layout.lane(event))];
     return { texts: written, places: Array.from({ length: page.trace.events + 1 }, place) };
   });
@@ -222,18 +224,19 @@ async function eventsAndPairs(tab, reports) {
   await layoutIsSound(tab, reports);
 }
 
-/** 300 tasks share the lanes of a few. */
+/** 300 tasks share the lanes of a few, since each ends before the next one begins in its lane. */
 export async function lanes(tab) {
   const short = shortTasks(seeded(2), 300, 8);
   await opened(tab, pictureOf("short.html", exportOf(short)));
-  await layoutIsSound(tab, short);
+  const behind = await layoutIsSound(tab, short);
+  assert.ok(behind > 300, `${behind} tasks stand behind another one`);
 }
 
-/** Each event is at its time, so edges go forward; no two tasks are in one lane at a time; no two events at one place. By event
- * number there are so many lanes as there are tasks at once at most. */
+/** Each event is at its time, so edges go forward; no two events are at one place. One behind the other in a lane are only tasks of which
+ * the program says that the first one's end comes before the second one's beginning. */
 async function layoutIsSound(tab, reports) {
-  const faults = await tab.run(() => ["chain", "number"].flatMap((time) => {
-    const { trace } = page, layout = new Layout(trace, time === "number"), found = [], places = new Set();
+  const { faults, pairs } = await tab.run(() => ["chain", "number"].map((time) => {
+    const { trace } = page, layout = new Layout(trace, { axis: time }), found = [], places = new Set(), behind = [];
     for (let event = 1; event <= trace.events; event++) {
       const longest = 1 + Math.max(0, ...trace.preds(event).map((pred) => layout.times[pred]));
       if (layout.times[event] !== (time === "number" ? event : longest)) found.push(`${time}: event ${event} is not at its time`);
@@ -241,10 +244,15 @@ async function layoutIsSound(tab, reports) {
     }
     if (places.size !== trace.events) found.push(`${time}: two events at one place`);
     layout.tasksIn.forEach((tasks, lane) => tasks.forEach((task, place) => {
-      if (place > 0 && layout.to[tasks[place - 1]] > layout.from[task]) found.push(`${time}: two tasks at once in lane ${lane}`);
+      if (place === 0) return;
+      if (layout.to[tasks[place - 1]] > layout.from[task]) found.push(`${time}: two tasks at once in lane ${lane}`);
+      behind.push([trace.tasks[tasks[place - 1]].ended, trace.tasks[task].started]);
     }));
-    return found;
-  }));
+    return { faults: found, pairs: behind };
+  }).reduce((one, other) => ({ faults: [...one.faults, ...other.faults], pairs: [...one.pairs, ...other.pairs] })));
   assert.deepEqual(faults, []);
-  assert.equal(await tab.run(() => new Layout(page.trace, true).lanes), mostAlive(reports));
+  const told = answers(reports, pairs.map(([one, other]) => `order ${one} ${other}`));
+  pairs.forEach((pair, place) => assert.match(told[place], /^200 (same|before)$/, `events ${pair} are in one lane`));
+  assert.ok(await tab.run(() => new Layout(page.trace, { axis: "number" }).lanes) >= mostAlive(reports));
+  return pairs.length;
 }

@@ -9,6 +9,13 @@ export async function opened(tab, path, hash = "") {
   await tab.frame();
 }
 
+/** Opens a page that carries an export, and waits until that is shown: the check of a great one takes longer. */
+export async function shown(tab, path, hash = "") {
+  await tab.open(path, hash);
+  await tab.until(() => typeof page !== "undefined" && page.isShown === true && !page.waits && (page.verdict !== null || page.worker !== null));
+  await tab.frame();
+}
+
 /** Gives a file to the page's picker, and waits until it is judged. */
 export async function picked(tab, path) {
   const before = await tab.run(() => page.opened);
@@ -17,7 +24,8 @@ export async function picked(tab, path) {
   await tab.frame();
 }
 
-export const notice = (tab) => text(tab, "#notice");
+/** What is told of the export, without the title and the progress. */
+export const notice = (tab) => text(tab, "#told");
 export const chosen = (tab) => text(tab, "#chosen h2");
 
 export async function text(tab, selector) {

@@ -1,6 +1,6 @@
 // The checks of what somebody does with the picture: searching, walking, linking and moving.
 import assert from "node:assert/strict";
-import { exportOf, file, inWork, pictureOf } from "./program.mjs";
+import { exportOf, file, inWork, pageOf, pictureOf } from "./program.mjs";
 import { chosen, opened, pause, placeOf, press, text } from "./tab.mjs";
 import { busy, seeded, WORKED } from "./traces.mjs";
 
@@ -31,8 +31,7 @@ const HOSTILE = "<img src=x onerror=alert(1)> read stock";
 export async function labels(tab) {
   const row = (event, label) => ({ event, task: "a", thing: null, kind: "read", file: "shop.py", line: 10 + event, label });
   const lines = [row(3, "write stock"), row(5, HOSTILE), row(3, "read price")].map((one) => JSON.stringify(one));
-  const journal = file("labels.journal", `${lines.join("\n")}\n{"event":6,"label":"cut`);
-  await opened(tab, pictureOf("labels.html", exportOf(WORKED), ["--labels", journal]));
+  await opened(tab, pageOf("labels.html", exportOf(WORKED), { labels: `${lines.join("\n")}\n{"event":6,"label":"cut` }));
   await tab.until(() => page.labels.size === 2);
   await found(tab, "write st", "Event 3");
   assert.match(await text(tab, "#chosen dl"), /^labelwrite stocksourceshop\.py:13labelread pricesourceshop\.py:13kindlocal/);
@@ -42,27 +41,30 @@ export async function labels(tab) {
   assert.equal(await tab.run(() => document.querySelectorAll("img").length), 0);
   await found(tab, "6", "Event 6");
   assert.ok((await text(tab, "#chosen dl")).startsWith("kindrecv"));
-  await labelsAreWhole(tab);
+  await labelsAreClipped(tab);
 }
 
-/** A label is written whole, also where its event stands near an end of what is in view. One of several lines has each line once. */
-async function labelsAreWhole(tab) {
+/** A label has no more room than there is to the next marks of its lane, and is clipped there. It stands in view as a whole, and the tip has
+ * all of it. */
+async function labelsAreClipped(tab) {
   const row = (event, label) => JSON.stringify({ event, task: "a", thing: null, kind: "read", file: null, line: 0, label });
-  const rows = [...[1, 5, 8].map((event) => row(event, `a label of event ${event}`)), row(5, "more"), row(5, "more")];
+  const rows = [...[1, 3, 8].map((event) => row(event, `a long label that belongs to event ${event}`)), row(5, "more"), row(5, "again")];
   await opened(tab, pictureOf("long_labels.html", exportOf(WORKED), ["--labels", file("long.journal", `${rows.join("\n")}\n`)]));
-  await tab.until(() => page.labels.size === 3);
+  await tab.until(() => page.labels.size === 4);
   const written = await tab.run(() => {
     const { view } = page, texts = [];
-    page.view.scale = (view.width - 20) / 5;
-    page.view.left = 1 - 10 / view.scale;
     view.context.fillText = (words, x) => texts.push([words, x, x + view.context.measureText(words).width]);
     view.draw();
     delete view.context.fillText;
-    return { texts: texts.filter(([words]) => words.includes("label")), width: view.width };
+    const rooms = [1, 3, 5, 8].map((event) => view.roomOf(event));
+    return { texts: texts.filter(([words]) => /^[1358] /.test(words)), width: view.width, rooms, scale: view.scale };
   });
-  const due = [1, 5, 8].map((event) => `${event} a label of event ${event}${event === 5 ? ", more" : ""}`);
-  assert.deepEqual(written.texts.map(([words]) => words).sort(), due);
-  for (const [words, from, to] of written.texts) assert.ok(from >= 0 && to <= written.width, `${words}: ${from} to ${to}`);
+  assert.deepEqual(written.texts.map(([words]) => words.replace(/ .*…$/, " …")).sort(), ["1 …", "3 …", "5 more +1", "8 …"]);
+  written.texts.sort().forEach(([words, from, to], place) => {
+    assert.ok(from >= 0 && to <= written.width && to - from <= written.rooms[place], `${words}: ${from} to ${to} of ${written.rooms[place]}`);
+    assert.ok(written.rooms[place] <= written.scale + 1 || place === 3, `${words}: ${written.rooms}`);
+  });
+  assert.equal(await tab.run(() => page.eventTip(3)[0]), "a long label that belongs to event 3");
 }
 
 const TOLD = [[3, "a", "local", "touch", 11], [5, "a", "send", "put order", 12], [6, "root", "recv", "get order", 30],
@@ -89,11 +91,11 @@ export async function tips(tab) {
   assert.deepEqual(await tip(...third), ["write stock, shop.py:13", "read price, shop.py:14", "Event 3, a: local"]);
   assert.deepEqual(await tip(...first), ["Event 1, root: local"]);
   assert.deepEqual(await tip((fifth[0] + sixth[0]) / 2, (fifth[1] + sixth[1]) / 2),
-    ["Message m", "sent by a, event 5: put order, shop.py:12", "received by root, event 6: get order, shop.py:30"]);
+    ["order", "Message m", "sent by a, event 5: put order, shop.py:12", "received by root, event 6: get order, shop.py:30"]);
   assert.deepEqual(await tip((third[0] + fifth[0]) / 2, third[1]),
     ["Task a", "started by root, event 2, shop.py:29", "3 events, 3 to 7", "ended by event 7"]);
   assert.deepEqual(await tip(sixth[0], third[1] + 100), []);
-  await tab.run(() => document.getElementById("fit").focus());
+  await tab.run(() => document.getElementById("hide").focus());
   await tab.until(() => page.buttons.size === 8);
   await tab.key("Tab");
   assert.deepEqual(await shown(), ["Event 1, root: local"]);
@@ -134,7 +136,7 @@ async function found(tab, sought, title) {
 /** Tab reaches the events in view, arrows walk along the task and along edges, and a screen reader is told what stands where. */
 export async function keyboard(tab) {
   await opened(tab, inWork("worked.html"));
-  await tab.run(() => document.getElementById("fit").focus());
+  await tab.run(() => document.getElementById("hide").focus());
   await tab.until(() => page.buttons.size === 8);
   const focused = () => Number(document.activeElement?.dataset?.event ?? 0);
   for (const event of [1, 2, 3]) {
@@ -195,6 +197,7 @@ const near = (one, other, what) => assert.ok(Math.abs(one - other) < 1e-6, `${wh
 /** The wheel, a drag and fingers move and zoom the picture; what is below the pointer or between the fingers stays there. */
 export async function moving(tab, phone) {
   await opened(tab, inWork("busy.html"));
+  await tab.run(() => page.view.zoom(4));
   const start = await where(tab);
   await tab.wheel(500, 400, 120, 0);
   const wheeled = await where(tab);
@@ -214,6 +217,7 @@ export async function moving(tab, phone) {
 
 async function fingers(phone) {
   await opened(phone, inWork("busy.html"));
+  await phone.run(() => page.view.zoom(4));
   const start = await where(phone);
   await phone.touch([[[300, 300]], [[280, 300]], [[200, 300]]]);
   const panned = await where(phone);

@@ -20,6 +20,30 @@ TILL = """
 import itc_trace
 itc_trace.touch("ledger", write=True, across=True)
 """
+LONG = """
+import queue
+import threading
+
+stock, jobs, done = {"left": 2}, queue.Queue(), queue.Queue()
+
+def sell():
+    stock["left"] -= 1
+    for _ in range(200):
+        jobs.get()
+        done.put(1)
+
+def feed():
+    stock["left"] -= 1
+    for _ in range(200):
+        jobs.put(1)
+        done.get()
+
+threads = [threading.Thread(target=sell), threading.Thread(target=feed)]
+for thread in threads:
+    thread.start()
+for thread in threads:
+    thread.join()
+"""
 SYSTEM = """
 [process.till]
 command = ["python3", "till.py"]
@@ -47,7 +71,7 @@ class Pictures(unittest.TestCase):
         return str(self.folder / "shop.py")
 
     def assert_has_the_race(self, told: str) -> None:
-        (race,) = carried(self.page, "carriedRaces")
+        _, race = carried(self.page, "carriedRaces")
         self.assertEqual((race["why"], race["possible"]), ("nothing orders them", False))
         events, times = [side["event"] for side in race["sides"]], "once" if race["times"] == 1 else f"{race['times']} times"
         self.assertIn(f"nothing orders them; {times}, as events {events[0]} and {events[1]}\n", told)
@@ -70,7 +94,26 @@ class Pictures(unittest.TestCase):
     def test_there_is_none_of_a_clean_run(self) -> None:
         ran = run_traced("--picture", str(self.page), self.program(CLEAN))
         self.assertEqual(ran.returncode, Verdict.NO_RACE, ran.stderr)
-        self.assertEqual(carried(self.page, "carriedRaces"), [])
+        self.assertEqual(carried(self.page, "carriedRaces"), [{"races": 0, "possible": 0, "unseen": []}])
+        self.assertEqual(carried(self.page, "carriedAbout"), [{"program": "shop.py"}])
+
+    def test_a_run_in_parts_has_one_page_with_all_of_them(self) -> None:
+        ran = run_traced("--part-events", "300", "--export", str(self.export), "--picture", str(self.page), self.program(LONG))
+        self.assertEqual(ran.returncode, Verdict.RACES, ran.stderr)
+        exports = self.export.read_text().split()
+        self.assertGreater(len(exports), 1)
+        self.assertEqual(carried(self.page, "carriedAbout"), [{"parts": len(exports), "program": "shop.py"}])
+        head, *races = carried(self.page, "carriedRaces")
+        self.assertEqual(head["races"], len(races))
+        for number, name in enumerate(exports, 1):
+            events = [row["event"] for row in carried(self.page, "labels" if number == 1 else f"labels-{number}") if "event" in row]
+            self.assertEqual(max(events), len((self.folder / name).read_text().splitlines()) - 1)
+        again = self.folder / "again.html"
+        journal = self.folder / "journal"
+        run_traced("--part-events", "300", "--journal", str(journal), self.program(LONG))
+        told = run_python("-m", "itc_trace", "races", "--picture", str(again), str(journal))
+        self.assertEqual(told.returncode, Verdict.RACES, told.stderr)
+        self.assertGreater(carried(again, "carriedAbout")[0]["parts"], 1)
 
     def test_a_page_that_cannot_be_written_is_told_first(self) -> None:
         run_traced("--export", str(self.export), self.program(CLEAN))
@@ -83,7 +126,7 @@ class Pictures(unittest.TestCase):
         run_traced("--export", str(self.export), program)
         Path(program).write_text("\n")
         run_python("-m", "itc_trace", "races", "--picture", str(self.page), str(self.export), f"{self.export}.journal")
-        (race,) = carried(self.page, "carriedRaces")
+        _, race = carried(self.page, "carriedRaces")
         self.assertEqual([(side["begin"], side["text"]) for side in race["sides"]], [(0, [])] * 2)
 
     def test_a_system_tells_of_each_process_that_it_ended(self) -> None:
@@ -91,7 +134,7 @@ class Pictures(unittest.TestCase):
         (self.folder / "system.toml").write_text(SYSTEM)
         ran = run_python("-m", "itc_trace", "system", "--picture", str(self.page), str(self.folder / "system.toml"))
         self.assertEqual(ran.returncode, Verdict.RACES, ran.stderr)
-        (race,) = carried(self.page, "carriedRaces")
+        _, race = carried(self.page, "carriedRaces")
         self.assertEqual(sorted(side["task"] for side in race["sides"]), ["stock", "till"])
         told = [row["label"] if "label" in row else row for row in carried(self.page, "labels")]
         end = {"end": True}

@@ -6,6 +6,7 @@ import argparse
 import os
 import random
 import sys
+import tempfile
 
 from ..analyse.benign import Looking, read_patterns
 from ..record.collector import HOST, NoCollector
@@ -19,7 +20,7 @@ from ..analyse.parts import is_in_parts, races_of_parts
 from ..analyse.progress import Bar
 from ..analyse.races import Races
 from ..processes.relay import relay
-from .run import MOST_SEED, NO_PICTURE_OF_PARTS, Run, check_writable, draw_tenant, run, tell_if_untouched, told
+from .run import MOST_SEED, Run, check_writable, draw_parts, draw_tenant, run, tell_if_untouched, told
 from ..analyse.seeing import check_trace, lines_of, races_seen
 from ..session import Refused
 from ..analyse.snapshot import snapshot
@@ -158,9 +159,7 @@ def _races(words: argparse.Namespace) -> int:
     if words.picture is not None:
         check_writable(words.picture)
     if not words.journal and words.port is None and os.path.isfile(words.trace) and is_in_parts(words.trace):
-        if words.picture is not None:
-            print(NO_PICTURE_OF_PARTS, file=sys.stderr)
-        return _tell(words, races_of_parts(words.trace, _looking(words), Bar(sys.stderr)))
+        return _races_of_parts(words)
     if not words.journal:
         raise Fault("races wants the journal of each process, behind the export or the tenant")
     if words.port is None:
@@ -176,6 +175,14 @@ def _races_of(words: argparse.Namespace, tenant: str, port: int, host: str, trac
     found = races_seen(tenant, port, lines, host, _looking(words), Bar(sys.stderr))
     is_drawn = words.picture is not None and draw_tenant(tenant, port, host, lines, words.picture, found)
     return _tell(words, found, words.picture if is_drawn else None)
+
+
+def _races_of_parts(words: argparse.Namespace) -> int:
+    """The races of a run in parts, whose exports are made anew for a picture."""
+    with tempfile.TemporaryDirectory(prefix="itc_trace_") as work:
+        parts = None if words.picture is None else os.path.join(work, "export")
+        found = races_of_parts(words.trace, _looking(words), Bar(sys.stderr), None, parts)
+        return _tell(words, found, draw_parts(parts, words.picture, found, ""))
 
 
 def _tell(words: argparse.Namespace, found: Races, picture: str | None = None) -> int:

@@ -40,7 +40,6 @@ UNTOUCHED = """\
 itc_trace: nothing was touched, so there was no race to find
     Wrap what tasks share by itc_trace.shared(value, "name"), or call itc_trace.touch("name") where it is used.
     A number, a text or a tuple needs touch."""
-NO_PICTURE_OF_PARTS = "itc_trace: no picture: the run has several parts, of which --export writes an export each for ./picture"
 MOST_SEED = 1 << 32
 
 
@@ -203,7 +202,8 @@ def _outcome(asked: Run, seed: int | None) -> Outcome | None:
         number = number_of_parts(journal) if collectors is not None and os.path.exists(journal) else 1
         port, is_divided = _port(asked, collectors, number), number > 1
         if is_divided:
-            races = races_of_parts(journal, asked.looking, Bar(sys.stderr), (asked.tenant, port), asked.export)
+            parts = asked.export or (None if asked.picture is None else os.path.join(work, "export"))
+            races = races_of_parts(journal, asked.looking, Bar(sys.stderr), (asked.tenant, port), parts)
         else:
             with _opened(journal) as rows:
                 races = races_seen(asked.tenant, port, rows, asked.host, asked.looking, Bar(sys.stderr))
@@ -212,9 +212,7 @@ def _outcome(asked: Run, seed: int | None) -> Outcome | None:
         if child.signal_name and not _is_killed(races):
             killed = Unseen(Cause.KILLED, f"the program was ended by {child.signal_name}")
             races.unseen = [killed, *(one for one in races.unseen if one != BREAKS_OFF)]
-        picture = None if is_divided else _keep(asked, port, journal, work, races)
-        if is_divided and asked.picture is not None:
-            _say(NO_PICTURE_OF_PARTS)
+        picture = draw_parts(parts, asked.picture, races, _name_of(asked)) if is_divided else _keep(asked, port, journal, work, races)
         return Outcome(child.status, races, child.told == RAISED, picture)
 
 
@@ -284,14 +282,31 @@ def _keep(asked: Run, port: int, journal: str, work: str, races: Races) -> str |
     try:
         with open(export, "w", encoding="ascii", newline="\n") as output:
             snapshot(asked.tenant, port, output, asked.host)
-        return asked.picture if asked.picture is not None and draw(export, journal, asked.picture, races) else None
+        words = ["--labels", journal, *_program(_name_of(asked))]
+        return asked.picture if asked.picture is not None and draw(export, words, asked.picture, races) else None
     except (OSError, Refused) as fault:  # The collector is gone, say.
         races.unseen.append(Unseen(Cause.COLLECTOR, f"the trace cannot be kept ({fault})"))
         return None
 
 
-def draw(export: str, journal: str, picture: str, races: Races) -> bool:
-    """Draws the trace with its labels and races. Gives whether it did."""
+def _name_of(asked: Run) -> str:
+    """The program that ran, as its picture is titled."""
+    return asked.words[1] if asked.words[0] == "-m" else os.path.basename(asked.words[0])
+
+
+def _program(name: str) -> list[str]:
+    return [f"--program={name}"] if name else []
+
+
+def draw_parts(parts: str | None, picture: str | None, races: Races, name: str) -> str | None:
+    """Draws all parts of a run in one page, whose exports are listed there. Gives where the picture is."""
+    if parts is None or picture is None:
+        return None
+    return picture if draw(os.devnull, ["--parts", parts, *_program(name)], picture, races) else None
+
+
+def draw(export: str, about: list[str], picture: str, races: Races) -> bool:
+    """Draws the trace with its races, and what the words name beside. Gives whether it did."""
     command = os.environ.get("ITC_PICTURE") or find_in_repository("picture")
     if command is None:
         _say("itc_trace: no picture: the command of that name is in the repository of itc_trace")
@@ -299,7 +314,7 @@ def draw(export: str, journal: str, picture: str, races: Races) -> bool:
     with tempfile.NamedTemporaryFile("w", suffix=".races", encoding="utf-8") as rows:
         rows.write(race_rows(races))
         rows.flush()
-        words = [command, "--labels", journal, "--races", rows.name]
+        words = [command, *about, "--races", rows.name]
         with open(export, "rb") as given, open(picture, "wb") as page:
             drawn = subprocess.run(words, stdin=given, stdout=page, stderr=subprocess.PIPE, encoding="utf-8", errors="replace", check=False)
     if drawn.returncode:
@@ -313,8 +328,9 @@ def draw_tenant(tenant: str, port: int, host: str, lines: Iterable[str], picture
         export, journal = os.path.join(work, "export"), os.path.join(work, "journal")
         with open(export, "w", encoding="ascii", newline="\n") as output:
             snapshot(tenant, port, output, host)
-        Path(journal).write_text("".join(lines), encoding="utf-8")
-        return draw(export, journal, picture, races)
+        whole = [line for line in lines if line.endswith("\n")]  # The last one of a program that still runs may be cut off.
+        Path(journal).write_text("".join(whole), encoding="utf-8")
+        return draw(export, ["--labels", journal], picture, races)
 
 
 def _say(text: str) -> None:
@@ -336,8 +352,11 @@ def told(races: Races, picture: str | None = None) -> str:
 
 
 def _link(race: Race, picture: str) -> str:
+    """Leads to both touches, or to the second one if the first is in another part of the run."""
     first, second = race.example
-    return f"file://{quote(os.path.abspath(picture))}#event={first.event}&other={second.event}"
+    part = f"part={second.part}&" if second.part > 1 else ""
+    events = f"event={first.event}&other={second.event}" if first.part == second.part else f"event={second.event}"
+    return f"file://{quote(os.path.abspath(picture))}#{part}{events}"
 
 
 def _is_untouched(races: Races) -> bool:

@@ -36,7 +36,7 @@ from ..record.journal import NoJournal, read_whole
 from ..session import Refused
 from .ending import name_of
 from .launch import REFUSED
-from .run import NO_PICTURE_OF_PARTS, check_writable, draw, environment_of_package, told
+from .run import check_writable, draw, draw_parts, environment_of_package, told
 from .system_file import Described, System
 from ..model.verdict import END_OF_ALL, Cause, Unseen
 
@@ -303,8 +303,10 @@ def run_system(system: System, looking: Looking, fail_on_possible: bool = False)
             running.run()
         lines = running.lines()
         if parts.number > 1:
-            races, picture = _races_in_parts(system, looking, lines, folder, collectors.port_of(parts.number)), None
+            exports = system.export or (None if system.picture is None else os.path.join(folder, "export"))
+            races = _races_in_parts(system, looking, lines, folder, collectors.port_of(parts.number), exports)
             races.unseen = [*running.unseen, *races.unseen]
+            picture = draw_parts(exports, system.picture, races, "")
         else:
             races = races_seen(system.tenant, collectors.port, lines, HOST, looking, Bar(sys.stderr))
             races.unseen = [*running.unseen, *races.unseen]
@@ -313,16 +315,14 @@ def run_system(system: System, looking: Looking, fail_on_possible: bool = False)
         return int(races.verdict(fail_on_possible)) or running.status
 
 
-def _races_in_parts(system: System, looking: Looking, lines: list[str], folder: str, port: int) -> Races:
+def _races_in_parts(system: System, looking: Looking, lines: list[str], folder: str, port: int, exports: str | None) -> Races:
     """The races of a system whose trace was divided. Each part has an export of its own, if one is asked for."""
-    if system.picture is not None:
-        print(NO_PICTURE_OF_PARTS, file=sys.stderr)
     borders = os.path.join(folder, BORDERS)
     journal = f"{system.export}.journal" if system.export is not None else os.path.join(folder, "journal")
     with open(journal, "w", encoding="utf-8") as written, open(borders, encoding="utf-8") as border_lines:
         written.writelines(border_lines)
         written.writelines(lines)
-    return races_of_parts(journal, looking, Bar(sys.stderr), (system.tenant, port), system.export)
+    return races_of_parts(journal, looking, Bar(sys.stderr), (system.tenant, port), exports)
 
 
 def _keep(system: System, port: int, lines: list[str], folder: str, races: Races) -> str | None:
@@ -334,7 +334,7 @@ def _keep(system: System, port: int, lines: list[str], folder: str, races: Races
         with open(export, "w", encoding="ascii", newline="\n") as output:
             snapshot(system.tenant, port, output)
         Path(f"{export}.journal").write_text("".join(lines), encoding="utf-8")
-        is_drawn = system.picture is not None and draw(export, f"{export}.journal", system.picture, races)
+        is_drawn = system.picture is not None and draw(export, ["--labels", f"{export}.journal"], system.picture, races)
         return system.picture if is_drawn else None
     except (OSError, Refused, NoJournal) as fault:
         races.unseen.append(Unseen(Cause.COLLECTOR, f"the trace cannot be kept ({fault})"))

@@ -1,0 +1,132 @@
+// The checks of what a page shows first: the race, its reason, both touches and what came before; or that there is none.
+import assert from "node:assert/strict";
+import { exportOf, file, pictureOf } from "./program.mjs";
+import { race, rows, side } from "./racing.mjs";
+import { opened, press, shown, text } from "./tab.mjs";
+import { LOST_UPDATE } from "./traces.mjs";
+
+const head = (races, unseen = []) => ({ races, possible: 0, unseen });
+
+/** So many tasks that root starts one after the other, by one line, and that all read and write one thing: reports, journal and races. */
+export function alike(tasks) {
+  const reports = ["local root"], journal = [], name = (task) => `handle_${task}`;
+  const note = (report, row) => {
+    reports.push(report);
+    journal.push({ event: reports.length, task: report.split(" ")[1], thing: null, file: "server.py", line: 0, time: 1795798400 + reports.length / 1000, ...row });
+  };
+  for (let task = 1; task <= tasks; task++) note(`spawn root ${name(task)}`, { kind: "spawn", line: 12, label: `start ${name(task)}` });
+  const first = reports.length + 1;
+  for (let task = 1; task <= tasks; task++) {
+    note(`local ${name(task)}`, { kind: "read", thing: "#1", name: "stock['left']", line: 6, label: "read stock['left']" });
+    journal.push({ ...journal.at(-1), kind: "write", line: 8, label: "write stock['left']" });
+  }
+  for (let task = 1; task <= tasks; task++) note(`end ${name(task)}`, { kind: "end", file: null, label: "end" });
+  for (let task = 1; task <= tasks; task++) note(`join root ${name(task)}`, { kind: "join", line: 14, label: `join ${name(task)}` });
+  const at = (event, kind, line) => ({ ...side(event, name(event - first + 1), kind, line), file: "server.py" });
+  return { reports, journal, races: [race("stock['left']", [at(first, "read", 11), at(first + tasks - 1, "write", 12)], { times: tasks })] };
+}
+
+export const pictureOfAlike = (name, { reports, journal, races }, words = []) =>
+  pictureOf(name, exportOf(reports), ["--labels", file(`${name}.journal`, rows(journal)), "--races", file(`${name}.races`, rows([head(races.length), ...races])), ...words]);
+
+/** What is in view of the chosen race: whether both touches and the latest event before both are, whether each has a lane of its own, and
+ * how many tasks are folded beside them. */
+const inView = () => {
+  const { view, trace } = page, before = trace.latestBeforeBoth(view.chosen, view.other);
+  const isIn = (event) => {
+    const x = view.x(view.layout.times[event]), y = view.y(view.layout.lane(event));
+    return x >= 0 && x <= view.width && y >= view.head && y <= view.height;
+  };
+  view.draw();
+  const folds = [...view.layout.folded.values()].map(({ title }) => title);
+  return { all: [view.chosen, view.other, before].every(isIn), isNear: view.isNear, folds, race: view.isRace,
+    own: [view.chosen, view.other].every((event) => !view.layout.isFolded(trace.taskOf[event])) };
+};
+
+/** Of 200 and 2000 tasks the race is there without a click: both touches and what came before both, readable, with the reason and the
+ * source. The others are folded by the line that started them. */
+export async function manyTasks(tab) {
+  for (const tasks of [200, 2000]) {
+    await shown(tab, pictureOfAlike(`alike_${tasks}.html`, alike(tasks), ["--program", "server.py"]));
+    await tab.until(() => page.view.chosen > 0);
+    assert.deepEqual(await tab.run(inView), { all: true, isNear: true, folds: [`handle × ${tasks - 2}`], race: true, own: true });
+    assert.deepEqual([await text(tab, "#title"), await text(tab, "#reason")], ["1 race in server.py", "Nothing orders them."]);
+    const bottom = await tab.run(() => document.querySelector("#freedom").getBoundingClientRect().top);
+    assert.ok(bottom < 500, `why nothing orders them stands at ${bottom}`);
+  }
+  const lanes = () => tab.run(() => page.view.layout.lanes);
+  assert.equal(await lanes(), 4);
+  const [x, y] = await tab.run(() => {
+    const { view } = page, [[lane, { places: [first] }]] = view.layout.folded, box = view.canvas.getBoundingClientRect();
+    return [box.left + view.x(view.layout.from[first]) + 20, box.top + view.y(lane)];
+  });
+  await tab.click(x, y);
+  assert.equal(await lanes(), 2001, "a click opens the fold");
+  await tab.run(() => document.querySelector("#families input").click());
+  assert.equal(await lanes(), 4, "its box among the filters folds it again");
+  await tab.until(() => document.querySelector("#events button[data-fold]") !== null);
+  await tab.run(() => document.querySelector("#events button[data-fold]").focus());
+  await tab.key("Enter");
+  assert.equal(await lanes(), 2001, "Enter opens it");
+  await tab.run(() => document.querySelector("#families input").click());
+  await tab.run(() => page.choose(1000));
+  assert.deepEqual(await tab.run(() => [page.view.layout.isFolded(page.trace.taskOf[1000]), page.view.layout.lanes]), [false, 5],
+    "a task that is chosen leaves its fold");
+}
+
+const THREE = [race("stock", [side(4, "alice", "read", 11), side(7, "bob", "write", 12)]), race("price", [side(6, "alice", "write", 12), side(7, "bob", "write", 12)]),
+  race("stock", [side(5, "bob", "read", 11), side(6, "alice", "write", 12)])];
+
+/** The page says what was found. With races the first one is chosen, and `n` and `p` go to its neighbours; without, it shows the whole and
+ * says so; and where not all was seen, it says that and no more. */
+export async function firstRace(tab) {
+  const path = (name, list, words = []) =>
+    pictureOf(`${name}.html`, exportOf(LOST_UPDATE), ["--races", file(`${name}.races`, rows(list)), "--program", "shop.py", ...words]);
+  await opened(tab, path("first", [head(3), ...THREE]));
+  const turned = async () => [await text(tab, "#turned"), await text(tab, "#chosen h2")];
+  assert.deepEqual([await tab.run(() => document.title), await text(tab, "#title"), ...await turned()],
+    ["3 races in shop.py", "3 races in shop.py", "1 of 3", "Race on stock"]);
+  const { all, race: isRace } = await tab.run(inView);
+  assert.deepEqual([all, isRace, await tab.run(() => location.hash)], [true, true, ""]);
+  for (const [key, place] of [["n", "2 of 3"], ["n", "3 of 3"], ["n", "1 of 3"], ["p", "3 of 3"], ["p", "2 of 3"]]) {
+    await tab.key(key);
+    assert.equal(await text(tab, "#turned"), place, key);
+  }
+  await press(tab, "#raceBehind");
+  assert.equal(await text(tab, "#turned"), "3 of 3");
+  await press(tab, "#raceBefore");
+  assert.deepEqual(await turned(), ["2 of 3", "Race on price"]);
+  const isWhole = () => page.view.isWhole && page.view.chosen === 0;
+  await opened(tab, path("none", [head(0)]));
+  assert.deepEqual([await text(tab, "#title"), await text(tab, "#races h2"), await tab.run(isWhole)], ["No race in this run of shop.py", "No race in this run", true]);
+  await opened(tab, path("unseen", [head(0, ["the program was killed"])]));
+  assert.deepEqual([await text(tab, "#title"), await text(tab, "#races .unseen"), await tab.run(isWhole)],
+    ["Incomplete, no race seen of shop.py", "Not all was seen: the program was killed", true]);
+  await opened(tab, pictureOf("plain.html", exportOf(LOST_UPDATE)));
+  assert.deepEqual([await text(tab, "#title"), await tab.run(() => document.getElementById("races").hidden), await tab.run(isWhole)], ["Trace of x", true, true]);
+}
+
+const ROW = { thing: null, file: null, line: 0 };
+const TOUCHES = [{ ...ROW, event: 4, task: "alice", thing: "#1", name: "stock", kind: "lookup", file: "shop.py", line: 6, label: "lookup stock" },
+  { ...ROW, event: 4, task: "alice", thing: "#1", name: "stock", kind: "making", file: "shop.py", line: 6, label: "making stock" },
+  { ...ROW, event: 4, task: "alice", thing: "#2", name: "stock['left']", kind: "read", file: "shop.py", line: 6, label: "read stock['left']" },
+  { ...ROW, event: 5, task: "bob", kind: "local", label: "touch" }, { ...ROW, event: 2, task: "root", kind: "spawn", label: "run loop" },
+  { ...ROW, event: 7, task: "bob", thing: "#2", name: "stock['left']", kind: "replacement", file: "shop.py", line: 6, label: "replacement stock" }];
+
+/** The label of an event is its touch that races, and else what tells most of it, in words of a program. What is of the tool has a small
+ * mark and no label, and is in no list. */
+export async function words(tab) {
+  const races = [race("stock['left']", [side(4, "alice", "read", 11), side(7, "bob", "write", 12)])];
+  const journal = file("words.journal", rows(TOUCHES)), list = file("words.races", rows(races));
+  await opened(tab, pictureOf("words.html", exportOf(LOST_UPDATE), ["--labels", journal, "--races", list]));
+  const told = () => tab.run(() => [2, 4, 5, 7].map((event) => [page.labelInPicture(event), page.isOwn(event), page.view.isSmall(event)]));
+  assert.deepEqual(await told(), [["", true, true], ["read stock['left']", false, false], ["", true, true], ["write stock['left']", false, false]]);
+  await opened(tab, pictureOf("words.html", exportOf(LOST_UPDATE), ["--labels", journal]));
+  assert.deepEqual(await told(), [["", true, true], ["read stock['left'] +2", false, false], ["", true, true], ["replace an entry of stock", false, false]]);
+  assert.deepEqual(await tab.run(() => page.eventTip(4)), ["look up in stock, shop.py:6", "make stock, shop.py:6", "read stock['left'], shop.py:6", "Event 4, alice: local"]);
+  const lock = { ...ROW, event: 4, task: "root", kind: "send", label: "run loop" };
+  await opened(tab, pictureOf("loop.html", exportOf(["spawn root a", "spawn root ended_tasks_1", "local a", "send root m1", "send root m2"]),
+    ["--labels", file("loop.journal", rows([lock, { ...lock, event: 5, label: "send GET /stock" }]))]));
+  const lists = await tab.run(() => ["unread", "open"].map((id) => document.querySelector(`#${id} summary`).textContent));
+  assert.deepEqual(lists, ["Messages that nobody received: 1", "Tasks that did not end: 2"]);
+}

@@ -1,0 +1,71 @@
+// Reading a journal
+
+/** The object of JSON that the line is, or null. */
+function objectIn(line) {
+  try {
+    const value = JSON.parse(line);
+    return typeof value === "object" && !Array.isArray(value) ? value : null;
+  } catch {
+    return null;
+  }
+}
+
+// What the tool itself does, which is no part of the program: the runs of its loops, and what a part of a run takes over from the one before.
+const OWN_LABELS = new Set(["run loop", "run in loop", "run until loop stops", "loop has stopped", "goes on", "border"]);
+const OWN_TASKS = new Set(["ended_threads", "ended_tasks", "keeper"]);
+// Labels that say nothing of the program, and those of touches that a person would say in other words.
+const BARE_LABELS = new Set(["touch", "send to another process", "receive from another process"]);
+const OTHER_WORDS = [["making ", "make "], ["lookup ", "look up in "], ["replacement ", "replace an entry of "]];
+const RANKS = new Map([["write", 0], ["read", 1], ["replacement", 3], ["lookup", 4], ["making", 5]]);
+
+/** A label in the words of a program. */
+function programWords(label) {
+  const [from, to] = OTHER_WORDS.find(([start]) => label.startsWith(start)) ?? ["", ""];
+  return BARE_LABELS.has(label) ? "" : to + label.slice(from.length);
+}
+
+/** What a message carries, by the label of who sends it, or nothing where that says only that it is sent. */
+const wordsOfMessage = (label) => programWords(label).replace(/^(send|put|post) /, "");
+
+/** What a row of a journal says of its event, or null. It has to be one of so many events. */
+function labelOf(row, events = Infinity) {
+  if (row === null || !Number.isInteger(row.event) || typeof row.label !== "string") return null;
+  if (row.event < 1 || row.event > events) return null;
+  const isPlaced = typeof row.file === "string" && Number.isInteger(row.line);
+  const isTouch = typeof row.thing === "string", isBare = !isTouch && (isPlaced ? false : row.label === "touch");
+  return { event: row.event, label: row.label, words: programWords(row.label), kind: row.kind, isOwn: isBare || OWN_LABELS.has(row.label),
+    name: typeof row.name === "string" ? row.name : row.thing, place: isPlaced ? `${fileName(row.file)}:${row.line}` : "",
+    source: isPlaced ? `${row.file}:${row.line}` : "", isTouch,
+    thing: isTouch ? row.thing : null, isLock: typeof row.lock === "string" };
+}
+
+/** The line that tells most of an event: a write before a read, and both before what looks a thing up or makes it. */
+function bestLine(lines) {
+  const rank = ({ isTouch, kind }) => isTouch ? RANKS.get(kind) ?? 2 : 6;
+  return lines.reduce((best, line) => rank(line) < rank(best) ? line : best);
+}
+
+/** The last part of a path. */
+const fileName = (path) => path.slice(Math.max(path.lastIndexOf("/"), path.lastIndexOf("\\")) + 1);
+
+/** Adds one more line of a journal to what the others say of the same event: it may stand for many touches. */
+function addLine(known, line, isBare) {
+  const isWritten = known.lines.length < MOST_LINES && known.lines.every(({ label }) => label !== line.label);
+  known.lines.push(line);
+  known.isBare &&= isBare;
+  if (isWritten) known.label += `, ${line.label}`;
+}
+
+/** Adds what a row of a journal says of its event. What is bare of touches is passed over where there are some. */
+function addLabel(labels, label) {
+  if (label === null) return;
+  const known = labels.get(label.event), isBare = label.kind === "local" && !label.isTouch;
+  if (known === undefined || (known.isBare && label.isTouch)) labels.set(label.event, { label: label.label, lines: [label], isBare });
+  else addLine(known, label, isBare);
+}
+
+/** Whether these bytes begin as a journal does, and no export. */
+function isJournal(bytes) {
+  const end = bytes.indexOf(10);
+  return labelOf(objectIn(new TextDecoder().decode(bytes.subarray(0, end < 0 ? bytes.length : end)))) !== null;
+}
