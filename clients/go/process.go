@@ -103,12 +103,10 @@ func (t *tracer) beginChild(parent *task, hint string, at *site) *child {
 	parent.mutex.Lock()
 	parent.report(&report{kind: "spawn", name: made.task.name, site: at, label: "start " + made.task.name, answered: answered})
 	parent.mutex.Unlock()
-	select {
-	case <-answered:
-		return made
-	case <-time.After(answerWait):
+	if !t.isAnswered(answered) {
 		return nil
 	}
+	return made
 }
 
 // joinProcess has the task come after a child process that has ended. One that did not report to its end is not joined.

@@ -248,8 +248,8 @@ func (s *touches) tell() {
 	if !s.isReported {
 		s.isReported = true
 		s.task.events++
+		s.isListed = true // It is listed once the collector has answered.
 		tracing.put(&report{kind: "local", task: s.task.name, time: s.begun, touches: s})
-		tracing.list(s)
 	}
 }
 

@@ -72,6 +72,7 @@ type tracer struct {
 	changed      chan struct{}
 	hurried      chan struct{}
 	sent         chan struct{}
+	sendMutex    sync.Mutex
 	goneMutex    sync.Mutex
 	gone         []*token
 	listMutex    sync.Mutex
@@ -269,7 +270,7 @@ func (t *tracer) put(told *report) {
 	t.unsent = append(t.unsent, '\n')
 	t.outstanding = append(t.outstanding, told)
 	t.waiting.Store(int64(len(t.outstanding)))
-	if len(t.unsent) > mostUnsent || told.answered != nil {
+	if len(t.unsent) > mostUnsent {
 		t.hurry()
 	}
 	t.wake()
@@ -381,6 +382,7 @@ func (t *tracer) end(of *task, isAwaited bool) {
 	}
 	of.report(&report{kind: "end", label: "end"})
 	of.isEnded.Store(true)
+	of.known, of.lastSent = nil, nil // Else each keeps the ones that it came after.
 	if !isAwaited {
 		t.leaveTask(of.name)
 	}
@@ -413,12 +415,20 @@ func (t *tracer) outgoing(of *task, named string, at *site) bool {
 	of.mutex.Lock()
 	of.report(&report{kind: "send", name: named, site: at, label: "send to another process", answered: answered})
 	of.mutex.Unlock()
+	return t.isAnswered(answered) && !t.isOver.Load()
+}
+
+// isAnswered sends what is to be reported, and waits for an answer.
+func (t *tracer) isAnswered(answered chan struct{}) bool {
+	t.sendLines()
+	late := time.NewTimer(answerWait)
+	defer late.Stop()
 	select {
 	case <-answered:
-	case <-time.After(answerWait):
+		return true
+	case <-late.C:
 		return false
 	}
-	return !t.isOver.Load()
 }
 
 // outside gives each message to another process a name.
@@ -676,23 +686,36 @@ func (t *tracer) sendSome() bool {
 	if isLast {
 		t.unwritten = append(t.unwritten, t.lastRow...)
 	}
-	lines, rows := t.unsent, t.unwritten
-	t.unsent, t.unwritten = nil, nil
-	if t.hasParts && !isLast {
-		lines = t.appendForgotten(lines)
-	}
+	rows := t.unwritten
+	t.unwritten = nil
 	t.mutex.Unlock()
 	if t.journal != nil && len(rows) > 0 {
 		if _, err := t.journal.Write(rows); err != nil {
 			t.giveUp(causeJournal, "the journal cannot be written: "+err.Error())
 		}
 	}
-	if !isLast && len(lines) > 0 {
+	if !isLast {
+		t.sendLines()
+	}
+	return isLast
+}
+
+// sendLines sends what is to be reported, in its order.
+func (t *tracer) sendLines() {
+	t.sendMutex.Lock()
+	defer t.sendMutex.Unlock()
+	t.mutex.Lock()
+	lines := t.unsent
+	t.unsent = nil
+	if t.hasParts {
+		lines = t.appendForgotten(lines)
+	}
+	t.mutex.Unlock()
+	if len(lines) > 0 {
 		if _, err := t.connection.Write(lines); err != nil {
 			t.giveUp(causeCollector, goneMessage)
 		}
 	}
-	return isLast
 }
 
 // appendForgotten adds which messages and tasks give no order any more. A line has few of them, so that it is not too long.
@@ -713,14 +736,12 @@ func (t *tracer) writeTouches() {
 	listed := t.listed
 	t.listed = nil
 	t.listMutex.Unlock()
+	if len(listed) == 0 {
+		return
+	}
 	var rows []byte
-	var unanswered []*touches
 	for _, one := range listed {
 		event := one.event.Load()
-		if event == 0 {
-			unanswered = append(unanswered, one)
-			continue
-		}
 		one.task.mutex.Lock()
 		fresh := one.fresh
 		one.fresh, one.isListed = nil, false
@@ -729,9 +750,6 @@ func (t *tracer) writeTouches() {
 			rows = t.rowOf(one, told, event).appendTo(rows)
 		}
 	}
-	t.listMutex.Lock()
-	t.listed = append(t.listed, unanswered...)
-	t.listMutex.Unlock()
 	t.mutex.Lock()
 	t.unwritten = append(t.unwritten, rows...)
 	t.mutex.Unlock()
@@ -786,6 +804,9 @@ func (t *tracer) replied(reply string) {
 	switch {
 	case event > 0 && answered.touches != nil:
 		answered.touches.event.Store(int64(part)<<partBits | int64(event))
+		t.listMutex.Lock()
+		t.listed = append(t.listed, answered.touches)
+		t.listMutex.Unlock()
 	case event > 0:
 		t.unwritten = t.rowOfReport(answered, event, part).appendTo(t.unwritten)
 	case strings.HasPrefix(reply, "413") || strings.HasPrefix(reply, "414") || strings.HasPrefix(reply, "415"):
@@ -800,7 +821,7 @@ func (t *tracer) replied(reply string) {
 		close(answered.answered)
 	}
 	t.wake()
-	if len(t.outstanding) == 0 && t.isClosing || answered.answered != nil {
+	if len(t.outstanding) == 0 && t.isClosing {
 		t.hurry()
 	}
 }
