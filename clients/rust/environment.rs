@@ -7,7 +7,8 @@ use std::io;
 const MOST_TAG: usize = 8;
 /// How long the name of a task may be.
 pub(crate) const MOST_NAME: usize = 24;
-/// Names the task that a process is, its tag, and its name, if the process that started it has begun that task already.
+/// Names the process that starts a child, and the task, the tag and the name of the child, whose task has begun already. A process that
+/// such a child starts by other means finds the same there, and is another one's child.
 const CHILD: &str = "ITC_TRACE_CHILD";
 /// Names the file of the journal.
 pub(crate) const JOURNAL: &str = "ITC_TRACE_JOURNAL";
@@ -23,13 +24,24 @@ pub(crate) struct Child {
 impl Child {
     /// The variable that tells a new process so.
     pub fn variable(&self) -> (&'static str, String) {
-        (CHILD, format!("{} {} {}", self.task, self.tag, self.name))
+        (CHILD, format!("{} {} {} {}", std::process::id(), self.task, self.tag, self.name))
     }
 
     fn read(told: &str) -> Option<Child> {
-        let mut words = told.splitn(3, ' ').map(String::from);
+        let mut words = told.splitn(4, ' ').map(String::from);
+        words.next().filter(|parent| *parent == parent_process())?;
         Some(Child { task: words.next()?, tag: words.next()?, name: words.next()? })
     }
+}
+
+#[cfg(unix)]
+fn parent_process() -> String {
+    std::os::unix::process::parent_id().to_string()
+}
+
+#[cfg(not(unix))]
+fn parent_process() -> String {
+    String::new()
 }
 
 pub(crate) struct Environment {

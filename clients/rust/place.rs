@@ -42,6 +42,13 @@ impl Gives {
         }
     }
 
+    fn lock_number(self) -> Option<u64> {
+        match self {
+            Gives::Luck(lock) | Gives::Signal(lock) => Some(lock.number),
+            Gives::Order(_) => None,
+        }
+    }
+
     pub fn hint(self) -> String {
         match self {
             Gives::Luck(lock) | Gives::Signal(lock) => format!("lock{}", lock.made.line()),
@@ -92,6 +99,12 @@ impl Slot {
 
     pub fn note(&self, noted: Noted) {
         *self.noted() = Some(noted);
+    }
+
+    /// The same as it was noted, with the time of that, if it was noted last.
+    pub fn noted_as(&self, given: Noted) -> Noted {
+        let time = self.noted().filter(|noted| noted.gives.lock_number() == given.gives.lock_number()).and_then(|noted| noted.time);
+        Noted { time, ..given }
     }
 
     /// What has marked the place, if that is not sent yet.

@@ -457,8 +457,14 @@ pub fn parent(how: &str) {
     assert!(process::status(Command::new("true").arg("own")).unwrap().success());
 }
 
+/// It starts a process of its own by plain means, which is another one.
 pub fn kid() {
     touch_across("row", true); // race: parent
+    touch("own", true);
+    assert!(Command::new(env::current_exe().unwrap()).arg("stranger").status().unwrap().success());
+}
+
+pub fn stranger() {
     touch("own", true);
 }
 

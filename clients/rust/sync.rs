@@ -13,9 +13,9 @@ pub use once::{LazyLock, Once, OnceLock};
 pub use std::sync::{Arc, LockResult, OnceState, PoisonError, TryLockError, TryLockResult, WaitTimeoutResult, Weak};
 
 use crate::journal::{LockName, Site};
-use crate::place::{Mark, What};
-use crate::traced::{self, hold, on, release_lock, take_by, Marks};
-use crate::tracer::Tracer;
+use crate::place::What;
+use crate::traced::{self, hold, may_be_on, on, release_lock, Release};
+use crate::tracer::{Task, Tracer};
 use std::collections::BTreeMap;
 use std::fmt::{self, Debug, Display};
 use std::ops::{Deref, DerefMut};
@@ -55,27 +55,41 @@ impl Hand {
     }
 
     /// This thread has acquired the lock, which nobody else has now.
-    #[inline]
-    fn acquired(&self, released: &mut Option<Mark>, site: Site) {
+    #[inline(never)]
+    fn acquired(&self, released: &mut Option<Release>, site: Site) {
         if let Some(tracer) = on() {
-            if let Some(mark) = released.take() {
-                take_by(tracer, &mark, site);
+            let name = self.name(tracer);
+            if let Some(release) = released {
+                release.take_by(tracer, name, site);
+                *released = None;
             }
-            hold(self.name(tracer));
+            hold(name);
+        }
+    }
+
+    /// This thread has what the lock guards, and nobody else has.
+    fn taken(&self, released: Option<Release>, site: Site) {
+        if let (Some(tracer), Some(release)) = (on(), released) {
+            release.take_by(tracer, self.name(tracer), site);
         }
     }
 
     /// This thread is about to release the lock. Gives the place of that.
-    #[inline]
-    fn releasing(&self, site: Site) -> Option<Mark> {
+    fn releasing(&self, site: Site) -> Option<Release> {
         let tracer = on()?;
         Some(release_lock(tracer, self.name(tracer), &self.is_signal, site))
+    }
+
+    /// The same of a lock that one thread alone has.
+    #[inline(never)]
+    fn released(&self, released: &mut Option<Release>, site: Site) {
+        *released = self.releasing(site);
     }
 }
 
 /// A value, and the place where the last one who had it has released it.
 struct Inner<T: ?Sized> {
-    released: Option<Mark>,
+    released: Option<Release>,
     value: T,
 }
 
@@ -104,8 +118,9 @@ impl<T> Mutex<T> {
     #[track_caller]
     pub fn into_inner(self) -> LockResult<T> {
         let site = Some(Location::caller());
+        let hand = self.hand;
         let value = |inner: Inner<T>| {
-            traced::take(inner.released.as_ref(), site);
+            hand.taken(inner.released, site);
             inner.value
         };
         self.mutex.into_inner().map(value).map_err(|poisoned| PoisonError::new(value(poisoned.into_inner())))
@@ -114,6 +129,7 @@ impl<T> Mutex<T> {
 
 impl<T: ?Sized> Mutex<T> {
     /// Waits for the lock.
+    #[inline]
     #[track_caller]
     pub fn lock(&self) -> LockResult<MutexGuard<'_, T>> {
         let site = Some(Location::caller());
@@ -145,7 +161,8 @@ impl<T: ?Sized> Mutex<T> {
     #[track_caller]
     pub fn get_mut(&mut self) -> LockResult<&mut T> {
         let site = Some(Location::caller());
-        let value = |inner: &'_ mut Inner<T>| traced::take(inner.released.take().as_ref(), site);
+        let hand = &self.hand;
+        let value = |inner: &'_ mut Inner<T>| hand.taken(inner.released.take(), site);
         match self.mutex.get_mut() {
             Ok(inner) => {
                 value(inner);
@@ -186,9 +203,11 @@ impl<T: ?Sized + Debug> Debug for Mutex<T> {
 }
 
 impl<'a, T: ?Sized> MutexGuard<'a, T> {
-    #[inline]
+    #[inline(always)]
     fn new(hand: &'a Hand, mut guard: sync::MutexGuard<'a, Inner<T>>, site: Site) -> MutexGuard<'a, T> {
-        hand.acquired(&mut guard.released, site);
+        if may_be_on() {
+            hand.acquired(&mut guard.released, site);
+        }
         MutexGuard { hand, site, guard: Some(guard) }
     }
 }
@@ -210,9 +229,10 @@ impl<T: ?Sized> DerefMut for MutexGuard<'_, T> {
 }
 
 impl<T: ?Sized> Drop for MutexGuard<'_, T> {
+    #[inline]
     fn drop(&mut self) {
-        if let Some(guard) = &mut self.guard {
-            guard.released = self.hand.releasing(self.site);
+        if let Some(guard) = self.guard.as_mut().filter(|_| may_be_on()) {
+            self.hand.released(&mut guard.released, self.site);
         }
     }
 }
@@ -220,8 +240,8 @@ impl<T: ?Sized> Drop for MutexGuard<'_, T> {
 /// Where a lock with readers was released.
 #[derive(Default)]
 struct Released {
-    by_writer: Option<Mark>,
-    by_readers: Marks,
+    by_writer: Option<Release>,
+    by_readers: BTreeMap<Task, Release>,
 }
 
 /// A lock that several threads may read under at once. They come after the last one that wrote, and before the next one.
@@ -260,16 +280,9 @@ impl<T> RwLock<T> {
     /// The value. This thread comes after whoever had the lock.
     #[track_caller]
     pub fn into_inner(self) -> LockResult<T> {
-        take_all(&self.released, Some(Location::caller()));
+        self.take_all(Some(Location::caller()));
         self.lock.into_inner()
     }
-}
-
-/// This thread comes after all who had the lock.
-fn take_all(released: &sync::Mutex<Released>, site: Site) {
-    let mut released = released.lock().unwrap_or_else(PoisonError::into_inner);
-    traced::take(released.by_writer.as_ref(), site);
-    std::mem::take(&mut released.by_readers).values().for_each(|mark| traced::take(Some(mark), site));
 }
 
 impl<T: ?Sized> RwLock<T> {
@@ -314,31 +327,44 @@ impl<T: ?Sized> RwLock<T> {
     /// The value, which nobody else has. This thread comes after whoever had the lock.
     #[track_caller]
     pub fn get_mut(&mut self) -> LockResult<&mut T> {
-        take_all(&self.released, Some(Location::caller()));
+        self.take_all(Some(Location::caller()));
         self.lock.get_mut()
+    }
+
+    fn released(&self) -> sync::MutexGuard<'_, Released> {
+        self.released.lock().unwrap_or_else(PoisonError::into_inner)
+    }
+
+    /// This thread comes after all who had the lock.
+    fn take_all(&self, site: Site) {
+        if let Some(tracer) = on() {
+            let (mut released, name) = (self.released(), self.hand.name(tracer));
+            released.by_writer.take().into_iter().for_each(|release| release.take_by(tracer, name, site));
+            std::mem::take(&mut released.by_readers).values().for_each(|release| release.take_by(tracer, name, site));
+        }
     }
 
     fn guarded_read<'a>(&'a self, site: Site) -> impl Fn(sync::RwLockReadGuard<'a, T>) -> RwLockReadGuard<'a, T> {
         move |guard| {
-            self.acquired(site, |released| traced::take(released.by_writer.as_ref(), site));
+            if let Some(tracer) = on() {
+                let (mut released, name) = (self.released(), self.hand.name(tracer));
+                if let Some(release) = &released.by_writer {
+                    release.take_by(tracer, name, site);
+                }
+                released.by_readers.remove(&traced::current(tracer)); // It gives a later place when it is done.
+                hold(name);
+            }
             RwLockReadGuard { hand: &self.hand, released: &self.released, site, guard }
         }
     }
 
     fn guarded_write<'a>(&'a self, site: Site) -> impl Fn(sync::RwLockWriteGuard<'a, T>) -> RwLockWriteGuard<'a, T> {
         move |guard| {
-            self.acquired(site, |released| {
-                traced::take(released.by_writer.take().as_ref(), site);
-                std::mem::take(&mut released.by_readers).values().for_each(|mark| traced::take(Some(mark), site));
-            });
+            if let Some(tracer) = on() {
+                self.take_all(site);
+                hold(self.hand.name(tracer));
+            }
             RwLockWriteGuard { hand: &self.hand, released: &self.released, site, guard }
-        }
-    }
-
-    fn acquired(&self, _: Site, take: impl FnOnce(&mut Released)) {
-        if let Some(tracer) = on() {
-            take(&mut self.released.lock().unwrap_or_else(PoisonError::into_inner));
-            hold(self.hand.name(tracer));
         }
     }
 }
@@ -395,16 +421,16 @@ impl<T: ?Sized> DerefMut for RwLockWriteGuard<'_, T> {
 
 impl<T: ?Sized> Drop for RwLockReadGuard<'_, T> {
     fn drop(&mut self) {
-        if let Some(mark) = self.hand.releasing(self.site) {
-            self.released.lock().unwrap_or_else(PoisonError::into_inner).by_readers.insert(mark.place.task, mark);
+        if let Some(release) = self.hand.releasing(self.site) {
+            self.released.lock().unwrap_or_else(PoisonError::into_inner).by_readers.insert(release.place.task, release);
         }
     }
 }
 
 impl<T: ?Sized> Drop for RwLockWriteGuard<'_, T> {
     fn drop(&mut self) {
-        if let Some(mark) = self.hand.releasing(self.site) {
-            self.released.lock().unwrap_or_else(PoisonError::into_inner).by_writer = Some(mark);
+        if let Some(release) = self.hand.releasing(self.site) {
+            self.released.lock().unwrap_or_else(PoisonError::into_inner).by_writer = Some(release);
         }
     }
 }

@@ -120,6 +120,12 @@ pub(crate) fn on() -> Option<&'static Tracer> {
     }
 }
 
+/// Whether there may be a trace, which [`on`] knows.
+#[inline(always)]
+pub(crate) fn may_be_on() -> bool {
+    STAGE.load(Ordering::Relaxed) != OFF
+}
+
 #[cold]
 fn begin_now() -> Option<&'static Tracer> {
     let tracer = TRACER.get_or_init(start).as_deref().filter(|tracer| !tracer.is_over());
@@ -222,15 +228,35 @@ pub(crate) fn hold(lock: LockName) {
     let _ = THREAD.try_with(|thread| thread.held.borrow_mut().push(lock));
 }
 
+/// The place where a lock was released.
+pub(crate) struct Release {
+    pub place: Arc<Place>,
+    site: Site,
+    is_luck: bool,
+}
+
+impl Release {
+    /// This thread acquires the lock, and comes after whoever has released it.
+    #[inline]
+    pub fn take_by(&self, tracer: &Tracer, lock: LockName, site: Site) {
+        let task = current(tracer);
+        if self.place.task != task {
+            let gives = if self.is_luck { Gives::Luck(lock) } else { Gives::Signal(lock) };
+            let noted = self.place.slot(self.is_luck).noted_as(Noted { gives, site: self.site, time: None });
+            take_by(tracer, &Mark { place: self.place.clone(), noted }, site);
+        }
+    }
+}
+
 /// This thread releases the lock here. If it has noted the same lock at the same place before, nobody asks for the time again.
 #[inline]
-pub(crate) fn release_lock(tracer: &Tracer, lock: LockName, is_signal: &AtomicBool, site: Site) -> Mark {
+pub(crate) fn release_lock(tracer: &Tracer, lock: LockName, is_signal: &AtomicBool, site: Site) -> Release {
     #[cfg(test)]
     let _marking = MARKING.read();
     THREAD.try_with(|thread| thread.release(tracer, lock, is_signal, site)).unwrap_or_else(|_| {
         let (place, noted) = (tracer.here(current(tracer)), Noted::now(gives_of(lock, is_signal), site));
         place.slot(noted.gives.is_luck()).note(noted);
-        Mark { place, noted }
+        Release { place, site, is_luck: noted.gives.is_luck() }
     })
 }
 
@@ -262,20 +288,19 @@ impl Thread {
     }
 
     #[inline]
-    fn release(&self, tracer: &Tracer, lock: LockName, is_signal: &AtomicBool, site: Site) -> Mark {
+    fn release(&self, tracer: &Tracer, lock: LockName, is_signal: &AtomicBool, site: Site) -> Release {
         if self.let_go(lock.number) {
             is_signal.store(true, Ordering::Relaxed); // One that was acquired later stays, as in a lock made of two.
         }
-        let gives = gives_of(lock, is_signal);
+        let is_luck = !is_signal.load(Ordering::Relaxed);
         let known = self.here.borrow().upgrade();
         let place = known.unwrap_or_else(|| is_somewhere(tracer));
-        let key = Some((lock.number, site.map_or(0, |site| site as *const _ as usize), gives.is_luck()));
-        if self.noted.replace(key) == key {
-            return Mark { place, noted: Noted { gives, site, time: None } };
+        let key = Some((lock.number, site.map_or(0, |site| site as *const _ as usize), is_luck));
+        if self.noted.get() != key {
+            self.noted.set(key);
+            place.slot(is_luck).note(Noted::now(gives_of(lock, is_signal), site));
         }
-        let noted = Noted::now(gives, site);
-        place.slot(gives.is_luck()).note(noted);
-        Mark { place, noted }
+        Release { place, site, is_luck }
     }
 }
 

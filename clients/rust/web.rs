@@ -1,6 +1,6 @@
 //! Requests and responses of HTTP as messages, by the header [`HEADER`].
 //!
-//! With a client of any crate, send the header with what [`outgoing`] gives, and hand what it has in the response to [`incoming`]. With a
+//! With a client of any crate, send the header with what [`outgoing`] gives, and hand what it has in the response to [`incoming`](crate::incoming). With a
 //! server of any crate, answer each request by [`answer`], and send the header with the response. Over a stream of one's own,
 //! [`write_head`], [`read_head`] and [`message_in`] do the rest:
 //!

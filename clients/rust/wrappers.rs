@@ -660,6 +660,7 @@ fn main() {
         "ends" => primitives::end(&words[2]),
         "parent" => primitives::parent(&words[2]),
         "kid" => primitives::kid(),
+        "stranger" => primitives::stranger(),
         "web_server" => web_programs::serve(file(), words[3].parse().unwrap(), &words[4]),
         "web_client" => web_programs::ask(file(), &words[3]),
         other => panic!("there is no program {other}"),

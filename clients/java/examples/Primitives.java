@@ -591,9 +591,7 @@ final class Primitives {
     /** Starts itself as a child process, and waits for it. */
     static void parent(String how) throws IOException, InterruptedException {
         Traced.touchAcross("row", true);
-        String java = ProcessHandle.current().info().command().orElseThrow();
-        String classes = System.getProperty("java.class.path");
-        Process kid = Traced.start(new ProcessBuilder(java, "-XX:TieredStopAtLevel=1", "-cp", classes, "Wrappers", "kid").inheritIO());
+        Process kid = Traced.start(itself("kid"));
         if (how.equals("raced")) {
             Traced.touchAcross("row", true); // race: parent
         }
@@ -604,8 +602,22 @@ final class Primitives {
         Traced.touch("own", true);
     }
 
-    static void kid() {
+    private static ProcessBuilder itself(String program) {
+        String java = ProcessHandle.current().info().command().orElseThrow();
+        String classes = System.getProperty("java.class.path");
+        return new ProcessBuilder(java, "-XX:TieredStopAtLevel=1", "-cp", classes, "Wrappers", program).inheritIO();
+    }
+
+    /** It starts a process of its own by plain means, which is another one. */
+    static void kid() throws IOException, InterruptedException {
         Traced.touchAcross("row", true); // race: parent
+        Traced.touch("own", true);
+        if (itself("stranger").start().waitFor() != 0) {
+            throw new IllegalStateException("the stranger has failed");
+        }
+    }
+
+    static void stranger() {
         Traced.touch("own", true);
     }
 }

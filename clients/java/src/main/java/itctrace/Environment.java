@@ -24,14 +24,19 @@ record Environment(int port, String tenant, String process, String journal, Opti
 
     /** A process that is a child of another one: its task, the first part of its other names, and its name. */
     record Child(String task, String tag, String name) {
-        /** Tells a new process so. */
+        /** Tells a new process so. What that one starts by other means finds the same, and is another one's child. */
         void tell(Map<String, String> environment) {
-            environment.put(CHILD, task + " " + tag + " " + name);
+            environment.put(CHILD, ProcessHandle.current().pid() + " " + task + " " + tag + " " + name);
         }
 
         private static Optional<Child> read(String told) {
-            String[] words = told.split(" ", 3);
-            return words.length == 3 ? Optional.of(new Child(words[0], words[1], words[2])) : Optional.empty();
+            String[] words = told.split(" ", 4);
+            boolean isOwn = words.length == 4 && words[0].equals(parent());
+            return isOwn ? Optional.of(new Child(words[1], words[2], words[3])) : Optional.empty();
+        }
+
+        private static String parent() {
+            return ProcessHandle.current().parent().map(ProcessHandle::pid).map(String::valueOf).orElse("");
         }
     }
 

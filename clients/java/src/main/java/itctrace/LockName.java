@@ -31,13 +31,13 @@ final class LockName {
     }
 
     /** This thread's task holds it from now on. */
-    void hold() {
-        Traced.hold(name());
+    void hold(Traced.Own own) {
+        own.hold(name());
     }
 
     /** This thread's task no longer holds it. */
-    void letGo() {
-        if (Traced.letGo(name())) {
+    void letGo(Traced.Own own) {
+        if (own.letGo(name())) {
             isSignal = true; // One that was acquired later stays, as in a lock made of two.
         }
     }

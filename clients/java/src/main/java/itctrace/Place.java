@@ -1,7 +1,7 @@
 package itctrace;
 
 import itctrace.Row.Site;
-import java.util.concurrent.atomic.AtomicInteger;
+import java.util.concurrent.atomic.AtomicIntegerFieldUpdater;
 
 /** A place in a task, behind all that it did until then. Somebody may come after it as long as it has marks. */
 final class Place {
@@ -32,10 +32,12 @@ final class Place {
         }
     }
 
+    private static final AtomicIntegerFieldUpdater<Place> MARKS = AtomicIntegerFieldUpdater.newUpdater(Place.class, "marks");
+
     final Task task;
     final Slot luck = new Slot();
     final Slot meant = new Slot();
-    private final AtomicInteger marks = new AtomicInteger();
+    private volatile int marks;
     /** How many places of the task were sent up to this one. It is 0 as long as it is not sent. */
     volatile long position;
 
@@ -48,15 +50,15 @@ final class Place {
     }
 
     boolean hasMark() {
-        return marks.get() > 0;
+        return marks > 0;
     }
 
     void addMark() {
-        marks.getAndIncrement();
+        MARKS.getAndIncrement(this);
     }
 
     void removeMark() {
-        marks.getAndDecrement();
+        MARKS.getAndDecrement(this);
     }
 
     boolean hasUnsent() {

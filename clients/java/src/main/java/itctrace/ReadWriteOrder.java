@@ -33,7 +33,7 @@ final class ReadWriteOrder {
         } else {
             Mark.endIfAny(byReaders.remove(Traced.current().number)); // It gives a later place when it is done.
         }
-        name.hold();
+        name.hold(Traced.own());
     }
 
     private void take(Mark mark) {
@@ -55,7 +55,7 @@ final class ReadWriteOrder {
         if (!Traced.isOn()) {
             return;
         }
-        name.letGo();
+        name.letGo(Traced.own());
         Place here = Traced.here();
         Noted noted = name.release(here, isWriter ? lastOfWriter : lastOfReader, turns);
         if (isWriter) {

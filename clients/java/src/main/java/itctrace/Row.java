@@ -1,8 +1,13 @@
 package itctrace;
 
+import java.lang.reflect.Method;
 import java.math.BigDecimal;
 import java.time.Instant;
+import java.util.HashSet;
 import java.util.List;
+import java.util.Map;
+import java.util.Set;
+import java.util.concurrent.ConcurrentHashMap;
 import java.util.stream.Collectors;
 
 /**
@@ -20,13 +25,59 @@ record Row(String task, String thing, String kind, Site site, String label, List
     /** A line of the program. */
     record Site(String file, int line, String function) {
         static final Site NONE = new Site(null, 0, "");
+        private static final StackWalker WALKER = StackWalker.getInstance(StackWalker.Option.RETAIN_CLASS_REFERENCE);
+        private static final ClassValue<Map<Place, Site>> SITES =
+                new ClassValue<>() {
+                    @Override
+                    protected Map<Place, Site> computeValue(Class<?> type) {
+                        return new ConcurrentHashMap<>();
+                    }
+                };
+        /** The names that several methods of a class have, and those of its constructors. Null if a class that it names is not there. */
+        private static final ClassValue<Set<String>> OVERLOADED =
+                new ClassValue<>() {
+                    @Override
+                    protected Set<String> computeValue(Class<?> type) {
+                        try {
+                            return overloadedOf(type);
+                        } catch (LinkageError missing) {
+                            return null;
+                        }
+                    }
+                };
+
+        /** A place in a method, by the index of its code. */
+        private record Place(String method, int index) {}
 
         /** The line of the program that called this package, itself or by the JDK. */
         static Site ofCaller() {
-            return StackWalker.getInstance()
-                    .walk(frames -> frames.filter(frame -> isOfProgram(frame.getClassName())).findFirst())
-                    .map(Site::of)
+            return WALKER.walk(frames -> frames.filter(frame -> isOfProgram(frame.getClassName())).findFirst())
+                    .map(Site::known)
                     .orElse(NONE);
+        }
+
+        /** To look for the line takes long, so each place in a method is looked for once. Methods of the same name are not told apart. */
+        private static Site known(StackWalker.StackFrame frame) {
+            String method = frame.getMethodName();
+            Set<String> overloaded = OVERLOADED.get(frame.getDeclaringClass());
+            if (overloaded == null || overloaded.contains(method)) {
+                return of(frame);
+            }
+            Map<Place, Site> sites = SITES.get(frame.getDeclaringClass());
+            Place place = new Place(method, frame.getByteCodeIndex());
+            Site known = sites.get(place);
+            return known != null ? known : sites.computeIfAbsent(place, fresh -> of(frame));
+        }
+
+        private static Set<String> overloadedOf(Class<?> type) {
+            Set<String> seen = new HashSet<>();
+            Set<String> overloaded = new HashSet<>(Set.of("<init>"));
+            for (Method method : type.getDeclaredMethods()) {
+                if (!seen.add(method.getName())) {
+                    overloaded.add(method.getName());
+                }
+            }
+            return overloaded;
         }
 
         private static Site of(StackWalker.StackFrame frame) {

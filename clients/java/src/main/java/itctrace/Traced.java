@@ -44,7 +44,24 @@ public final class Traced {
         private Task task;
         private Held held;
 
-        private Task task() {
+        /** This thread holds the lock from now on. */
+        void hold(String lock) {
+            held = new Held(lock, held);
+        }
+
+        /** This thread no longer holds the lock. Gives whether it still holds one that it acquired later. */
+        boolean letGo(String lock) {
+            if (held != null && held.lock().equals(lock)) {
+                held = held.others();
+                return false;
+            }
+            Held without = without(held, lock);
+            boolean isCrossed = without != held;
+            held = without;
+            return isCrossed;
+        }
+
+        Task task() {
             if (task == null) {
                 Thread thread = Thread.currentThread();
                 task = thread.getName().equals("main") && thread.getId() == 1 ? TRACER.main : TRACER.stranger(thread.getName());
@@ -275,23 +292,8 @@ public final class Traced {
         return isOn() ? Site.ofCaller() : Site.NONE;
     }
 
-    /** This thread holds the lock from now on. */
-    static void hold(String lock) {
-        Own own = OWN.get();
-        own.held = new Held(lock, own.held);
-    }
-
-    /** This thread no longer holds the lock. Gives whether it still holds one that it acquired later. */
-    static boolean letGo(String lock) {
-        Own own = OWN.get();
-        if (own.held != null && own.held.lock().equals(lock)) {
-            own.held = own.held.others();
-            return false;
-        }
-        Held without = without(own.held, lock);
-        boolean isCrossed = without != own.held;
-        own.held = without;
-        return isCrossed;
+    static Own own() {
+        return OWN.get();
     }
 
     private static Held without(Held held, String lock) {

@@ -29,10 +29,13 @@ final class TracedFilter extends Filter {
 
     @Override
     public void doFilter(HttpExchange exchange, Chain chain) throws IOException {
-        try (TracedRequest request = Traced.request(exchange.getRequestHeaders().getFirst(Traced.HEADER))) {
+        TracedRequest request = Traced.request(exchange.getRequestHeaders().getFirst(Traced.HEADER));
+        try {
             Traced.take(made, Site.NONE);
             // A handler may want what only an exchange over TLS has.
             chain.doFilter(exchange instanceof HttpsExchange ? exchange : new Answering(exchange));
+        } finally {
+            request.close();
         }
     }
 

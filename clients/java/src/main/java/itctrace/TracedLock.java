@@ -19,6 +19,8 @@ final class TracedLock extends ReportingLock {
 
     private int depth;
     private Thread owner;
+    /** What the owner knows of itself. */
+    private Traced.Own own;
 
     TracedLock(Lock lock) {
         super(lock);
@@ -31,15 +33,16 @@ final class TracedLock extends ReportingLock {
     void acquired() {
         owner = Thread.currentThread();
         if (depth++ == 0 && Traced.isOn()) {
+            own = Traced.own();
             if (released != null) {
                 takeOver(released);
             }
-            name.hold();
+            name.hold(own);
         }
     }
 
     private void takeOver(Place place) {
-        if (place.task == Traced.current()) {
+        if (place.task == own.task()) {
             turns++;
         } else {
             turns = 0;
@@ -56,8 +59,9 @@ final class TracedLock extends ReportingLock {
         }
         owner = null; // Else this thread could take itself for the owner while another one is.
         if (Traced.isOn()) {
-            name.letGo();
-            released = Traced.here();
+            own = own == null ? Traced.own() : own; // It may have been acquired before there was a trace.
+            name.letGo(own);
+            released = own.task().here;
             release = name.release(released, release, turns);
             released.addMark();
         }

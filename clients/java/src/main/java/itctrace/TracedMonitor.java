@@ -39,12 +39,12 @@ public final class TracedMonitor implements AutoCloseable {
             place.removeMark();
             released = null;
         }
-        name.hold();
+        name.hold(Traced.own());
     }
 
     private void releasing() {
         if (Traced.isOn()) {
-            name.letGo();
+            name.letGo(Traced.own());
             released = Traced.here();
             release = name.release(released, release, turns);
             released.addMark();
