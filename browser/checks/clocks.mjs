@@ -35,7 +35,7 @@ async function oneClock(tab) {
   await tab.click(...await placeOf(tab, 6), SHIFT);
   assert.deepEqual([await text(tab, "#words"), await text(tab, "#apart")],
     ["Event 5 happened before event 6.", "By the clock event 6 was 50 ms before event 5. Clocks order nothing."]);
-  assert.deepEqual(await tab.run(() => [3, 4, 5, 6].map((event) => page.view.layout.times[event])), [3, 3, 4, 5]);
+  assert.deepEqual(await tab.run(() => [3, 4, 5, 6].map((event) => page.view.layout.steps[event])), [3, 3, 4, 5]);
 }
 
 /** Above the lanes stand two rulers, and nothing else does: steps, and the times of the events that stand there. */
