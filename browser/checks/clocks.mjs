@@ -1,6 +1,6 @@
 // The checks of the wall clock: what the journal tells is shown beside logical time, and orders nothing.
 import assert from "node:assert/strict";
-import { exportOf, file, pictureOf } from "./program.mjs";
+import { exportOf, file, pageOf, pictureOf } from "./program.mjs";
 import { rows } from "./racing.mjs";
 import { opened, placeOf, text } from "./tab.mjs";
 import { seeded, WORKED } from "./traces.mjs";
@@ -10,7 +10,7 @@ const row = (event, task, time, more = {}) => ({ event, task, thing: null, kind:
 const start = (event, process, time) => row(event, "root", time, { kind: "spawn", label: `start process ${process}` });
 
 async function openedWith(tab, name, reports, journal, hash = "") {
-  const path = pictureOf(`${name}.html`, exportOf(reports), ["--labels", file(`${name}.journal`, rows(journal))]);
+  const path = pageOf(`${name}.html`, exportOf(reports), { labels: rows(journal) });
   await opened(tab, path, hash);
   await tab.until(() => page.labels.size > 0);
 }
