@@ -1,6 +1,6 @@
 // The checks of the wall clock: what the journal tells is shown beside logical time, and orders nothing.
 import assert from "node:assert/strict";
-import { exportOf, file, pictureOf } from "./program.mjs";
+import { exportOf, file, pageOf, pictureOf } from "./program.mjs";
 import { rows } from "./racing.mjs";
 import { opened, placeOf, text } from "./tab.mjs";
 import { seeded, WORKED } from "./traces.mjs";
@@ -10,7 +10,7 @@ const row = (event, task, time, more = {}) => ({ event, task, thing: null, kind:
 const start = (event, process, time) => row(event, "root", time, { kind: "spawn", label: `start process ${process}` });
 
 async function openedWith(tab, name, reports, journal, hash = "") {
-  const path = pictureOf(`${name}.html`, exportOf(reports), ["--labels", file(`${name}.journal`, rows(journal))]);
+  const path = pageOf(`${name}.html`, exportOf(reports), { labels: rows(journal) });
   await opened(tab, path, hash);
   await tab.until(() => page.labels.size > 0);
 }
@@ -35,7 +35,7 @@ async function oneClock(tab) {
   await tab.click(...await placeOf(tab, 6), SHIFT);
   assert.deepEqual([await text(tab, "#words"), await text(tab, "#apart")],
     ["Event 5 happened before event 6.", "By the clock event 6 was 50 ms before event 5. Clocks order nothing."]);
-  assert.deepEqual(await tab.run(() => [3, 4, 5, 6].map((event) => page.view.layout.times[event])), [3, 3, 4, 5]);
+  assert.deepEqual(await tab.run(() => [3, 4, 5, 6].map((event) => page.view.layout.steps[event])), [3, 3, 4, 5]);
 }
 
 /** Above the lanes stand two rulers, and nothing else does: steps, and the times of the events that stand there. */

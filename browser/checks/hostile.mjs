@@ -45,7 +45,7 @@ async function oddRows(tab) {
   await openedWith(tab, "odd_rows", WORKED, journal);
   assert.deepEqual(await tab.run(() => [...page.labels.keys()]), [3, 4, 6]);
   assert.deepEqual(await tab.run(() => page.find("start process").map(({ event }) => event)), [4]);
-  assert.equal(await tab.run(() => page.find("onerror").length), 1);
+  assert.equal(await tab.run(() => page.find("onerror").length), 3, "things and places are searched too");
   const told = await tab.run(() => {
     const words = [];
     for (let event = 1; event <= page.trace.events; event++) {

@@ -8,7 +8,8 @@ const Panel = (Base) => class extends Base {
     if (lines.length === 0 || this.isOwn(event)) return deed(trace, event);
     const touches = this.chosenRace()?.sides.map((side) => this.touchOf(side, event)) ?? [];
     const line = touches.find((touch) => touch !== undefined) ?? bestLine(lines), more = lines.length > 1 ? ` and ${lines.length - 1} more` : "";
-    return labelAndPlace(line) === "" ? deed(trace, event) : `${trace.taskName(event)}: ${labelAndPlace(line)}${more}`;
+    if (line.words === "") return deed(trace, event) + (line.place === "" ? "" : `, ${line.place}`);
+    return `${trace.taskName(event)}: ${labelAndPlace(line)}${more}`;
   }
 
   /** The line of the journal that tells of this touch of a race. */
