@@ -2,6 +2,8 @@
 
 from __future__ import annotations
 
+import ast
+import re
 import tempfile
 import unittest
 from pathlib import Path
@@ -9,6 +11,8 @@ from unittest import mock
 
 import rooms
 
+NAMED = re.compile(r"^\|.*?`((?:\w+/)+\w+\.py)` \| `(\w+)`", re.MULTILINE)
+"""A row of a table that names a file, and what stands in it."""
 PLANTED = {
     "model/__init__.py": "",
     "record/__init__.py": "",
@@ -20,6 +24,13 @@ PLANTED = {
     "session.py": "from .model import at_once\n",
 }
 """A package in which each kind of import leads to a folder that stands higher."""
+
+
+def names_of(file: Path) -> set[str]:
+    """The functions, methods, classes and variables that a module has."""
+    nodes = list(ast.walk(ast.parse(file.read_text(encoding="utf-8"))))
+    functions = {one.name for one in nodes if isinstance(one, (ast.FunctionDef, ast.ClassDef))}
+    return functions | {one.id for one in nodes if isinstance(one, ast.Name) and isinstance(one.ctx, ast.Store)}
 
 
 class Rooms(unittest.TestCase):
@@ -37,6 +48,13 @@ class Rooms(unittest.TestCase):
         page = rooms.PAGE.read_text(encoding="utf-8")
         self.assertIn(rooms.BEGIN, page)
         self.assertEqual(rooms.written(page), page, "rooms.py --write writes it")
+
+    def test_the_page_names_what_is_there(self) -> None:
+        named = NAMED.findall(rooms.PAGE.read_text(encoding="utf-8"))
+        self.assertGreater(len(named), 20)
+        for file, name in named:
+            with self.subTest(file=file, name=name):
+                self.assertIn(name, names_of(rooms.PACKAGE / file))
 
     def test_imports_of_every_kind_are_seen(self) -> None:
         with tempfile.TemporaryDirectory() as folder:

@@ -16,12 +16,12 @@ import types
 import weakref
 from array import array
 from builtins import any, dict, enumerate, filter, frozenset, id, int, issubclass, iter, list, map, next, reversed, set, str, tuple, type, zip
-from collections import ChainMap, Counter, OrderedDict, UserDict, UserList, defaultdict, deque
+from collections import ChainMap, OrderedDict, UserDict, UserList, deque
 from collections.abc import Iterable
 from typing import Any
 
 from .helper import quick
-from .kinds import BUFFER, DEQUE, DICT, LIST, SET
+from .kinds import DICT, TYPES
 from .places import DELETED, SKIPPED, Access
 
 SKIP, FIELD, OWN_FIELD, OF_CLASS, OF_TYPE, OF_MODULE, AS_KEY, OF_METHOD, OF_SUPER = range(9)
@@ -43,11 +43,8 @@ PLAIN = ids_of({
 BARE = ids_of({object, types.SimpleNamespace, BaseException})
 """Types that find attributes in the usual way, though their own tables name the methods that do so."""
 
-_EXACT: dict[int, int] = {id(kind): family for kind, family in (
-    (dict, DICT), (defaultdict, DICT), (OrderedDict, DICT), (Counter, DICT), (list, LIST), (bytearray, LIST), (array, LIST), (set, SET),
-    (deque, DEQUE), (io.StringIO, BUFFER), (io.BytesIO, BUFFER),
-)}
-_BASES = ((dict, DICT), (list, LIST), (bytearray, LIST), (array, LIST), (set, SET), (deque, DEQUE), (io.StringIO, BUFFER), (io.BytesIO, BUFFER))
+_BASES = tuple((kind, family) for family, kinds in TYPES.items() for kind in kinds)
+_EXACT: dict[int, int] = {id(kind): family for kind, family in _BASES}
 NO_FAMILY = -1
 _METHODS_OF = {"r": "__getitem__", "w": "__setitem__", "d": "__delitem__", "c": "__contains__"}
 """What is called for each way to touch an element."""

@@ -29,17 +29,17 @@ def _touch(method: Method, place: Place) -> None:
         return
     known = known_function(name) if "." in name else None
     if known is not None:
-        hooks.hook_h(method.container, _site_of(place, name, "whole", known, depth_of(name)))
+        hooks.hook_before_whole(method.container, _site_of(place, name, "whole", known, depth_of(name)))
     elif name in _FIELDS:
         _touch_field(method, _site_of(place, name, "field", _FIELDS[name]))
     elif name in _WHOLE:
-        hooks.hook_h(method.container, _site_of(place, name, "whole", _WHOLE[name], SHOWING.get(name.removeprefix(_OF_BUILTINS), "")))
+        hooks.hook_before_whole(method.container, _site_of(place, name, "whole", _WHOLE[name], SHOWING.get(name.removeprefix(_OF_BUILTINS), "")))
     elif name in METHODS:
         site = _site_of(place, name, "base", "", name)
         if name in KEYED and words:
-            hooks.hook_k(method.container, words[0], site)
+            hooks.hook_before_element(method.container, words[0], site)
         else:
-            hooks.hook_m(method.container, site)
+            hooks.hook_before_method(method.container, site)
 
 
 def _touch_field(method: Method, site: int) -> None:
@@ -48,7 +48,7 @@ def _touch_field(method: Method, site: int) -> None:
     one = method.container
     for part in name.split(".") if type(name) is str and method.name == ATTRGETTER else (name,):
         if one is not None:
-            hooks.hook_A(one, part, site)
+            hooks.hook_before_named_attribute(one, part, site)
             one = value_of_field(one, part) if type(part) is str else None
 
 

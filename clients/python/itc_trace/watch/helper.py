@@ -12,7 +12,10 @@ import sysconfig
 import tempfile
 from typing import Any
 
+from .both_languages import header
+
 SOURCE = os.path.join(os.path.dirname(os.path.abspath(__file__)), "quick.c")
+HEADER = "both_languages.h"
 PURE = "ITC_TRACE_PURE"
 """A variable of the environment: if it is set, the hooks are those in Python."""
 LONGEST_BUILD = 120.0
@@ -41,7 +44,7 @@ def _built() -> str | None:
     """The file of the built helper. A build that failed is not tried again for the same source."""
     with open(SOURCE, "rb") as source:
         text = source.read()
-    told = f"{sys.version}{sysconfig.get_config_var('SOABI')}".encode()
+    told = f"{sys.version}{sysconfig.get_config_var('SOABI')}{header()}".encode()
     name = os.path.join(user_folder(), f"quick-{sysconfig.get_config_var('SOABI')}-{hashlib.sha256(text + told).hexdigest()[:24]}")
     if not os.path.exists(f"{name}.so") and not os.path.exists(f"{name}.failed"):
         _build(name)
@@ -53,7 +56,9 @@ def _build(name: str) -> None:
     with tempfile.TemporaryDirectory(dir=os.path.dirname(name)) as folder:
         made = os.path.join(folder, "quick.so")
         include = sysconfig.get_paths()["include"]
-        words = ["cc", "-O2", "-shared", "-fPIC", f"-I{include}", SOURCE, "-o", made]
+        with open(os.path.join(folder, HEADER), "w", encoding="ascii") as both:
+            both.write(header())
+        words = ["cc", "-O2", "-shared", "-fPIC", f"-I{include}", f"-I{folder}", SOURCE, "-o", made]
         try:
             is_built = subprocess.run(words, capture_output=True, timeout=LONGEST_BUILD, check=False).returncode == 0
         except (OSError, subprocess.SubprocessError):

@@ -27,6 +27,9 @@ from ..sync.handed_on import HANDED, Calling, is_of_container
 from ..model.lines import state
 from ..record.noting import begin_stretch, lost, touched_all
 from ..model.stretches import STRETCHES
+from .both_languages import (
+    DEEP, IF_OWN, LEFT, LOOKED_THROUGH_AT_ONCE, MOST_BEGUN, NO_TOUCH, OF_DICT, OF_FIELD, OF_LIST, OF_SHAPE, OF_STEPS, OTHER, OWN_OR_OF_CLASS,
+)
 from .decisions import (
     AS_KEY, BY_ELEMENTS, COMPOSED, FIELD, FILES, OF_CLASS, OF_METHOD, OF_MODULE, OF_SUPER, OF_TYPE, OWN_FIELD, PLAIN, SKIP, STEPPED, VARIABLES,
     VIEWS, WATCHED, class_with, decision, family_of, field_inside, fields_of, has_own_method, has_setter, has_watched_method, ids_of,
@@ -58,7 +61,6 @@ from .things import MADE, OWNERS, Made, Owner, let_go_of_some, made_by, made_her
 INDEXED = (list, bytearray, array, deque)
 FLAT = PLAIN - {id(tuple), id(frozenset)}
 """Types whose values have nothing inside that could change."""
-LOOKED_THROUGH_AT_ONCE = 64
 ANYBODY, NOBODY = 0, sys.maxsize
 """A limit of references that nothing is within, and one that everything is."""
 OF_VARIABLE_IN_C = 2
@@ -89,14 +91,13 @@ OF_VARIABLE_IN_USE = OF_VARIABLE + 1
 
 BEGUN: dict[tuple[int, int], int] = {}
 """How many references there were of an object when a constructor of it began."""
-MOST_BEGUN = 10_000
 CONSTRUCTOR = "__init__"
 
 
 # Fields
 
 
-def hook_o(one: Any, site: int) -> Any:
+def hook_before_attribute(one: Any, site: int) -> Any:
     """Before an attribute is read or written."""
     owner = owner_at(id(one))
     if owner is not None:
@@ -114,7 +115,7 @@ def hook_o(one: Any, site: int) -> Any:
     return one
 
 
-def hook_o_local(one: Any, site: int) -> Any:
+def hook_before_attribute_local(one: Any, site: int) -> Any:
     owner = owner_at(id(one))
     if owner is not None:
         seen = owner.seen
@@ -133,16 +134,16 @@ def hook_o_local(one: Any, site: int) -> Any:
     return one
 
 
-def hook_w(one: Any, site: int) -> Any:
+def hook_before_called_attribute(one: Any, site: int) -> Any:
     """Before a value of an object is called, which is nothing to note if it is a method."""
-    return one if id(type(one)) in SKIPPED[site] else hook_o(one, site)
+    return one if id(type(one)) in SKIPPED[site] else hook_before_attribute(one, site)
 
 
-def hook_w_local(one: Any, site: int) -> Any:
-    return one if id(type(one)) in SKIPPED[site] else hook_o_local(one, site)
+def hook_before_called_attribute_local(one: Any, site: int) -> Any:
+    return one if id(type(one)) in SKIPPED[site] else hook_before_attribute_local(one, site)
 
 
-def hook_o_new(one: Any, site: int, constructor: int) -> Any:
+def hook_before_attribute_of_new(one: Any, site: int, constructor: int) -> Any:
     """The same in a constructor. As long as nobody refers to the object who did not when it began, nothing is noted."""
     owner = owner_at(id(one))
     if owner is not None:
@@ -159,7 +160,7 @@ def hook_o_new(one: Any, site: int, constructor: int) -> Any:
     return one
 
 
-def hook_A(one: Any, name: Any, site: int) -> Any:
+def hook_before_named_attribute(one: Any, name: Any, site: int) -> Any:
     """Before `getattr` and its like."""
     if type(name) is str:
         access = ACCESSES[site]
@@ -293,13 +294,13 @@ def _touch_in_place(value: Any, kind: str, site: int) -> None:
         saw(owner_of(value, ACCESSES[site].name), site, (shape_late, site, kind, site))
 
 
-hook_A_local = hook_A
+hook_before_named_attribute_local = hook_before_named_attribute
 
 
 # Variables and cells
 
 
-def hook_g(site: int) -> None:
+def hook_at_variable(site: int) -> None:
     """Before a variable of a module is read, or behind where it was written."""
     stretch = stretch_of(get_ident())
     if stretch is None or site not in stretch:
@@ -314,12 +315,12 @@ def _touch_variable(site: int) -> None:
     touched_all(by_kinds(site, variable_of(access.module, access.name, access.text), access.kinds, site))
 
 
-def hook_v(value: Any, _: None) -> Any:
+def hook_after_binding(value: Any, _: None) -> Any:
     """The value that is about to be bound, beside what notes so."""
     return value
 
 
-def hook_c(function: Any, site: int) -> None:
+def hook_at_cell(function: Any, site: int) -> None:
     """The same of a cell, which is that of a function."""
     closure = function.__closure__
     if not closure:
@@ -343,7 +344,7 @@ def _touch_cell(cell: Any, site: int) -> None:
 # Containers as a whole
 
 
-def hook_h(one: Any, site: int) -> Any:
+def hook_before_whole(one: Any, site: int) -> Any:
     """Before all of a container, or its length, is looked at."""
     if id(type(one)) in FLAT:
         return one
@@ -359,7 +360,7 @@ def hook_h(one: Any, site: int) -> Any:
     return one
 
 
-def hook_h_local(one: Any, site: int) -> Any:
+def hook_before_whole_local(one: Any, site: int) -> Any:
     if id(type(one)) in FLAT:
         return one
     owner = owner_at(id(one))
@@ -482,7 +483,7 @@ def _touch_all_fields(one: Any, site: int, kind: str | None) -> None:
         _touch_by_name(one, name, kinds, site)
 
 
-def hook_D(one: Any) -> Any:
+def hook_before_fields(one: Any) -> Any:
     """Before the fields of an object are given as a dictionary."""
     try:
         keep_fields_of(one)
@@ -491,7 +492,7 @@ def hook_D(one: Any) -> Any:
     return one
 
 
-def hook_G(variables: Any) -> Any:
+def hook_after_variables(variables: Any) -> Any:
     """Behind where the variables of a module are given as a dictionary."""
     try:
         module = sys.modules.get(dict.get(variables, "__name__", ""))
@@ -502,7 +503,7 @@ def hook_G(variables: Any) -> Any:
     return variables
 
 
-def hook_B(one: Any, site: int) -> Any:
+def hook_before_new_fields(one: Any, site: int) -> Any:
     """Before an object is given another dictionary of its fields."""
     try:
         _touch_all_fields(one, site, WRITE)
@@ -511,25 +512,25 @@ def hook_B(one: Any, site: int) -> Any:
     return one
 
 
-def hook_I(name: Any, one: Any, site: int) -> Any:
+def hook_given_name(name: Any, one: Any, site: int) -> Any:
     """The name of an attribute, which is given to a method of an object."""
-    hook_A(one, name, site)
+    hook_before_named_attribute(one, name, site)
     return name
 
 
-def hook_J(value: Any, one: Any, name: Any, site: int) -> Any:
+def hook_given_with_name(value: Any, one: Any, name: Any, site: int) -> Any:
     """The last argument of `setattr` and its like, behind the object and the name."""
-    hook_A(one, name, site)
+    hook_before_named_attribute(one, name, site)
     return value
 
 
-hook_D_local, hook_B_local = hook_D, hook_B
+hook_before_fields_local, hook_before_new_fields_local = hook_before_fields, hook_before_new_fields
 
 
 # Patterns and templates
 
 
-def hook_M(one: Any, site: int) -> Any:
+def hook_before_match(one: Any, site: int) -> Any:
     """Before a subject is looked at by patterns."""
     try:
         is_own = _has_few(one, OF_TEMPORARY)
@@ -539,7 +540,7 @@ def hook_M(one: Any, site: int) -> Any:
     return one
 
 
-def hook_M_local(one: Any, site: int) -> Any:
+def hook_before_match_local(one: Any, site: int) -> Any:
     try:
         is_own = _has_few(one, OF_VARIABLE)
         _match(one, site, is_own, _getframe(1).f_globals)
@@ -571,7 +572,7 @@ def _touch_if_any(one: Any, site: int) -> None:
         _touch_whole(one, site, ANYBODY)
 
 
-def hook_r(value: Any, paths: tuple[Path, ...], site: int) -> Any:
+def hook_before_format(value: Any, paths: tuple[Path, ...], site: int) -> Any:
     """Before a text shows what it is given, as its template says."""
     try:
         for path in paths:
@@ -581,9 +582,9 @@ def hook_r(value: Any, paths: tuple[Path, ...], site: int) -> Any:
     return value
 
 
-def hook_R(value: Any, template: Any, name: int | str, site: int) -> Any:
+def hook_before_late_format(value: Any, template: Any, name: int | str, site: int) -> Any:
     """The same, if the template is known only now."""
-    return hook_r(value, field_paths(template, name), site) if type(template) is str else value
+    return hook_before_format(value, field_paths(template, name), site) if type(template) is str else value
 
 
 def _touch_path(value: Any, path: Path, site: int) -> None:
@@ -650,7 +651,7 @@ def _touch_iterator(one: Any, site: int, is_reached: bool) -> None:
         _touch_by_view(container, view, KEYS, site)
 
 
-def hook_f(one: Any, site: int) -> Any:
+def hook_before_loop(one: Any, site: int) -> Any:
     """Before a loop goes through a container: each step looks at it."""
     if id(type(one)) in PLAIN:
         return one
@@ -661,7 +662,7 @@ def hook_f(one: Any, site: int) -> Any:
         return one
 
 
-def hook_f_local(one: Any, site: int) -> Any:
+def hook_before_loop_local(one: Any, site: int) -> Any:
     if id(type(one)) in PLAIN:
         return one
     try:
@@ -718,7 +719,7 @@ def _stepping_on(one: Any, site: int, is_reached: bool) -> Any:
     return _steps(steps, owner_of(one, text), site, WRITE) if is_reached else steps
 
 
-def hook_u(steps: Iterable[Any], paths: tuple[tuple[int, ...], ...], site: int) -> Iterable[Any]:
+def hook_before_taking_apart(steps: Iterable[Any], paths: tuple[tuple[int, ...], ...], site: int) -> Iterable[Any]:
     """What a loop goes through, whose elements it takes apart: each of them, and what is at these places in it."""
     return map(partial(_take_apart, paths, site), steps)
 
@@ -786,7 +787,7 @@ def _went_on(owner: Owner, site: int) -> None:
 # Elements and methods
 
 
-def hook_k(one: Any, key: Any, site: int) -> Any:
+def hook_before_element(one: Any, key: Any, site: int) -> Any:
     """Before an element is touched, or a method with a key is called. It gives back the container."""
     if id(type(one)) in PLAIN:
         return one
@@ -806,7 +807,7 @@ def hook_k(one: Any, key: Any, site: int) -> Any:
     return one
 
 
-def hook_k_local(one: Any, key: Any, site: int) -> Any:
+def hook_before_element_local(one: Any, key: Any, site: int) -> Any:
     if id(type(one)) in PLAIN:
         return one
     owner = owner_at(id(one))
@@ -821,7 +822,7 @@ def hook_k_local(one: Any, key: Any, site: int) -> Any:
     return one
 
 
-def hook_K(one: Any, key: Any, site: int) -> Any:
+def hook_before_key(one: Any, key: Any, site: int) -> Any:
     """The same, but it gives back the key."""
     if id(type(one)) not in PLAIN:
         try:
@@ -831,7 +832,7 @@ def hook_K(one: Any, key: Any, site: int) -> Any:
     return key
 
 
-def hook_K_local(one: Any, key: Any, site: int) -> Any:
+def hook_before_key_local(one: Any, key: Any, site: int) -> Any:
     if id(type(one)) in PLAIN:
         return key
     owner = owner_at(id(one))
@@ -846,7 +847,7 @@ def hook_K_local(one: Any, key: Any, site: int) -> Any:
     return key
 
 
-def hook_K_kept(one: Any, key: Any, site: int) -> Any:
+def hook_before_kept_key(one: Any, key: Any, site: int) -> Any:
     """The same, of a container that is on the stack of the frame, and given by a copy."""
     if id(type(one)) not in PLAIN:
         try:
@@ -964,7 +965,7 @@ def _has_key(one: Any, key: Any) -> bool:
     return dict.__contains__(one, key)
 
 
-def hook_e(key: Any, site: int) -> Any:
+def hook_before_environment(key: Any, site: int) -> Any:
     """Before a variable of the system is read by its name."""
     try:
         _touch_keyed(os.environ, key, site, ANYBODY)
@@ -973,7 +974,7 @@ def hook_e(key: Any, site: int) -> Any:
     return key
 
 
-def hook_m(one: Any, site: int) -> Any:
+def hook_before_method(one: Any, site: int) -> Any:
     """Before a method is called that may be one of a container."""
     if id(type(one)) in PLAIN:
         return one
@@ -990,7 +991,7 @@ def hook_m(one: Any, site: int) -> Any:
     return one
 
 
-def hook_m_local(one: Any, site: int) -> Any:
+def hook_before_method_local(one: Any, site: int) -> Any:
     if id(type(one)) in PLAIN:
         return one
     owner = owner_at(id(one))
@@ -1062,7 +1063,7 @@ def _touch_method_of_object(one: Any, access: Access, site: int) -> None:
 # What comes behind its arguments
 
 
-def hook_l(value: Any, one: Any, site: int) -> Any:
+def hook_after_value(value: Any, one: Any, site: int) -> Any:
     """Behind the value that is about to be stored in a field, or handed to a method."""
     try:
         _touch_late(one, site, ANYBODY)
@@ -1071,7 +1072,7 @@ def hook_l(value: Any, one: Any, site: int) -> Any:
     return value
 
 
-def hook_l_local(value: Any, one: Any, site: int) -> Any:
+def hook_after_value_local(value: Any, one: Any, site: int) -> Any:
     try:
         _touch_late(one, site, OF_VARIABLE_IN_USE + 1)
     except Exception as fault:
@@ -1088,7 +1089,7 @@ def _touch_late(one: Any, site: int, limit: int) -> None:
         _touch_method(one, site, limit)
 
 
-def hook_L(value: Any, one: Any, key: Any, site: int) -> Any:
+def hook_after_value_of_element(value: Any, one: Any, key: Any, site: int) -> Any:
     """Behind the value that is about to be stored in an element. The stack has the container, too."""
     if id(type(one)) not in PLAIN:
         try:
@@ -1098,7 +1099,7 @@ def hook_L(value: Any, one: Any, key: Any, site: int) -> Any:
     return value
 
 
-def hook_S(_: Any, given: Any) -> Any:
+def hook_after_call(_: Any, given: Any) -> Any:
     """What a call gives, beside the object whose method was called. Hooks within the call have taken copies of that."""
     return given
 
@@ -1106,7 +1107,7 @@ def hook_S(_: Any, given: Any) -> Any:
 _HANDED = ids_of(HANDED)
 
 
-def hook_Y(function: Any) -> Any:
+def hook_before_call(function: Any) -> Any:
     """Before something is called that may be a method of a container."""
     if id(type(function)) not in _HANDED or not is_of_container(function):
         return function
@@ -1114,10 +1115,10 @@ def hook_Y(function: Any) -> Any:
     return Calling(function, (frame.f_code, frame.f_lasti))
 
 
-hook_Y_local = hook_Y
+hook_before_call_local = hook_before_call
 
 
-def hook_y(one: Any, function: Any) -> Any:
+def hook_before_named_call(one: Any, function: Any) -> Any:
     """The same of a method that is called by its name, if it is not the object's own: that one is noted already."""
     if id(type(function)) not in _HANDED or not is_of_container(function) or getattr(function, "__self__", None) is one:
         return function
@@ -1125,7 +1126,7 @@ def hook_y(one: Any, function: Any) -> Any:
     return Calling(function, (frame.f_code, frame.f_lasti))
 
 
-def hook_x(value: Any, one: Any, site: int) -> Any:
+def hook_before_argument(value: Any, one: Any, site: int) -> Any:
     """What a method is given, which may look at all of it."""
     if id(type(value)) in PLAIN:
         return value
@@ -1138,7 +1139,7 @@ def hook_x(value: Any, one: Any, site: int) -> Any:
     except Exception as fault:
         lost(fault)
         return value
-    return hook_h(value, site)
+    return hook_before_whole(value, site)
 
 
 def _touch_updated(value: Any, one: Any, site: int) -> None:
@@ -1153,7 +1154,7 @@ def _touch_updated(value: Any, one: Any, site: int) -> None:
 # Where things are made
 
 
-def hook_n(one: Any, site: int) -> Any:
+def hook_after_making(one: Any, site: int) -> Any:
     """Behind where a container is made. This hook is there while there is one task, too."""
     try:
         made_here(one, site)
@@ -1162,7 +1163,7 @@ def hook_n(one: Any, site: int) -> Any:
     return one
 
 
-def hook_N(one: Any, constructor: int) -> None:
+def hook_at_constructor(one: Any, constructor: int) -> None:
     """At the begin of a constructor."""
     frame = _getframe(2)
     if frame.f_code.co_name != CONSTRUCTOR and CONSTRUCTOR in frame.f_code.co_names:
@@ -1179,16 +1180,15 @@ def hook_N(one: Any, constructor: int) -> None:
         lost(fault)
 
 
-def hook_d() -> None:
+def hook_after_letting_go() -> None:
     """Behind where something is let go of."""
     let_go_of_some(LOOKED_THROUGH_AT_ONCE)
 
 
 # What the helper asks for, if there is one
 
-NO_TOUCH, OF_FIELD, OF_SHAPE, OF_DICT, OF_LIST, OTHER, IF_OWN, OWN_OR_OF_CLASS, OF_STEPS, DEEP, LEFT = range(11)
 What = tuple[int, Any, str, str]
-"""What a place is to a type, what its touch comes to, what an owner is called by it, and the name of a field. The helper has the same numbers."""
+"""What a place is to a type, what its touch comes to, what an owner is called by it, and the name of a field. """
 NOT_TOUCHED: What = (NO_TOUCH, None, "", "")
 LEFT_TO_PYTHON: What = (LEFT, None, "", "")
 """What the object has inside counts, and not how many refer to the object."""
@@ -1197,21 +1197,21 @@ LEFT_TO_PYTHON: What = (LEFT, None, "", "")
 def _what_of(hook: str, kind: type, site: int) -> What:
     """What the place of a hook is to a type, as the hooks above find out step by step."""
     access = ACCESSES[site]
-    if hook == "o":
+    if hook == "before_attribute":
         return _what_of_field(kind, access, site)
     if id(kind) in PLAIN:
-        is_deep = id(kind) not in FLAT and hook == "h" and _depth_of(access) in DEEP_SITES
+        is_deep = id(kind) not in FLAT and hook == "before_whole" and _depth_of(access) in DEEP_SITES
         return LEFT_TO_PYTHON if is_deep else NOT_TOUCHED
     family = family_of(kind)
-    if hook == "f":
+    if hook == "before_loop":
         return _what_of_steps(kind, family, access, site)
-    if hook == "h":
+    if hook == "before_whole":
         return _what_of_whole(kind, family, access, site)
     if family is None:
         return _what_of_object(kind, access, site)
     if access.what == "method" and has_own_method(kind, access.name):
         return NOT_TOUCHED
-    return _what_of_method(family, access, site) if hook == "m" else _what_of_key(kind, family, access)
+    return _what_of_method(family, access, site) if hook == "before_method" else _what_of_key(kind, family, access)
 
 
 def _what_of_object(kind: type, access: Access, site: int) -> What:
@@ -1323,11 +1323,13 @@ def _nothing(*_: Any) -> None:
 
 
 HOOKS: dict[str, Callable[..., Any]] = {name[5:]: one for name, one in list(globals().items()) if name.startswith("hook_")}
-ALWAYS = frozenset(("n", "N"))
+ALWAYS = frozenset(("after_making", "at_constructor"))
 BUILDS_CLASSES = "__build_class__"
 """A name of the builtins that nothing else has."""
 QUIET: dict[str, Callable[..., Any]] = {
-    **dict.fromkeys(HOOKS, _first), **dict.fromkeys(("K", "K_local", "K_kept", "S", "y"), _second), **dict.fromkeys(("g", "c", "d"), _nothing),
+    **dict.fromkeys(HOOKS, _first),
+    **dict.fromkeys(("before_key", "before_key_local", "before_kept_key", "after_call", "before_named_call"), _second),
+    **dict.fromkeys(("at_variable", "at_cell", "after_letting_go"), _nothing),
 }
 
 
@@ -1338,7 +1340,7 @@ if quick is not None:
     QUIET.update({name: quick.second for name, one in QUIET.items() if one is _second})
     QUIET.update({name: quick.nothing for name, one in QUIET.items() if one is _nothing})
     HOOKS.update({name: quick.Hook(one) for name, one in HOOKS.items() if type(one) is types.FunctionType})
-AT_THE_END = {**QUIET, "n": QUIET["o"], "N": QUIET["g"]}
+AT_THE_END = {**QUIET, "after_making": QUIET["before_attribute"], "at_constructor": QUIET["at_variable"]}
 """Hooks that need nothing of any module, where all modules are about to go."""
 QUIET.update({name: HOOKS[name] for name in ALWAYS})
 

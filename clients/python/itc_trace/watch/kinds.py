@@ -2,9 +2,18 @@
 
 from __future__ import annotations
 
+import io
+from array import array
+from collections import Counter, OrderedDict, defaultdict, deque
+
 from ..model.conflicts import ADDITION, ITERATION, KEYS, LENGTH, REMOVAL, REWRITE
 
 LIST, DICT, SET, DEQUE, BUFFER = range(5)
+TYPES: dict[int, tuple[type, ...]] = {
+    DICT: (dict, defaultdict, OrderedDict, Counter), LIST: (list, bytearray, array), SET: (set,), DEQUE: (deque,),
+    BUFFER: (io.StringIO, io.BytesIO),
+}
+"""The types of each kind. A class below one of these is of the same kind."""
 
 _COMPARISONS = "__eq__ __ne__ __lt__ __le__ __gt__ __ge__ __repr__ __str__ __format__".split()
 _ROW = {

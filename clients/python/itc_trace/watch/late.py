@@ -19,13 +19,12 @@ from ..record.noting import begin_stretch, touched_all
 from ..model.stretches import AT_BORDER, STRETCHES
 from .places import ACCESSES
 from .seen import Late, Seen
+from .both_languages import SHORTENED_AT
 from .things import OWNERS, Owner, element_of, field_of, shape_of
 
 Touches = dict[Any, Touched]
 
 READ_ONLY = "r"
-SHORTENED_AT = 64
-"""So many more stretches have touched an owner when it is tried to keep them in short."""
 ADDED, FOUND = "added", "found"
 """What `setdefault` does to a key. The two are told apart from a write and a read, since it looks and adds at once: two of them do not race."""
 LOOKING = frozenset(("r", "rw", "c", ADDED, FOUND))

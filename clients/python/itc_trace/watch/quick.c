@@ -8,6 +8,7 @@
 #include <structmember.h>
 #include <stdint.h>
 #include <string.h>
+#include "both_languages.h"  /* What the hooks in Python know, too. It is made when this is built. */
 
 #if PY_VERSION_HEX < 0x030B0000 || PY_VERSION_HEX >= 0x030E0000 || defined(Py_GIL_DISABLED)
 #error "It is for Python 3.11 to 3.13 with a global lock: others have other objects."
@@ -305,9 +306,6 @@ static PyObject *owner_called(Owner *self, PyObject *words, PyObject *named)
 
 /* What cannot be referred to weakly, and is held therefore: a ring, whose size is a power of two. */
 
-#define MOST_HELD 20000
-#define LOOKED_THROUGH 2
-#define LOOKED_THROUGH_AT_ONCE 64
 
 static struct {
     PyObject **ones;
@@ -669,13 +667,10 @@ static inline int is_seen(Owner *owner, PyObject *mark)
 
 /* What each place is to a type: decided once, for as long as the type stays as it is. */
 
-/* What is DEEP has more inside that is looked at. What is LEFT is left to Python, whoever refers to it: it has the containers inside. */
-enum what { NONE, FIELD, SHAPE, OF_DICT, OF_LIST, OTHER, OWN_FIELD, OF_CLASS, STEPS, DEEP, LEFT };
-
 typedef struct {
     PyTypeObject *type;
     unsigned version;
-    enum what what;
+    int what;
     PyObject *site, *late, *name, *field;
 } Decision;
 
@@ -705,10 +700,9 @@ static PyObject *forget(PyObject *self, PyObject *ignored)
 }
 
 /* Asks the Python part. Without a version the type cannot be told from a changed one: then it is asked each time. */
-static Decision *decide(PyTypeObject *type, PyObject *site, Decision *known, char hook)
+static Decision *decide(PyTypeObject *type, PyObject *site, Decision *known, const char *hook)
 {
-    char letter[2] = {hook, 0};
-    PyObject *found = PyObject_CallFunction(given.what_of, "sOO", letter, type, site), *late, *name, *field;
+    PyObject *found = PyObject_CallFunction(given.what_of, "sOO", hook, type, site), *late, *name, *field;
     int what;
     if (found == NULL)
         return NULL;
@@ -720,7 +714,7 @@ static Decision *decide(PyTypeObject *type, PyObject *site, Decision *known, cha
     clear_decision(known);
     known->type = type;
     known->version = HAS_VERSION(type) ? type->tp_version_tag : 0;
-    known->what = (enum what)what;
+    known->what = what;
     known->site = Py_NewRef(site);
     known->late = Py_NewRef(late);
     known->name = Py_NewRef(name);
@@ -734,7 +728,7 @@ static inline int is_same_number(PyObject *one, PyObject *other)
     return one == other || (one != NULL && PyLong_AsLong(one) == PyLong_AsLong(other));
 }
 
-static inline Decision *decision_of(PyTypeObject *type, PyObject *site, char hook)
+static inline Decision *decision_of(PyTypeObject *type, PyObject *site, const char *hook)
 {
     Decision *known = &decisions[slot_of_decision(type, PyLong_AsLong(site))];
     if (known->type == type && known->version == type->tp_version_tag && known->version != 0
@@ -758,7 +752,6 @@ static int has_own(PyObject *one, PyObject *field)
 
 /* Keeping touches. */
 
-#define SHORTENED_AT 64
 
 /* Another stretch has reached the owner. */
 static Seen *begin_seen(Owner *owner, PyObject *stretch)
@@ -922,26 +915,26 @@ static Owner *owner_in_use(PyObject *one)
     return NULL;
 }
 
-static PyObject *touch_field(PyObject *one, PyObject *site, Py_ssize_t limit, char hook)
+static PyObject *touch_field(PyObject *one, PyObject *site, Py_ssize_t limit, const char *hook)
 {
     Decision *decision = decision_of(Py_TYPE(one), site, hook);
     if (decision == NULL)
         return end_hook(one, -1);
-    enum what what = decision->what;
-    if (what == NONE)
+    int what = decision->what;
+    if (what == NO_TOUCH)
         return Py_NewRef(one);
     Owner *owner = owner_in_use(one);
     if (owner == NULL ? Py_REFCNT(one) <= limit : is_seen(owner, site))
         return Py_NewRef(one);
-    if (what == OWN_FIELD || what == OF_CLASS) {
+    if (what == IF_OWN || what == OWN_OR_OF_CLASS) {
         PyObject *field = Py_NewRef(decision->field);  /* A look into an object's own fields may have it decided anew. */
         int is_own = has_own(one, field);
         Py_DECREF(field);
-        if (is_own == 0 && what == OWN_FIELD)
+        if (is_own == 0 && what == IF_OWN)
             return Py_NewRef(one);
-        what = is_own > 0 ? FIELD : OTHER;
+        what = is_own > 0 ? OF_FIELD : OTHER;
     }
-    if (what != FIELD)
+    if (what != OF_FIELD)
         return ended(one, PyObject_CallFunctionObjArgs(given.field, one, site, NULL));
     decision = decision_of(Py_TYPE(one), site, hook);
     return decision == NULL ? end_hook(one, -1) : see(one, site, decision, one);
@@ -967,10 +960,10 @@ static PyObject *left_to_whole(PyObject *one, PyObject *site, int is_own)
 
 static PyObject *touch_whole(PyObject *one, PyObject *site, Py_ssize_t limit)
 {
-    Decision *decision = decision_of(Py_TYPE(one), site, 'h');
+    Decision *decision = decision_of(Py_TYPE(one), site, "before_whole");
     if (decision == NULL)
         return end_hook(one, -1);
-    if (decision->what == NONE)
+    if (decision->what == NO_TOUCH)
         return Py_NewRef(one);
     Owner *owner = find_owner(one);
     if (decision->what == LEFT || has_fields(one))
@@ -979,22 +972,22 @@ static PyObject *touch_whole(PyObject *one, PyObject *site, Py_ssize_t limit)
         return decision->what == DEEP ? ended(one, PyObject_CallFunctionObjArgs(given.nested, one, site, NULL)) : Py_NewRef(one);
     if (owner != NULL && is_seen(owner, site))
         return Py_NewRef(one);
-    if (decision->what == SHAPE)
+    if (decision->what == OF_SHAPE)
         return see(one, site, decision, one);
     return left_to_whole(one, site, 0);
 }
 
 static PyObject *touch_method(PyObject *one, PyObject *site, Py_ssize_t limit)
 {
-    Decision *decision = decision_of(Py_TYPE(one), site, 'm');
+    Decision *decision = decision_of(Py_TYPE(one), site, "before_method");
     if (decision == NULL)
         return end_hook(one, -1);
-    if (decision->what == NONE)
+    if (decision->what == NO_TOUCH)
         return Py_NewRef(one);
     if (decision->what == LEFT || has_fields(one))
         return ended(one, PyObject_CallFunctionObjArgs(given.method, one, site, NULL));
-    if (decision->what != SHAPE)
-        return touch_field(one, site, ANYBODY, 'm');
+    if (decision->what != OF_SHAPE)
+        return touch_field(one, site, ANYBODY, "before_method");
     Owner *owner = find_owner(one);
     if (owner == NULL ? Py_REFCNT(one) <= limit : is_seen(owner, site))
         return Py_NewRef(one);
@@ -1011,13 +1004,13 @@ static PyObject *left_to_steps(PyObject *one, PyObject *site, int is_own)
 
 static PyObject *touch_steps(PyObject *one, PyObject *site, Py_ssize_t limit)
 {
-    Decision *decision = decision_of(Py_TYPE(one), site, 'f');
+    Decision *decision = decision_of(Py_TYPE(one), site, "before_loop");
     if (decision == NULL)
         return end_hook(one, -1);
     int is_own = find_owner(one) == NULL && Py_REFCNT(one) <= limit;
     if (decision->what == LEFT || has_fields(one))
         return left_to_steps(one, site, is_own);
-    if (decision->what == NONE || is_own)
+    if (decision->what == NO_TOUCH || is_own)
         return Py_NewRef(one);
     if (decision->what == OTHER)
         return left_to_steps(one, site, 0);
@@ -1066,17 +1059,17 @@ static int saw_key(PyObject *one, PyObject *key, PyObject *site, PyObject *mark,
 
 static PyObject *touch_keyed(PyObject *one, PyObject *key, PyObject *site, Py_ssize_t limit, PyObject *back)
 {
-    Decision *decision = decision_of(Py_TYPE(one), site, 'k');
+    Decision *decision = decision_of(Py_TYPE(one), site, "before_element");
     if (decision == NULL)
         return end_hook(back, -1);
-    enum what what = decision->what;
-    if (what == NONE)
+    int what = decision->what;
+    if (what == NO_TOUCH)
         return Py_NewRef(back);
     if (what == LEFT || has_fields(one))
         return ended(back, PyObject_CallFunctionObjArgs(given.keyed, one, key, site, NULL));
     Owner *owner = find_owner(one);
-    if (what == FIELD || what == OWN_FIELD || what == OF_CLASS) {
-        PyObject *touched = touch_field(one, site, ANYBODY, 'k');
+    if (what == OF_FIELD || what == IF_OWN || what == OWN_OR_OF_CLASS) {
+        PyObject *touched = touch_field(one, site, ANYBODY, "before_element");
         Py_XDECREF(touched);
         return touched == NULL ? NULL : Py_NewRef(back);
     }
@@ -1087,7 +1080,7 @@ static PyObject *touch_keyed(PyObject *one, PyObject *key, PyObject *site, Py_ss
     if (is_simple(key) && (what != OF_LIST || PyLong_CheckExact(key))) {
         if ((mark = PyTuple_Pack(2, site, key)) == NULL)
             return end_hook(back, -1);
-        decision = decision_of(Py_TYPE(one), site, 'k');  /* What was made just now may have had it decided anew. */
+        decision = decision_of(Py_TYPE(one), site, "before_element");  /* What was made just now may have had it decided anew. */
         if (decision == NULL)
             result = -1;
         else if (owner != NULL && (owner = find_owner(one)) != NULL && is_seen(owner, mark))
@@ -1137,19 +1130,19 @@ static PyObject *touch_keyed(PyObject *one, PyObject *key, PyObject *site, Py_ss
         return result;                                                                            \
     }
 
-HOOK(o, 2, touch_field(words[0], words[1], ANYBODY, 'o'))
-HOOK(o_local, 2, touch_field(words[0], words[1], OF_VARIABLE, 'o'))
-HOOK(h, 2, touch_whole(words[0], words[1], OF_TEMPORARY))
-HOOK(h_local, 2, touch_whole(words[0], words[1], OF_VARIABLE))
-HOOK(m, 2, touch_method(words[0], words[1], OF_TEMPORARY))
-HOOK(m_local, 2, touch_method(words[0], words[1], OF_VARIABLE))
-HOOK(f, 2, touch_steps(words[0], words[1], OF_TEMPORARY))
-HOOK(f_local, 2, touch_steps(words[0], words[1], OF_VARIABLE))
-HOOK(k, 3, touch_keyed(words[0], words[1], words[2], OF_TEMPORARY, words[0]))
-HOOK(k_local, 3, touch_keyed(words[0], words[1], words[2], OF_VARIABLE, words[0]))
-HOOK(K, 3, touch_keyed(words[0], words[1], words[2], ANYBODY, words[1]))
-HOOK(K_local, 3, touch_keyed(words[0], words[1], words[2], OF_VARIABLE_IN_USE, words[1]))
-HOOK(K_kept, 3, touch_keyed(words[0], words[1], words[2], OF_VARIABLE, words[1]))
+HOOK(before_attribute, 2, touch_field(words[0], words[1], ANYBODY, "before_attribute"))
+HOOK(before_attribute_local, 2, touch_field(words[0], words[1], OF_VARIABLE, "before_attribute"))
+HOOK(before_whole, 2, touch_whole(words[0], words[1], OF_TEMPORARY))
+HOOK(before_whole_local, 2, touch_whole(words[0], words[1], OF_VARIABLE))
+HOOK(before_method, 2, touch_method(words[0], words[1], OF_TEMPORARY))
+HOOK(before_method_local, 2, touch_method(words[0], words[1], OF_VARIABLE))
+HOOK(before_loop, 2, touch_steps(words[0], words[1], OF_TEMPORARY))
+HOOK(before_loop_local, 2, touch_steps(words[0], words[1], OF_VARIABLE))
+HOOK(before_element, 3, touch_keyed(words[0], words[1], words[2], OF_TEMPORARY, words[0]))
+HOOK(before_element_local, 3, touch_keyed(words[0], words[1], words[2], OF_VARIABLE, words[0]))
+HOOK(before_key, 3, touch_keyed(words[0], words[1], words[2], ANYBODY, words[1]))
+HOOK(before_key_local, 3, touch_keyed(words[0], words[1], words[2], OF_VARIABLE_IN_USE, words[1]))
+HOOK(before_kept_key, 3, touch_keyed(words[0], words[1], words[2], OF_VARIABLE, words[1]))
 QUIET_HOOK(first, Py_MAX(count, 1), Py_NewRef(words[0]))
 QUIET_HOOK(second, Py_MAX(count, 2), Py_NewRef(words[1]))
 QUIET_HOOK(none, count, Py_NewRef(Py_None))
@@ -1165,7 +1158,7 @@ static Py_ssize_t begun_of(PyObject *one, PyObject *constructor)
     return references;
 }
 
-HOOK(o_new, 3, touch_field(words[0], words[1], find_owner(words[0]) == NULL ? begun_of(words[0], words[2]) : ANYBODY, 'o'))
+HOOK(before_attribute_of_new, 3, touch_field(words[0], words[1], find_owner(words[0]) == NULL ? begun_of(words[0], words[2]) : ANYBODY, "before_attribute"))
 
 static PyObject *touch_variable(PyObject *site)
 {
@@ -1187,13 +1180,11 @@ static PyObject *touch_cell(PyObject *function, PyObject *site)
     return ended(Py_None, PyObject_CallFunctionObjArgs(given.cell, cell, site, NULL));
 }
 
-HOOK(g, 1, touch_variable(words[0]))
-HOOK(c, 2, touch_cell(words[0], words[1]))
+HOOK(at_variable, 1, touch_variable(words[0]))
+HOOK(at_cell, 2, touch_cell(words[0], words[1]))
 
 /* Where things are made. */
 
-#define MOST_MADE 500000
-#define MOST_BEGUN 10000
 
 /* Keeps where an object was made. The last three are as in `Made` of things.py. */
 static int keep_made(PyObject *one, PyObject *code, PyObject *place, PyObject *maker)
@@ -1224,7 +1215,7 @@ static PyObject *note_made(PyObject *one, PyObject *site)
     return end_hook(one, result);
 }
 
-HOOK(n, 2, note_made(words[0], words[1]))
+HOOK(after_making, 2, note_made(words[0], words[1]))
 
 static int is_constructor(PyCodeObject *code)
 {
@@ -1286,9 +1277,9 @@ static PyObject *note_constructor(PyObject *one, PyObject *constructor)
     return end_hook(Py_None, result);
 }
 
-HOOK(N, 2, note_constructor(words[0], words[1]))
+HOOK(at_constructor, 2, note_constructor(words[0], words[1]))
 
-static PyObject *hook_d(PyObject *self, PyObject *ignored)
+static PyObject *hook_after_letting_go(PyObject *self, PyObject *ignored)
 {
     return end_hook(Py_None, let_go_of_some(LOOKED_THROUGH_AT_ONCE));
 }
@@ -1488,12 +1479,12 @@ static PyObject *references(PyObject *self, PyObject *const *words, Py_ssize_t c
 #define FAST(name, function) {name, (PyCFunction)(void (*)(void))function, METH_FASTCALL, NULL}
 
 static PyMethodDef methods[] = {
-    FAST("hook_o", hook_o), FAST("hook_o_local", hook_o_local), FAST("hook_w", hook_o), FAST("hook_w_local", hook_o_local),
-    FAST("hook_o_new", hook_o_new), FAST("hook_h", hook_h), FAST("hook_h_local", hook_h_local), FAST("hook_m", hook_m),
-    FAST("hook_m_local", hook_m_local), FAST("hook_f", hook_f), FAST("hook_f_local", hook_f_local), FAST("hook_k", hook_k),
-    FAST("hook_k_local", hook_k_local), FAST("hook_K", hook_K), FAST("hook_K_local", hook_K_local), FAST("hook_K_kept", hook_K_kept), FAST("hook_S", hook_second), FAST("hook_c", hook_c),
-    FAST("hook_g", hook_g), FAST("hook_n", hook_n), FAST("hook_N", hook_N), {"hook_d", hook_d, METH_NOARGS, NULL},
-    FAST("hook_v", hook_first), FAST("first", hook_first), FAST("second", hook_second), FAST("nothing", hook_none), FAST("references", references),
+    FAST("hook_before_attribute", hook_before_attribute), FAST("hook_before_attribute_local", hook_before_attribute_local), FAST("hook_before_called_attribute", hook_before_attribute), FAST("hook_before_called_attribute_local", hook_before_attribute_local),
+    FAST("hook_before_attribute_of_new", hook_before_attribute_of_new), FAST("hook_before_whole", hook_before_whole), FAST("hook_before_whole_local", hook_before_whole_local), FAST("hook_before_method", hook_before_method),
+    FAST("hook_before_method_local", hook_before_method_local), FAST("hook_before_loop", hook_before_loop), FAST("hook_before_loop_local", hook_before_loop_local), FAST("hook_before_element", hook_before_element),
+    FAST("hook_before_element_local", hook_before_element_local), FAST("hook_before_key", hook_before_key), FAST("hook_before_key_local", hook_before_key_local), FAST("hook_before_kept_key", hook_before_kept_key), FAST("hook_after_call", hook_second), FAST("hook_at_cell", hook_at_cell),
+    FAST("hook_at_variable", hook_at_variable), FAST("hook_after_making", hook_after_making), FAST("hook_at_constructor", hook_at_constructor), {"hook_after_letting_go", hook_after_letting_go, METH_NOARGS, NULL},
+    FAST("hook_after_binding", hook_first), FAST("first", hook_first), FAST("second", hook_second), FAST("nothing", hook_none), FAST("references", references),
     FAST("owner_of", owner_of),
     {"setup", (PyCFunction)(void (*)(void))setup, METH_VARARGS | METH_KEYWORDS, NULL},
     {"forget", forget, METH_NOARGS, NULL},

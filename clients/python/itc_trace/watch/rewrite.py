@@ -188,7 +188,7 @@ class Rewriter:
     def _operand(self, node: Any, hook: str, *words: Any) -> ast.expr:
         """The expression, passed through a hook."""
         name = self._named_for(hook, node)
-        if name == "o_new":
+        if name == "before_attribute_of_new":
             words = (*words, self._scope.constructor)
         if not self._is_guarding:
             return self._hook(name, node, self._visit(node), *words)
@@ -200,11 +200,11 @@ class Rewriter:
         """The hook of a variable that only its function has, and of the object that a constructor makes."""
         if not self._is_local(node):
             return hook
-        return "o_new" if hook == "o" and node.id == self._scope.made else hook + "_local"
+        return "before_attribute_of_new" if hook == "before_attribute" and node.id == self._scope.made else hook + "_local"
 
     def _key_of(self, owner: Any, key: Any, site: int) -> ast.expr:
         """The key, passed through a hook with the variable that has the container."""
-        name = "K_local" if self._is_local(owner) else "K"
+        name = "before_key_local" if self._is_local(owner) else "before_key"
         return self._hook(name, key, owner.twin, self._child(key), site)
 
     def _behind(self, hook: str, owner: Any, made: Any, site: int) -> ast.expr:
@@ -328,10 +328,10 @@ class Rewriter:
         made = "" if line is None else f"a variable made at {os.path.basename(self._file)}:{line}"
         site = self._site(node, "variable", kinds, name, made)
         if owner.kind == MODULE:
-            return self._hook("g", node, site)
+            return self._hook("at_variable", node, site)
         empty = ast.arguments(posonlyargs=[], args=[], kwonlyargs=[], kw_defaults=[], defaults=[])
         looked = ast.Lambda(empty, ast.copy_location(ast.Name(name, ast.Load()), node))
-        return self._hook("c", node, ast.copy_location(looked, node), site)
+        return self._hook("at_cell", node, ast.copy_location(looked, node), site)
 
     def _bindings(self, target: Any) -> Iterator[ast.Name]:
         kind = type(target)
@@ -402,7 +402,7 @@ class Rewriter:
             node.value = node.value if _is_hook(node.value) else self._child(node.value)
         self._store_targets(node)
         if isinstance(node.value, ast.Constant) and node.value.value is None:
-            self._after.append(ast.copy_location(ast.Expr(self._hook("d", node)), node))
+            self._after.append(ast.copy_location(ast.Expr(self._hook("after_letting_go", node)), node))
         return node
 
     def _store_targets(self, node: ast.Assign) -> None:
@@ -434,7 +434,7 @@ class Rewriter:
                 loaded = ast.copy_location(ast.Name(target.id, ast.Load()), target)
                 kind = IN_PLACE[type(node.op)]
                 site = self._site(node, "whole", kind, "", self._text(target), IN_PLACE_METHODS[kind])
-                self._before.append(ast.copy_location(ast.Expr(self._hook(self._named_for("h", target), node, loaded, site)), node))
+                self._before.append(ast.copy_location(ast.Expr(self._hook(self._named_for("before_whole", target), node, loaded, site)), node))
             node.value = self._added(node)
         elif isinstance(target, ast.Attribute):
             self._augment_attribute(node, target, is_late)
@@ -457,29 +457,29 @@ class Rewriter:
         owner: Any = target.value
         name, text = self._mangled(target.attr), self._text(target)
         if target.attr == "__dict__":
-            target.value = self._operand(owner, "B", self._site(node, "field", "w"))
+            target.value = self._operand(owner, "before_new_fields", self._site(node, "field", "w"))
             node.value = self._added(node)
             return
         in_place = IN_PLACE[type(node.op)] if self._is_in_place(node) else ""
         if not is_late:
-            target.value = self._operand(owner, "o", self._site(node, "field", "rw", name, in_place))
+            target.value = self._operand(owner, "before_attribute", self._site(node, "field", "rw", name, in_place))
             node.value = self._added(node)
             return
         reads = self._site(node, "field", "r", name, in_place)
         writes = self._site(node, "field", "w", name, text)
         if isinstance(owner, ast.Name):
-            target.value = self._operand(owner, "o", reads)
-            node.value = self._behind("l", owner, self._added(node), writes)
+            target.value = self._operand(owner, "before_attribute", reads)
+            node.value = self._behind("after_value", owner, self._added(node), writes)
         else:
-            target.value = self._operand(owner, "o", reads)
+            target.value = self._operand(owner, "before_attribute", reads)
             kept = on_stack.copy(on_stack.FIELD_ADDED_TO, node.value)
-            node.value = self._hook("l", node.value, self._added(node), kept, writes)
+            node.value = self._hook("after_value", node.value, self._added(node), kept, writes)
 
     def _augment_subscript(self, node: ast.AugAssign, target: ast.Subscript, is_late: bool) -> None:
         owner: Any = target.value
         text = self._text(owner)
         if isinstance(target.slice, ast.Slice):
-            target.value = self._operand(owner, "h", self._site(node, "whole", REWRITE, "", text))
+            target.value = self._operand(owner, "before_whole", self._site(node, "whole", REWRITE, "", text))
             target.slice, node.value = self._child(target.slice), self._added(node)
             return
         if not is_late:
@@ -491,16 +491,16 @@ class Rewriter:
         reads, writes = self._site(node, "element", "r", "", text), self._site(node, "element", "w", "", text)
         if isinstance(owner, ast.Name) and self._is_simple(key):
             self._element(target, reads)
-            node.value = self._hook("L", node.value, self._added(node), owner.twin, key.twin, writes)  # type: ignore[attr-defined]
+            node.value = self._hook("after_value_of_element", node.value, self._added(node), owner.twin, key.twin, writes)  # type: ignore[attr-defined]
         else:
             self._element_on_stack(target, reads)
             kept = [on_stack.copy(form, node.value) for form in (on_stack.ITEM_ADDED_TO, on_stack.KEY_ADDED_TO)]
-            node.value = self._hook("L", node.value, self._added(node), *kept, writes)
+            node.value = self._hook("after_value_of_element", node.value, self._added(node), *kept, writes)
 
     def _simple_Delete(self, node: ast.Delete) -> ast.stmt:
         node.targets = [self._child(target) for target in node.targets]
         self._after += self._stores([target.twin for target in node.targets if hasattr(target, "twin")], node)
-        self._after.append(ast.copy_location(ast.Expr(self._hook("d", node)), node))
+        self._after.append(ast.copy_location(ast.Expr(self._hook("after_letting_go", node)), node))
         return node
 
     def _simple_Assert(self, node: ast.Assert) -> ast.stmt:
@@ -515,7 +515,7 @@ class Rewriter:
             return value
         is_of_class = self._scope.kind == CLASS and isinstance(target, ast.Name)
         name = f"{self._scope.class_name}.{target.id}" if is_of_class else self._text(target)
-        return self._hook("n", value, self._child(value), self._site(value, "made", "", "", name))
+        return self._hook("after_making", value, self._child(value), self._site(value, "made", "", "", name))
 
     # Compound statements
 
@@ -551,7 +551,7 @@ class Rewriter:
         """Has a constructor tell where it was called."""
         place = 1 if ast.get_docstring(node, clean=False) is not None else 0
         at = node.body[min(place, len(node.body) - 1)]
-        call = self._hook("N", at, ast.copy_location(ast.Name(name, ast.Load()), at), constructor)
+        call = self._hook("at_constructor", at, ast.copy_location(ast.Name(name, ast.Load()), at), constructor)
         node.body.insert(place, ast.copy_location(ast.Expr(call), at))
 
     def _visit_defaults(self, arguments: ast.arguments) -> None:
@@ -630,7 +630,7 @@ class Rewriter:
 
     def _do_Match(self, node: ast.Match) -> list[ast.stmt]:
         site = self._patterns.site_of(node)
-        node.subject = self._guarded(node.subject, None if site is None else lambda subject: self._operand(subject, "M", site))
+        node.subject = self._guarded(node.subject, None if site is None else lambda subject: self._operand(subject, "before_match", site))
         for case in node.cases:
             if case.guard is not None:
                 case.guard = self._guarded(case.guard, self._truth)
@@ -673,7 +673,7 @@ class Rewriter:
 
     def _keyword(self, node: ast.keyword, is_of_print: bool = False) -> None:
         if is_of_print and node.arg == "file" and isinstance(node.value, GIVEN) and not self._is_foreign(node.value):
-            node.value = self._operand(node.value, "m", self._site(node.value, "method", "", "write", self._text(node.value)))
+            node.value = self._operand(node.value, "before_method", self._site(node.value, "method", "", "write", self._text(node.value)))
         elif node.arg == "key" and isinstance(node.value, GIVEN):
             node.value = self._handed(node.value)
         elif node.arg is None:
@@ -693,13 +693,13 @@ class Rewriter:
         passed_over.look_at_attribute(node, self._learned)
         if node.attr == "__dict__":
             is_read = isinstance(node.ctx, ast.Load)
-            node.value = self._operand(node.value, "D") if is_read else self._operand(node.value, "B", self._site(node, "field", "w"))
+            node.value = self._operand(node.value, "before_fields") if is_read else self._operand(node.value, "before_new_fields", self._site(node, "field", "w"))
         elif node.attr.startswith("__") and node.attr.endswith("__") or self._is_never_changed(node):
             node.value = self._child(node.value)
         else:
             kinds = "r" if isinstance(node.ctx, ast.Load) else "w"
             words = DELETED if isinstance(node.ctx, ast.Del) else None
-            node.value = self._operand(node.value, "o", self._site(node, "field", kinds, self._mangled(node.attr), words=words))
+            node.value = self._operand(node.value, "before_attribute", self._site(node, "field", kinds, self._mangled(node.attr), words=words))
         return node
 
     def _is_never_changed(self, node: ast.Attribute) -> bool:
@@ -713,7 +713,7 @@ class Rewriter:
             return self._generic(node)  # type: ignore[no-any-return]
         if isinstance(node.slice, ast.Slice):
             whole, methods = ITERATION if kinds == "r" else REWRITE, METHODS_OF_SLICES[kinds]
-            node.value = self._operand(node.value, "h", self._site(node, "whole", whole, "", self._text(node.value), methods))
+            node.value = self._operand(node.value, "before_whole", self._site(node, "whole", whole, "", self._text(node.value), methods))
             node.slice = self._child(node.slice)
         else:
             self._element(node, self._site(node, "element", kinds, "", self._text(node.value)))
@@ -724,7 +724,7 @@ class Rewriter:
         owner: Any = node.value
         key: Any = node.slice
         if self._is_simple(key):
-            node.value = self._operand(owner, "k", key.twin, site)
+            node.value = self._operand(owner, "before_element", key.twin, site)
             node.slice = self._child(key)
         elif isinstance(owner, ast.Name):
             node.value = self._child(owner)
@@ -738,7 +738,7 @@ class Rewriter:
 
     def _key_behind(self, kept: ast.expr, key: Any, site: int) -> ast.expr:
         """The key, passed through a hook with the container that is on the stack."""
-        return self._hook("K_kept", key, kept, self._child(key), site)
+        return self._hook("before_kept_key", key, kept, self._child(key), site)
 
     def _visit_Call(self, node: ast.Call) -> ast.expr:
         self._name_handed(node)
@@ -749,7 +749,7 @@ class Rewriter:
             return self._call_stepping(node)
         if name == "os.getenv" and node.args and not isinstance(node.args[0], ast.Starred):
             node.args = [self._child(one) for one in node.args]
-            node.args[0] = self._hook("e", node.args[0], node.args[0], self._site(node, "method", "", "get", "os.environ"))
+            node.args[0] = self._hook("before_environment", node.args[0], node.args[0], self._site(node, "method", "", "get", "os.environ"))
             return node
         known = known_function(name)
         if known is not None:
@@ -761,7 +761,7 @@ class Rewriter:
             return self._call_method(node, node.func)
         if isinstance(node.func, ast.Name) and self._is_builtin(node.func.id):
             if node.func.id == "globals" and not node.args:
-                return self._hook("G", node, node)
+                return self._hook("after_variables", node, node)
             self._arguments_of_builtin(node, node.func.id)
         else:
             node.func = self._handed(node.func)
@@ -803,7 +803,7 @@ class Rewriter:
             is_handed = node.attr in METHODS or self._learned.is_field(node.attr)
         else:
             is_handed = isinstance(node, GIVEN)
-        return self._operand(node, "Y") if is_handed else self._child(node)
+        return self._operand(node, "before_call") if is_handed else self._child(node)
 
     def _call_known(self, node: ast.Call, kinds: str, depth: str, name: str) -> ast.expr:
         """A function of the library that looks at its arguments, or changes the first one."""
@@ -813,7 +813,7 @@ class Rewriter:
         is_joined = name == "functools.reduce" and any((self._import_of(one) or "").startswith("operator.") for one in node.args[:1])
         for place, one in enumerate(node.args):
             if place == changed and not isinstance(one, ast.Starred):
-                node.args[place] = self._operand(one, "h", self._site_of_whole(one, kinds, depth))
+                node.args[place] = self._operand(one, "before_whole", self._site_of_whole(one, kinds, depth))
             elif place == 0 and name == "functools.reduce":
                 node.args[0] = self._handed(one)
             else:
@@ -837,9 +837,9 @@ class Rewriter:
             if isinstance(one, ast.Attribute) and one.attr in METHODS:
                 node.args[place] = self._handed(one)
             elif isinstance(one, ast.Starred):
-                one.value = self._operand(one.value, "h", self._site_of_whole(one.value, KEYS, EACH))
+                one.value = self._operand(one.value, "before_whole", self._site_of_whole(one.value, KEYS, EACH))
             elif isinstance(one, GIVEN):
-                node.args[place] = self._operand(one, "f", self._site_of_whole(one, KEYS))
+                node.args[place] = self._operand(one, "before_loop", self._site_of_whole(one, KEYS))
             else:
                 node.args[place] = self._child(one)
         for keyword in node.keywords:
@@ -850,7 +850,7 @@ class Rewriter:
         if name in OF_ATTRIBUTES and len(node.args) > 1:
             self._attribute_by_name(node, OF_ATTRIBUTES[name])
         elif name == "vars" and len(node.args) == 1 and not isinstance(node.args[0], ast.Starred):
-            node.args = [self._operand(node.args[0], "D")]
+            node.args = [self._operand(node.args[0], "before_fields")]
         elif name in READERS or name in STEPPERS:
             is_called = name in ("map", "filter") or name == "iter" and len(node.args) > 1
             depth = TRUTH if name in ("any", "all") else EACH if name == "sum" and len(node.args) > 1 else ""
@@ -865,13 +865,13 @@ class Rewriter:
         site = self._site(node, "field", kinds, words=OF_BASE if isinstance(node.func, ast.Attribute) else None)
         name: Any = node.args[1]
         if self._is_simple(name):
-            node.args = [self._operand(node.args[0], "A", name.twin, site), *(self._child(one) for one in node.args[1:])]
+            node.args = [self._operand(node.args[0], "before_named_attribute", name.twin, site), *(self._child(one) for one in node.args[1:])]
             return
         node.args = [self._child(one) for one in node.args]
         if not any(isinstance(one, ast.Starred) for one in node.args):
             last = len(node.args) - 1
             kept = [on_stack.copy(on_stack.form_of_argument(place, last), node.args[last]) for place in range(min(last, 2))]
-            node.args[last] = self._hook("I" if last == 1 else "J", node.args[last], node.args[last], *kept, site)
+            node.args[last] = self._hook("given_name" if last == 1 else "given_with_name", node.args[last], node.args[last], *kept, site)
 
     def _is_made(self, node: Any) -> bool:
         """Whether it is a call of a function of the language that gives something new."""
@@ -880,12 +880,12 @@ class Rewriter:
 
     def _looked_at(self, node: Any, name: str, depth: str) -> ast.expr:
         if name in STEPPERS and isinstance(node, GIVEN) and not self._is_made(node):
-            return self._operand(node, "f", self._site_of_whole(node, READERS[name]))
+            return self._operand(node, "before_loop", self._site_of_whole(node, READERS[name]))
         if isinstance(node, ast.Starred) and name in STEPPERS:
-            node.value = self._operand(node.value, "h", self._site_of_whole(node.value, KEYS, EACH))
+            node.value = self._operand(node.value, "before_whole", self._site_of_whole(node.value, KEYS, EACH))
             return node
         if isinstance(node, ast.Starred) and name in SHOWING and isinstance(node.value, GIVEN):
-            node.value = self._operand(node.value, "h", self._site_of_whole(node.value, ITERATION, SHOWING[name]))
+            node.value = self._operand(node.value, "before_whole", self._site_of_whole(node.value, ITERATION, SHOWING[name]))
             return node
         if isinstance(node, ast.Starred) or name in STEPPERS:
             return self._child(node)  # type: ignore[no-any-return]
@@ -907,7 +907,7 @@ class Rewriter:
         elif name not in METHODS or self._is_foreign_container(owner):
             given = node.args
             called = self._called(func)
-            node.func = self._hook("Y", func, called) if self._learned.is_field(name) and not self._is_foreign(owner) else called
+            node.func = self._hook("before_call", func, called) if self._learned.is_field(name) and not self._is_foreign(owner) else called
             node.args = [self._argument(one, func, owner) for one in given]
             if name in TEMPLATES:
                 return self._call_template(node, func)
@@ -918,7 +918,7 @@ class Rewriter:
         else:
             words = [keyword.arg for keyword in node.keywords] if self._is_of_fields(owner) else None
             is_known = words is not None and None not in words and len(node.args) < 2
-            func.value = self._operand(owner, "m", self._site(node, "method", "", name, self._text(owner), words if is_known else None))
+            func.value = self._operand(owner, "before_method", self._site(node, "method", "", name, self._text(owner), words if is_known else None))
             node.args = [self._argument(one, func, owner) for one in node.args]
         if name in METHODS and any(map(self._learned.is_field, DELEGATING)) and not self._is_foreign(owner):
             self._call_delegated(node, func)
@@ -929,7 +929,7 @@ class Rewriter:
     def _call_delegated(self, node: ast.Call, func: ast.Attribute) -> None:
         """A method that an object may have found at another one, by a method of its own for what it has not."""
         owner, func.value = func.value, on_stack.copy(on_stack.OF_OWNER, func)
-        node.func = self._hook("y", func, owner, func)
+        node.func = self._hook("before_named_call", func, owner, func)
 
     def _call_template(self, node: ast.Call, func: ast.Attribute) -> ast.expr:
         """What a template puts in by its name is looked at, too."""
@@ -964,7 +964,7 @@ class Rewriter:
         else:
             func.value = self._child(owner)
             me = self._owner_wanted(node)
-        node.args[0] = self._hook("I", given[0], node.args[0], me, site)
+        node.args[0] = self._hook("given_name", given[0], node.args[0], me, site)
 
     def _is_super_of_any(self, node: Any) -> bool:
         return isinstance(node, ast.Call) and isinstance(node.func, ast.Name) and node.func.id == "super"
@@ -998,8 +998,8 @@ class Rewriter:
         site = self._site(node, "whole", ITERATION, SHOWN, self._text(node))
         if isinstance(template, str):
             paths = field_paths(template, name)
-            return self._hook("r", node, self._child(node), ast.Constant(paths), site) if paths else self._child(node)
-        return self._hook("R", node, self._child(node), template, name, site)
+            return self._hook("before_format", node, self._child(node), ast.Constant(paths), site) if paths else self._child(node)
+        return self._hook("before_late_format", node, self._child(node), template, name, site)
 
     def _call_of_base(self, node: ast.Call, func: ast.Attribute) -> None:
         """A method of the container that the object itself is, as in `super().append(one)`."""
@@ -1008,11 +1008,11 @@ class Rewriter:
         given: list[Any] = node.args
         node.args = [self._child(one) for one in given]
         if func.attr in KEYED and given and not isinstance(given[0], ast.Starred):
-            node.args[0] = self._hook("K", given[0], me, node.args[0], site)
+            node.args[0] = self._hook("before_key", given[0], me, node.args[0], site)
         elif given and not isinstance(given[-1], ast.Starred):
-            node.args[-1] = self._hook("l", given[-1], node.args[-1], me, site)
+            node.args[-1] = self._hook("after_value", given[-1], node.args[-1], me, site)
         else:
-            func.value = self._hook("l", func.value, func.value, me, site)
+            func.value = self._hook("after_value", func.value, func.value, me, site)
 
     def _call_unbound(self, node: ast.Call, func: ast.Attribute) -> None:
         """A function of a class that is given the container first, as in `list.append(items, one)`."""
@@ -1030,7 +1030,7 @@ class Rewriter:
         if is_keyed:
             key: Any = given[1]
             return [self._child(owner), self._key_behind(on_stack.copy(on_stack.GIVEN_FIRST, key), key, site), *rest]
-        return [self._operand(owner, "m", site), *rest]
+        return [self._operand(owner, "before_method", site), *rest]
 
     def _is_container_class(self, node: Any) -> bool:
         if isinstance(node, ast.Name) and self._is_builtin(node.id):
@@ -1045,14 +1045,14 @@ class Rewriter:
         if kinds is None or not is_given or self._is_foreign(node) or self._is_made(node) or self._import_of(owner) is not None:
             return self._child(node)
         if isinstance(node, ast.Starred):
-            node.value = self._operand(node.value, "h", self._site_of_whole(node.value, kinds, EACH))
+            node.value = self._operand(node.value, "before_whole", self._site_of_whole(node.value, kinds, EACH))
             return node
         if isinstance(owner, (ast.Constant, ast.JoinedStr)) or isinstance(owner, ast.Name) and self._is_builtin(owner.id):
             return self._whole(node, kinds, EACH if is_bytes else DEPTHS_OF_METHODS.get(func.attr, ""))
         site = self._site(node, "given", kinds, func.attr, self._text(node), OF_KEYS if kinds == KEYS or func.attr == "update" else None)
         if isinstance(owner, ast.Name):
-            return self._hook("x", node, self._child(node), owner.twin, site)  # type: ignore[attr-defined]
-        return self._hook("x", node, self._child(node), self._owner_wanted(node), site)
+            return self._hook("before_argument", node, self._child(node), owner.twin, site)  # type: ignore[attr-defined]
+        return self._hook("before_argument", node, self._child(node), self._owner_wanted(node), site)
 
     def _owner_wanted(self, node: ast.AST) -> ast.expr:
         self._wanted += 1
@@ -1077,7 +1077,7 @@ class Rewriter:
         for place, hook, word in wanting:
             if word is not None:
                 hook.args[word] = on_stack.copy(forms[place], hook.args[word])
-        return self._hook("S", node, self._owner_taken(node, func, function), node)
+        return self._hook("after_call", node, self._owner_taken(node, func, function), node)
 
     @staticmethod
     def _form_of_function(function: Any) -> str:
@@ -1099,7 +1099,7 @@ class Rewriter:
         """An expression, all of which is looked at if it is a container, and no class of the program has one of the methods."""
         is_looked_at = isinstance(node, GIVEN) and not self._is_foreign_container(node) and not self._is_made(node)
         if is_looked_at or depth and isinstance(node, (*DISPLAYS, ast.Tuple)):
-            return self._operand(node, "h", self._site_of_whole(node, kinds, depth, methods))
+            return self._operand(node, "before_whole", self._site_of_whole(node, kinds, depth, methods))
         return self._child(node)
 
     def _site_of_whole(self, node: Any, kinds: str, depth: str = "", methods: tuple[str, ...] | None = None) -> int:
@@ -1146,7 +1146,7 @@ class Rewriter:
             return func
         if func.attr.startswith("__") or self._is_foreign(func.value):
             return self._child(func)  # type: ignore[no-any-return]
-        func.value = self._operand(func.value, "w", self._site(func, "field", "r", func.attr))
+        func.value = self._operand(func.value, "before_called_attribute", self._site(func, "field", "r", func.attr))
         return func
 
     def _call_keyed(self, node: ast.Call, func: ast.Attribute, site: int) -> None:
@@ -1154,14 +1154,14 @@ class Rewriter:
         first: Any = node.args[0]
         rest = [self._child(one) for one in node.args[1:]]
         if self._is_simple(first):
-            func.value = self._operand(owner, "k", first.twin, site)
+            func.value = self._operand(owner, "before_element", first.twin, site)
             node.args = [self._child(first), *rest]
         elif isinstance(owner, ast.Name):
             func.value = self._child(owner)
             node.args = [self._key_of(owner, first, site), *rest]
         else:
             func.value = self._child(owner)
-            node.args = [self._hook("K_local", first, self._owner_wanted(first), self._child(first), site), *rest]
+            node.args = [self._hook("before_key_local", first, self._owner_wanted(first), self._child(first), site), *rest]
 
     def _call_late(self, node: ast.Call, func: ast.Attribute, site: int) -> None:
         """A method whose argument takes its time: the touch comes behind it."""
@@ -1170,11 +1170,11 @@ class Rewriter:
         rest = [self._child(one) for one in node.args[:-1]]
         if isinstance(owner, ast.Name):
             func.value = self._child(owner)
-            node.args = [*rest, self._behind("l", owner, self._argument(last, func, owner), site)]
+            node.args = [*rest, self._behind("after_value", owner, self._argument(last, func, owner), site)]
         else:
             func.value = self._child(owner)
             made = self._whole(last, CONSUMING[func.attr]) if func.attr in CONSUMING else self._child(last)
-            node.args = [*rest, self._hook("l_local", last, made, self._owner_wanted(last), site)]
+            node.args = [*rest, self._hook("after_value_local", last, made, self._owner_wanted(last), site)]
 
     def _visit_Compare(self, node: ast.Compare) -> ast.expr:
         if len(node.ops) != 1 or not isinstance(node.ops[0], (ast.In, ast.NotIn)):
@@ -1186,13 +1186,13 @@ class Rewriter:
         site = self._site(node, "element", "c", "", self._text(owner))
         if self._is_simple(left):
             node.left = self._child(left)
-            node.comparators = [self._operand(owner, "k", left.twin, site)]
+            node.comparators = [self._operand(owner, "before_element", left.twin, site)]
         elif isinstance(owner, ast.Name):
-            node.left = self._hook("K", left, owner.twin, self._child(left), site)  # type: ignore[attr-defined]
+            node.left = self._hook("before_key", left, owner.twin, self._child(left), site)  # type: ignore[attr-defined]
             node.comparators = [self._child(owner)]
         else:
             node.left = self._child(left)
-            node.comparators = [self._operand(owner, "k", on_stack.copy(on_stack.LOOKED_FOR, owner), site)]
+            node.comparators = [self._operand(owner, "before_element", on_stack.copy(on_stack.LOOKED_FOR, owner), site)]
         return node
 
     def _compare_values(self, node: ast.Compare) -> ast.expr:
@@ -1211,7 +1211,7 @@ class Rewriter:
     def _truth(self, node: Any) -> Any:
         """An expression whose truth is asked for: that of a container is its length."""
         if isinstance(node, (*REACHED, ast.Call, ast.NamedExpr)) and not self._is_foreign(node) and not self._is_made(node):
-            return self._operand(node, "h", self._site(node, "whole", LENGTH, "", self._text(node), METHODS_OF_READERS["bool"]))
+            return self._operand(node, "before_whole", self._site(node, "whole", LENGTH, "", self._text(node), METHODS_OF_READERS["bool"]))
         if isinstance(node, ast.BoolOp):
             node.values = [self._part(one, self._truth) for one in node.values]
             return node
@@ -1254,7 +1254,7 @@ class Rewriter:
     def _visit_NamedExpr(self, node: ast.NamedExpr) -> ast.expr:
         node.value = self._child(node.value)
         if self._is_shared(node.target.id):
-            node.value = self._hook("v", node.value, node.value, self._variable(node, node.target.id, "w"))
+            node.value = self._hook("after_binding", node.value, node.value, self._variable(node, node.target.id, "w"))
         return node
 
     def _visit_Lambda(self, node: ast.Lambda) -> ast.expr:
@@ -1297,7 +1297,7 @@ class Rewriter:
     def _iteration(self, node: Any) -> Any:
         """What a loop goes through: each step is a look at it."""
         if isinstance(node, GIVEN) and not self._is_foreign_container(node) and not self._is_made(node):
-            return self._operand(node, "f", self._site_of_whole(node, KEYS))
+            return self._operand(node, "before_loop", self._site_of_whole(node, KEYS))
         return self._visit(node)
 
 
@@ -1308,7 +1308,7 @@ class Rewriter:
             return self._guarded(node, self._iteration)
         text = self._text(node)
         site = self._site(node, "whole", ITERATION, "", text and f"{text}[..]")
-        return self._guarded(node, lambda one: self._hook("u", one, self._iteration(one), paths, site))
+        return self._guarded(node, lambda one: self._hook("before_taking_apart", one, self._iteration(one), paths, site))
 
 
 _SIMPLE: dict[type, Callable[[Rewriter, Any], Any]] = {

@@ -21,6 +21,7 @@ from ..model.frames import line_of
 from ..model.lines import Line, Touched, state
 from ..record.noting import line_of_now
 from ..model.stretches import SITES
+from .both_languages import LOOKED_THROUGH, MOST_HELD, MOST_MADE
 from .decisions import name_of
 from .helper import quick
 from .keys import UNKNOWN
@@ -29,9 +30,6 @@ from .seen import NEVER
 
 FIRST_NUMBER_OF_OWNERS = 1 << 32
 """The keys of touches are numbers: that of the owner, which is a multiple of this, and that of the place."""
-MOST_HELD = 20_000
-LOOKED_THROUGH = 2
-MOST_MADE = 500_000
 LONGEST_KEY = 30
 
 
