@@ -42,6 +42,8 @@ OF_A_SYSTEM = 5
 """So many programs at most are processes of one system."""
 FEW = 4
 """So many are that run with a race and without one."""
+DIVIDED = ("go",)
+"""Clients whose trace goes on in another part before it is full, where the relay divides it."""
 ALONE = ("many", "filling", "contended")
 """Programs that need most of a trace for themselves."""
 MOST_SECONDS = 300
@@ -316,6 +318,18 @@ def check_stop(programs: Programs, reply: Reply, cause: str, reason: str, name: 
         raise Wrong(f"{ran.stderr}, and the journal ends with {journal[-1]}")
 
 
+def check_full(programs: Programs) -> None:
+    """The program goes on if the trace is full. So it is at a collector that nobody divides the trace of."""
+    with Collector("trace") as collector, tempfile.TemporaryDirectory() as folder:
+        journal = Path(folder) / "journal"
+        environment = {**os.environ, "ITC_TRACE_PORT": str(collector.port), "ITC_TRACE_JOURNAL": str(journal)}
+        ran = subprocess.run(programs.words("filling"), env=environment, capture_output=True, text=True, timeout=MOST_SECONDS)
+        last = json.loads(journal.read_text().splitlines()[-1])
+    reason = "the trace is full (413 events full)"
+    if (ran.returncode, ran.stdout, ran.stderr) != (0, "done\n", f"itc_trace: tracing stops: {reason}\n") or last != {"unseen": "full", "text": reason}:
+        raise Wrong(f"status {ran.returncode}: {ran.stdout}{ran.stderr}, and the journal ends with {last}")
+
+
 def check_message_is_sent(programs: Programs) -> None:
     """A message is handed on once the collector has it, and no earlier."""
     with tempfile.TemporaryDirectory() as folder:
@@ -449,7 +463,7 @@ def fails_again(check: Check, fault: Exception) -> bool:
 
 def systems_of(statuses: dict[str, int]) -> Iterator[dict[str, int]]:
     """The programs that are run together. Those that need a trace for themselves take longest, and come first."""
-    yield from ({name: statuses[name]} for name in ALONE)
+    yield from ({name: statuses[name]} for name in ALONE if name in statuses)
     others = [name for name in statuses if name not in ALONE]
     for first in range(0, len(others), OF_A_SYSTEM):
         yield {name: statuses[name] for name in others[first:first + OF_A_SYSTEM]}
@@ -459,9 +473,12 @@ def main() -> int:
     checks = [Check(["table"], check_table, ())]
     for language in sys.argv[2:]:
         programs = Programs(language, Path(sys.argv[1]))
+        own = {**COMMON, **OWN[language]}
+        if language in DIVIDED:
+            del own["filling"]
+            checks.append(Check([f"{language}: filling"], check_full, (programs,)))
         checks += [
-            Check([f"{language}: {name}" for name in statuses], check_orders, (programs, statuses))
-            for statuses in systems_of({**COMMON, **OWN[language]})
+            Check([f"{language}: {name}" for name in statuses], check_orders, (programs, statuses)) for statuses in systems_of(own)
         ]
         checks += [
             Check([f"{language}: {name}"], call, (programs,)) for name, call in (

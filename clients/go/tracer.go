@@ -202,12 +202,16 @@ func (t *tracer) spawnFirst(parent, child, label string) (isTaken bool, err erro
 }
 
 func (t *tracer) reportFirst(kind, task, name, label string) (reply string, isTold bool, err error) {
+	at := t.now()
 	if reply, err = t.ask(strings.TrimSuffix(kind+" "+task+" "+name, " ")); err != nil {
 		return "", false, err
 	}
+	if task == "root" {
+		at = t.now() // A process begins when the collector has answered.
+	}
 	event, part := eventOf(reply)
 	if event > 0 {
-		told := row{event: event, part: part, time: t.now(), task: task, kind: kind, label: label, of: t.named(name)}
+		told := row{event: event, part: part, time: at, task: task, kind: kind, label: label, of: t.named(name)}
 		t.unwritten = told.appendTo(t.unwritten)
 	}
 	return reply, event > 0, nil
