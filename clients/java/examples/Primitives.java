@@ -537,6 +537,12 @@ final class Primitives {
             lock.unlock();
             Traced.touch("stock", true); // Outside the lock.
         }
+        for (int section = 0; section < SECTIONS; section++) {
+            Lock own = Traced.lock(new ReentrantLock()); // A lock that is no more hands over nothing.
+            own.lock();
+            own.unlock();
+            Traced.touch("stock", true);
+        }
     }
 
     private static void racing() throws InterruptedException {

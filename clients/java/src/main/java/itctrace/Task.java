@@ -148,7 +148,7 @@ final class Task {
         open.get(place).absorb(open.remove(place + 1));
     }
 
-    private void foldAll() {
+    void foldAll() {
         List<Segment> left = new ArrayList<>();
         for (Segment segment : open) {
             if (!left.isEmpty() && left.get(left.size() - 1).canGrow()) {

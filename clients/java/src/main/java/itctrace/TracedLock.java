@@ -1,6 +1,7 @@
 package itctrace;
 
 import itctrace.Place.Noted;
+import java.lang.ref.Cleaner;
 import java.util.concurrent.locks.Lock;
 import java.util.concurrent.locks.ReentrantReadWriteLock;
 import java.util.concurrent.locks.StampedLock;
@@ -9,10 +10,11 @@ import java.util.concurrent.locks.StampedLock;
 final class TracedLock extends ReportingLock {
     private static final Class<?> READ_VIEW = new StampedLock().asReadLock().getClass();
 
-    private final LockName name = new LockName();
-    /** Where it was released last. Null if it is held. */
-    private Place released;
+    private static final Cleaner CLEANER = Cleaner.create();
 
+    private final LockName name = new LockName();
+    private final Released last = new Released();
+    private boolean isWatched;
     private Noted release;
     /** How often one task alone has acquired it in a row. */
     private int turns;
@@ -21,6 +23,18 @@ final class TracedLock extends ReportingLock {
     private Thread owner;
     /** What the owner knows of itself. */
     private Traced.Own own;
+
+    /** Where a lock was released last, if it is not held. Nobody comes after that once the lock is no more. */
+    private static final class Released implements Runnable {
+        private Place place;
+
+        @Override
+        public void run() {
+            if (place != null) {
+                place.removeMark();
+            }
+        }
+    }
 
     TracedLock(Lock lock) {
         super(lock);
@@ -34,8 +48,8 @@ final class TracedLock extends ReportingLock {
         owner = Thread.currentThread();
         if (depth++ == 0 && Traced.isOn()) {
             own = Traced.own();
-            if (released != null) {
-                takeOver(released);
+            if (last.place != null) {
+                takeOver(last.place);
             }
             name.hold(own);
         }
@@ -49,7 +63,7 @@ final class TracedLock extends ReportingLock {
             Traced.take(place, release, Traced.site());
         }
         place.removeMark();
-        released = null;
+        last.place = null;
     }
 
     @Override
@@ -61,9 +75,14 @@ final class TracedLock extends ReportingLock {
         if (Traced.isOn()) {
             own = own == null ? Traced.own() : own; // It may have been acquired before there was a trace.
             name.letGo(own);
-            released = own.task().here;
-            release = name.release(released, release, turns);
-            released.addMark();
+            Place here = own.task().here;
+            release = name.release(here, release, turns);
+            here.addMark();
+            last.place = here;
+            if (!isWatched) {
+                isWatched = true;
+                CLEANER.register(this, last);
+            }
         }
     }
 

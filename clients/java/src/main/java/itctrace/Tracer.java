@@ -38,7 +38,12 @@ final class Tracer {
     private static final int MOST_EVENTS = 16384;
     private static final int MOST_DIGITS = 6;
     /** So many segments of a task wait at most to become one with others. */
-    private static final int MOST_WAITING = 4096;
+    private static final int MOST_WAITING = 32768;
+    /** If more segments than these have to be reported, it is looked which locks are no more. */
+    private static final int MANY_WAITING = 64;
+    private static final long CLEANING_MILLISECONDS = 20;
+    private static final int MOST_ROUNDS = 25;
+    private static final int IDLE_ROUNDS = 3;
     private static final int TASK_EXISTS = 402;
     private static final Set<Integer> FULL = Set.of(413, 414, 415);
     private static final long REST_MILLISECONDS = 10;
@@ -284,6 +289,7 @@ final class Tracer {
 
     /** Before the task goes on: all that it did is reported. Only the task's own thread may do that. */
     private void leave(Task task) {
+        foldMany(task);
         task.open.forEach(segment -> tellWhole(task, segment));
         Place here = task.here;
         if (here.hasMark() || here.position > 0) {
@@ -293,8 +299,29 @@ final class Tracer {
         task.open = new ArrayList<>(List.of(new Segment(here)));
     }
 
+    /** Nobody comes after the release of a lock that is no more. So what stands before it and behind it is one event. */
+    private static void foldMany(Task task) {
+        if (task.open.size() <= MANY_WAITING) {
+            return;
+        }
+        System.gc();
+        int idle = 0;
+        for (int round = 0; round < MOST_ROUNDS && idle < IDLE_ROUNDS && task.open.size() > MANY_WAITING; round++) {
+            int before = task.open.size();
+            try {
+                Thread.sleep(CLEANING_MILLISECONDS);
+            } catch (InterruptedException interrupted) {
+                Thread.currentThread().interrupt();
+                return;
+            }
+            task.foldAll();
+            idle = task.open.size() < before ? 0 : idle + 1;
+        }
+    }
+
     /** At the end of the process, or after some time: what waits to become one with other touches is reported. */
     private boolean tellWaiting(Task task) {
+        foldMany(task);
         int before = reports;
         Segment last = task.last();
         for (Segment segment : task.open) {
