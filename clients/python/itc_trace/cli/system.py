@@ -30,7 +30,7 @@ from ..processes.part_collectors import PartCollectors, ask_for_port
 from ..processes.relay import Relaying
 from ..processes.relay_parts import RelayParts
 from ..record.collector import HOST
-from ..record.environment import OWN_TENANT, PARTS, Reporting
+from ..record.environment import PARTS, Reporting
 from ..record.faults import Fault
 from ..record.journal import NoJournal, read_whole
 from ..session import Refused
