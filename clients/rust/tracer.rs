@@ -23,6 +23,8 @@ const REST: Duration = Duration::from_millis(10);
 const FIRST_PATIENCE: Duration = Duration::from_millis(250);
 const ANSWER_WAIT: Duration = Duration::from_secs(10);
 const END_WAIT: Duration = Duration::from_secs(60);
+/// So long the end of the process waits for the journal's last rows, once tracing is over.
+const CLOSE_WAIT: Duration = Duration::from_secs(10);
 const GONE: &str = "the collector is gone";
 
 /// A task, by its place among those of this process.
@@ -115,6 +117,8 @@ struct State {
     /// How often somebody wanted the journal to have all that was noted, and how many of them it has served.
     wanted: u64,
     settled: u64,
+    /// Whether the journal has all that it will ever have.
+    is_closed: bool,
     last_line: String,
     /// Whether another process of the trace has started this one.
     is_child: bool,
@@ -276,7 +280,7 @@ impl Tracer {
     pub fn finish(&self, is_end: bool) {
         let mut state = self.state();
         if state.stage == Stage::Over {
-            return;
+            return self.close(state);
         }
         state.stage = Stage::Ending;
         if is_end && state.is_child {
@@ -295,11 +299,20 @@ impl Tracer {
         let mut left = usize::MAX;
         while waits(&mut state) {
             if state.outstanding.len() == left {
-                return self.give_up_in(state, "collector", "the collector does not answer");
+                self.give_up_in(state, "collector", "the collector does not answer");
+                return self.close(self.state());
             }
             left = state.outstanding.len();
             state = self.changed.wait_timeout_while(state, END_WAIT, waits).unwrap_or_else(PoisonError::into_inner).0;
         }
+        if state.stage == Stage::Over {
+            self.close(state);
+        }
+    }
+
+    /// Tracing is over: waits until the journal has what was noted by then, and why it is over.
+    fn close(&self, state: MutexGuard<'_, State>) {
+        let _ = self.changed.wait_timeout_while(state, CLOSE_WAIT, |state| !state.is_closed);
     }
 
     /// A signal ends the process. What was noted is reported first, by the thread that sends.
@@ -388,6 +401,10 @@ impl Tracer {
         if !is_over && stream.write_all(lines.as_bytes()).is_err() {
             self.give_up("collector", GONE);
         }
+        if is_over {
+            self.state().is_closed = true;
+            self.changed.notify_all();
+        }
         match (is_over, settles) {
             (true, _) => Sent::Last,
             (false, true) => Sent::All,
@@ -456,6 +473,7 @@ impl State {
             stage: Stage::Running,
             wanted: 0,
             settled: 0,
+            is_closed: false,
             last_line: journal::END.into(),
             is_child: environment.child.is_some(),
             patience: FIRST_PATIENCE,
