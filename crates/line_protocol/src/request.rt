@@ -79,11 +79,19 @@ fn read_local(arguments: &[u8]) -> Option<Request>
     Some(Request::Local(only_name(arguments)?))
 }
 
-/// Any other request, by its keyword.
+/// Any other request, by its keyword. The line begins with none of the words that [`read_other`] tells.
 #[inline(always)]
 fn read_rare(line: &[u8]) -> Option<Request>
     requires count { is_same line.now (codes "count") ≡ false }
     requires order { is_same (take 6 line.now) (codes "order ") ≡ false }
+    requires local { is_same (take 6 line.now) (codes "local ") ≡ false }
+    requires send { is_same (take 5 line.now) (codes "send ") ≡ false }
+    requires recv { is_same (take 5 line.now) (codes "recv ") ≡ false }
+    requires spawn { is_same (take 6 line.now) (codes "spawn ") ≡ false }
+    requires event { is_same (take 6 line.now) (codes "event ") ≡ false }
+    requires stamp { is_same (take 6 line.now) (codes "stamp ") ≡ false }
+    requires task { is_same (take 5 line.now) (codes "task ") ≡ false }
+    requires message { is_same (take 8 line.now) (codes "message ") ≡ false }
     ensures { result ≡ request_of line.now }
 {
     match split_first(line) {
@@ -92,23 +100,19 @@ fn read_rare(line: &[u8]) -> Option<Request>
     }
 }
 
-/// The request of a keyword that has arguments, other than `order`.
+/// The request of a keyword that has arguments, and is none of those that are told by how their lines begin.
 fn read_arguments(keyword: &[u8], arguments: &[u8]) -> Option<Request>
-    requires { is_same keyword.now (codes "order") ≡ false }
+    requires order { is_same keyword.now (codes "order") ≡ false }
+    requires local { is_same keyword.now (codes "local") ≡ false }
+    requires send { is_same keyword.now (codes "send") ≡ false }
+    requires recv { is_same keyword.now (codes "recv") ≡ false }
+    requires spawn { is_same keyword.now (codes "spawn") ≡ false }
+    requires event { is_same keyword.now (codes "event") ≡ false }
+    requires stamp { is_same keyword.now (codes "stamp") ≡ false }
+    requires task { is_same keyword.now (codes "task") ≡ false }
+    requires message { is_same keyword.now (codes "message") ≡ false }
     ensures { result ≡ request_of_words (keyword.now ∷ words arguments.now) }
 {
-    if is_word(keyword, b"local") {
-        return read_local(arguments);
-    }
-    if is_word(keyword, b"spawn") {
-        return read_spawn(arguments);
-    }
-    if is_word(keyword, b"send") {
-        return read_send(arguments);
-    }
-    if is_word(keyword, b"recv") {
-        return read_recv(arguments);
-    }
     if is_word(keyword, b"end") {
         return Some(Request::End(only_name(arguments)?));
     }
@@ -123,18 +127,6 @@ fn read_arguments(keyword: &[u8], arguments: &[u8]) -> Option<Request>
     }
     if is_word(keyword, b"cut") {
         return Some(Request::Cut(only_number(arguments)?));
-    }
-    if is_word(keyword, b"event") {
-        return read_event(arguments);
-    }
-    if is_word(keyword, b"stamp") {
-        return read_stamp(arguments);
-    }
-    if is_word(keyword, b"task") {
-        return read_task(arguments);
-    }
-    if is_word(keyword, b"message") {
-        return read_message(arguments);
     }
     None
 }
