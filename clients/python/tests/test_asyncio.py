@@ -177,6 +177,20 @@ class Tasks(Asynchronous):
         self.ordered(main)
         self.assertEqual([row.task for row in self.rows if row.is_touch], ["alice", "writing_1"])
 
+    def test_tasks_of_a_group_are_named(self) -> None:
+        """The name of one that has none is no name of another."""
+
+        async def main() -> None:
+            async with asyncio.TaskGroup() as group:
+                for number in range(3):
+                    group.create_task(writing(f"x{number}"), name=f"writing_{number}")
+                group.create_task(writing("y"), name=7)  # type: ignore[arg-type]
+                group.create_task(coro=writing("z"), name="by_word")
+
+        self.ordered(main)
+        told = {row.thing: row.task for row in self.rows if row.is_touch}
+        self.assertEqual(told, {"x0": "writing_0", "x1": "writing_1", "x2": "writing_2", "y": "7", "z": "by_word"})
+
     def test_hundreds_of_tasks_end_and_are_joined(self) -> None:
         async def main() -> None:
             for _ in range(500):

@@ -410,8 +410,10 @@ def _run_coroutine_threadsafe(original: Any) -> Any:
 
 
 def _group_create_task(original: Any) -> Any:
+    make = _naming(original)
+
     def create_task(self: Any, coro: Any, **named: Any) -> Any:
-        task = original(self, coro, **named)
+        task = make(self, coro, **named)
         line = getattr(task, "_itc_line", None)
         if line is not None:
             self.__dict__.setdefault("_itc_lines", []).append((line, getattr(task, "_itc_called", ())))
