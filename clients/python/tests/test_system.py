@@ -6,6 +6,7 @@ import json
 import os
 import shutil
 import signal
+import socket
 import subprocess
 import sys
 import tempfile
@@ -249,6 +250,42 @@ for thread in threads: thread.join()
         self.assert_incomplete(ran, "process a ended before it was ready")
         self.assertNotIn("b |", ran.stdout)
 
+    def test_a_service_that_is_never_ready_ends_the_system(self) -> None:
+        """Its line does not come, or nobody listens at its port: with another process that waits for it, and with none."""
+        port = self.enterContext(kept_port())
+        serving = {"command": ["sh", "-c", "echo begun; exec sleep 600"], "traced": False, "service": True}
+        client = {"command": ["echo", "ran"], "traced": False, "after": ["a"]}
+        for named, lacks in (({"ready": "never"}, "none of its lines has 'never'"), ({"port": port}, f"nobody listens at port {port}")):
+            for others in ({"b": client}, {}):
+                with self.subTest(named=named, others=others):
+                    ran = run_python("-c", IMPATIENT, self.file(a={**serving, **named}, **others))
+                    self.assert_incomplete(ran, f"process a was not ready within 2 s: {lacks}")
+                    self.assertIn(f"itc_trace: waiting until process a is ready: {lacks} yet\n", ran.stderr)
+                    self.assertEqual(ran.stdout, "a | begun\n")
+
+    def test_services_alone_run_until_they_are_ended(self) -> None:
+        file = self.file(a={"command": ["sh", "-c", "echo begun; exec sleep 600"], "traced": False, "service": True, "ready": "begun"})
+        words = [sys.executable, "-c", IMPATIENT, file]
+        with subprocess.Popen(words, stderr=subprocess.PIPE, text=True, env={**os.environ, "PYTHONPATH": str(PACKAGE)}) as system:
+            assert system.stderr is not None
+            self.assertEqual(system.stderr.readline(), "itc_trace: all processes are services, and run until this command is ended, as by Ctrl-C\n")
+            system.send_signal(signal.SIGINT)
+            _, told = system.communicate(timeout=WAIT)
+        self.assertEqual(system.returncode, Verdict.INCOMPLETE, told)
+
+    def test_a_server_that_is_no_service_is_named_once_it_alone_runs(self) -> None:
+        slow = {"command": ["sh", "-c", "echo begun; sleep 4"], "traced": False, "ready": "begun"}
+        ran = run_python("-c", IMPATIENT, self.file(a=slow, b={"command": ["true"], "traced": False, "after": ["a"]}))
+        self.assertIn("itc_trace: waiting for the end of a: with service = true", ran.stderr)
+        self.assertEqual(ran.stderr.count("waiting for"), 1)
+
+    def test_a_port_that_somebody_else_listens_at(self) -> None:
+        with socket.create_server(("127.0.0.1", 0)) as door:
+            port = door.getsockname()[1]
+            ran = self.run_system(a={"command": ["sleep", "600"], "traced": False, "port": port})
+        self.assertEqual(ran.returncode, 2, ran.stderr)
+        self.assertEqual(ran.stderr, f"itc_trace: process a: somebody listens at port {port} already: end that program, or name another port\n")
+
     # Files that are wrong
 
     def assert_refused(self, text: str, told: str) -> None:
@@ -321,6 +358,13 @@ class Started(system.Process):
 system.Process = Started
 sys.argv[1:1] = ["system"]
 sys.exit(__main__.main())
+"""
+IMPATIENT = """
+import sys
+from itc_trace.cli import system, commands
+system.READY_SECONDS, system.SILENT_SECONDS = 2.0, 1.0
+sys.argv[1:1] = ["system"]
+sys.exit(commands.main())
 """
 SHORT_GRACE = """
 import sys

@@ -39,6 +39,8 @@ from ..model.verdict import END_OF_ALL, Cause, Unseen
 
 READY_SECONDS = 60.0
 GRACE_SECONDS = 10.0
+SILENT_SECONDS = 5.0
+"""So long this command waits without a word of what it waits for."""
 LOOK_AGAIN = 0.05
 PYTHON = re.compile(r"(?:pypy|python)(?:3(?:\.\d+)?)?(?:\.exe)?")
 FLAGS_WITH_A_WORD = ("-X", "-W", "--check-hash-based-pycs")
@@ -49,6 +51,15 @@ def _write_line(line: str, output: IO[str]) -> None:
     """Writes a line with its end in one piece: the lines of other threads come before it or behind it."""
     output.write(f"{line}\n")
     output.flush()
+
+
+def listens(port: int) -> bool:
+    """Whether somebody listens at the port."""
+    try:
+        socket.create_connection((HOST, port), 1).close()
+    except OSError:
+        return False
+    return True
 
 
 class Process:
@@ -95,12 +106,14 @@ class Process:
     def is_ready(self) -> bool:
         """Whether it has written the line, or listens at the port, that those who come after it wait for."""
         if self.described.port is not None:
-            try:
-                socket.create_connection((HOST, self.described.port), 1).close()
-            except OSError:
-                return False
-            return True
+            return listens(self.described.port)
         return self.described.ready is None or self._ready.is_set()
+
+    def lacks(self) -> str:
+        """What it has not done yet, for which others wait."""
+        if self.described.port is not None:
+            return f"nobody listens at port {self.described.port}"
+        return f"none of its lines has {self.described.ready!r}"
 
     def end(self, number: int = signal.SIGTERM) -> None:
         """Ends it, and what it has started."""
@@ -122,6 +135,8 @@ class Running:
         self.unseen: list[Unseen] = []
         self.status = 0
         self._is_ending = False
+        self._is_cut_short = False
+        """Whether not all processes were started, as one of them was not ready."""
 
     def run(self) -> None:
         """Starts the processes in order, and returns once all have ended."""
@@ -131,12 +146,35 @@ class Running:
                     if self._is_ending or not self._are_ready(described.after):
                         break
                     self.processes.append(self._start(described))
-                while not self._is_ending and self._are_running() and not self._is_over():
-                    self._next()
+                else:
+                    self._look_at_services()
+                self._wait_for_end()
             finally:
                 self._end_all()
                 while self._are_running():
                     self._next()
+
+    def _look_at_services(self) -> None:
+        """If there are services alone, nobody comes after them who would wait until they are ready."""
+        if all(described.is_service for described in self._system.processes) and self._are_ready([one.name for one in self.processes]):
+            _write_line("itc_trace: all processes are services, and run until this command is ended, as by Ctrl-C", sys.stderr)
+
+    def _wait_for_end(self) -> None:
+        is_silent = True
+        while not self._is_ending and self._are_running() and not self._is_over():
+            has_come = self._next(SILENT_SECONDS if is_silent else None)
+            if not has_come and is_silent:
+                is_silent = not self._tell_left()
+
+    def _tell_left(self) -> bool:
+        """Says which processes others came after still run, if nothing else does: they may be services. Gives whether it did."""
+        before = {name for described in self._system.processes for name in described.after}
+        left = [process.name for process in self.processes if process.is_running and not process.described.is_service]
+        is_told = len(left) < len(self.processes) and before.issuperset(left)
+        if is_told:
+            _write_line(
+                f"itc_trace: waiting for the end of {', '.join(left)}: with service = true a process is ended once the others have", sys.stderr)
+        return is_told
 
     def _are_running(self) -> bool:
         return any(process.is_running for process in self.processes)
@@ -150,6 +188,8 @@ class Running:
         return os.path.join(self._folder, f"{name}.journal")
 
     def _start(self, described: Described) -> Process:
+        if described.port is not None and listens(described.port):
+            raise Fault(f"process {described.name}: somebody listens at port {described.port} already: end that program, or name another port")
         said = Reporting(self._port, self._system.tenant, described.name, self._journal(described.name))
         environment = {**environment_of_package(), "PYTHONUNBUFFERED": "1", **described.environment, **said.variables()}
         is_python = PYTHON.fullmatch(os.path.basename(described.command[0])) is not None
@@ -175,32 +215,40 @@ class Running:
 
     def _are_ready(self, names: list[str]) -> bool:
         """Waits until these processes are ready. If one of them will not be, it says so."""
-        until = time.monotonic() + READY_SECONDS
+        begun = time.monotonic()
         for process in (process for process in self.processes if process.name in names):
+            is_silent = True
             while not process.is_ready():
+                waited = time.monotonic() - begun
                 if self._is_ending:
                     return False
-                if not process.is_running or time.monotonic() > until:
-                    reason = "ended before it was ready" if not process.is_running else f"was not ready within {READY_SECONDS:.0f} s"
-                    self._miss(Cause.KILLED, f"process {process.name} {reason}")
+                if not process.is_running or waited > READY_SECONDS:
+                    late = f"was not ready within {READY_SECONDS:.0f} s: {process.lacks()}"
+                    self._miss(Cause.KILLED, f"process {process.name} {late if process.is_running else 'ended before it was ready'}")
+                    self._is_cut_short = True
                     return False
+                if is_silent and waited > SILENT_SECONDS:
+                    is_silent = False
+                    _write_line(f"itc_trace: waiting until process {process.name} is ready: {process.lacks()} yet", sys.stderr)
                 self._next(LOOK_AGAIN)
         return True
 
-    def _next(self, seconds: float | None = None) -> None:
-        """Waits for the next end of a process, or for a signal."""
+    def _next(self, seconds: float | None = None) -> bool:
+        """Waits for the next end of a process, or for a signal. Gives whether one has come in so many seconds."""
         try:
             ended = self._told.get(timeout=seconds)
         except Empty:
-            return
+            return False
         if isinstance(ended, Process):
             ended.is_running = False
             self._tell_end(ended)
+        return True
 
     def _is_over(self) -> bool:
-        """Whether all have ended that are no services, if there are such."""
-        own = [process for process in self.processes if not process.described.is_service]
-        return bool(own) and not any(process.is_running for process in own)
+        """Whether nothing runs but services. If there never is anything else, they go on, unless one of them was not ready."""
+        are_all_services = all(described.is_service for described in self._system.processes)
+        is_left = any(process.is_running and not process.described.is_service for process in self.processes)
+        return not is_left and (self._is_cut_short or not are_all_services)
 
     def _tell_end(self, process: Process) -> None:
         status = process.status or 0
