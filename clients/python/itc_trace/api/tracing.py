@@ -98,7 +98,7 @@ class Tracing:
         with self._stopping:
             self.is_stopping = True
             if self._file is not None:
-                for one in [*watch.unwatched(), *watch.not_looked_into(), *not_followed()]:
+                for one in [*watch.unwatched(self.is_child), *watch.not_looked_into(), *not_followed()]:
                     self.tell(one)
             tracer, self._tracer = self._tracer, None
             file, self._file = self._file, None

@@ -61,6 +61,7 @@ def main() -> None:
     parts = None if asked_at is None else _parts(asked_at, events)
     folders = [_folder_of(words)]
     if packages is not None:
+        watch.tell_missing(packages, folders[0])
         watch.watch_loaded(folders, packages)
     shaking = None if seed is None else Shaking(seed)
     try:

@@ -16,13 +16,14 @@ from ..model.lines import Line, state
 from ..record.noting import INTERNAL
 from ..model.verdict import PassedOver, Unseen
 from ..sync.base import like
-from . import handed, hooks, leaving, passed_over, things
+from . import handed, hooks, leaving, named, passed_over, things
 from .commands import own_program
 from .finder import UNWATCHED, Finder, Selection, look_around, with_hooks
 from .loaded import Prepare, folder_of_main, rewrite_loaded
+from .named import tell_missing
 from .unwatched import files_without_hooks, touches_lost
 
-__all__ = ["Prepare", "begin", "code_of", "end", "program_of", "selection", "unwatched", "watch", "watch_loaded", "watch_main", "watch_path_runs"]
+__all__ = ["Prepare", "begin", "code_of", "end", "program_of", "selection", "tell_missing", "unwatched", "watch", "watch_loaded", "watch_main", "watch_path_runs"]
 
 MAIN_OF_CHILD = "__mp_main__"
 """The name of the program's main module in a process that `multiprocessing` has started anew."""
@@ -142,9 +143,13 @@ def selection() -> Selection | None:
     return None if _finder is None else _finder.selection
 
 
-def unwatched() -> list[Unseen]:
-    """What of the program was to be watched, and was not."""
-    return [] if _finder is None else [*UNWATCHED, *files_without_hooks(_finder.selection), *touches_lost(), *leaving.unseen()]
+def unwatched(is_child: bool = False) -> list[Unseen]:
+    """What of the program was to be watched, and was not. A child process need not import what was named."""
+    if _finder is None:
+        return []
+    chosen = _finder.selection
+    missing = [] if is_child else named.nothing_of(chosen)
+    return [*UNWATCHED, *files_without_hooks(chosen), *missing, *touches_lost(), *leaving.unseen()]
 
 
 def not_looked_into() -> list[PassedOver]:
