@@ -31,6 +31,7 @@ from ..analyse.progress import Bar
 from ..analyse.races import Races
 from ..processes.relay import Relaying
 from .run import check_writable, draw, environment_of_package, told
+from .statuses import forget_status, keep_status, own_status
 from ..analyse.seeing import races_seen
 from ..session import Refused
 from ..analyse.snapshot import snapshot
@@ -334,11 +335,12 @@ class Running:
 ENDED_AS_A_SERVICE = Unseen(Cause.KILLED, "the program was ended by SIGTERM").row()
 
 
-def run_system(system: System, looking: Looking, fail_on_possible: bool = False) -> int:
+def run_system(system: System, looking: Looking, fail_on_possible: bool = False, status_file: str | None = None) -> int:
     """The verdict's status, and where that is 0 the first status of a process that was not 0."""
-    for file in (system.export, system.picture):
+    for file in (system.export, system.picture, status_file):
         if file is not None:
             check_writable(file)
+    forget_status(status_file)
     with tempfile.TemporaryDirectory(prefix="itc_trace_") as folder, Collector(system.tenant) as collector:
         with Relaying(collector.port) as relay:
             running = Running(system, relay.port, folder)
@@ -347,8 +349,9 @@ def run_system(system: System, looking: Looking, fail_on_possible: bool = False)
         races = races_seen(system.tenant, collector.port, lines, HOST, looking, Bar(sys.stderr))
         races.unseen = [*running.unseen, *races.unseen]
         picture = _keep(system, collector.port, lines, folder, races)
-        print(told(races, picture), file=sys.stderr, flush=True)
-        return int(races.verdict(fail_on_possible)) or running.status
+        verdict = races.verdict(fail_on_possible)
+        print(told(races, picture, looking) + own_status(verdict, running.status), file=sys.stderr, flush=True)
+        return keep_status(status_file, verdict, running.status)
 
 
 def _keep(system: System, port: int, lines: list[str], folder: str, races: Races) -> str | None:

@@ -6,6 +6,7 @@ import hashlib
 import importlib.machinery
 import importlib.util
 import os
+import shutil
 import subprocess
 import sys
 import sysconfig
@@ -16,6 +17,7 @@ SOURCE = os.path.join(os.path.dirname(os.path.abspath(__file__)), "quick.c")
 PURE = "ITC_TRACE_PURE"
 """A variable of the environment: if it is set, the hooks are those in Python."""
 LONGEST_BUILD = 120.0
+COMPILES = "itc_trace: compiles the hooks of watched modules, once for this Python: it takes some seconds"
 KNOWN_VERSIONS = frozenset({(3, 11), (3, 12), (3, 13)})
 """Of which the helper knows the objects."""
 
@@ -54,6 +56,8 @@ def _build(name: str) -> None:
         made = os.path.join(folder, "quick.so")
         include = sysconfig.get_paths()["include"]
         words = ["cc", "-O2", "-shared", "-fPIC", f"-I{include}", SOURCE, "-o", made]
+        if sys.__stderr__ is not None and shutil.which(words[0]) is not None:
+            print(COMPILES, file=sys.__stderr__, flush=True)
         try:
             is_built = subprocess.run(words, capture_output=True, timeout=LONGEST_BUILD, check=False).returncode == 0
         except (OSError, subprocess.SubprocessError):
