@@ -29,12 +29,13 @@ def check_races(built: Path, status: int, *words: str) -> None:
         raise Wrong(f"not one list of {sorted(lines)}\n{ran.stderr}")
 
 
-def check_started_again(built: Path, name: str) -> None:
-    """What a process does when it is started again is not in order with what it did before."""
+def check_started_again(built: Path, name: str, status: int) -> None:
+    """A process of Go that is started again comes after its first run, whose place it takes. One of Java is not in order with it."""
     with tempfile.TemporaryDirectory() as place:
         words = commands(built, Path(place))[name]
         ran = run_system(Path(place), **{name: ["sh", "-c", '"$@"; "$@"', "sh", *words]})
-    check(ran, RACES, marked(SOURCES[NAMES.index(name)], "race", "shop"), set())
+    lines = marked(SOURCES[NAMES.index(name)], "race", "shop") if status == RACES else set()
+    check(ran, status, lines, set())
     tell_once(ran.stderr, f"itc_trace: process {name} reported 2 times: it was started again")
 
 
@@ -76,7 +77,9 @@ def main() -> int:
         checks = [Check(["lost update"], check_races, (built, RACES)), Check(["in order"], check_races, (built, NO_RACE, "fixed")),
                   Check(["silent"], check_silent, (built,))]
         checks += [Check([f"{one}: killed"], check_killed, (built, one)) for one in ("sales", "truck")]
-        checks += [Check([f"{one}: started again"], check_started_again, (built, one)) for one in ("sales", "truck")]
+        checks += [
+            Check([f"{one}: started again"], check_started_again, (built, one, status)) for one, status in (("sales", RACES), ("truck", NO_RACE))
+        ]
         return run_all("shop", checks)
 
 
