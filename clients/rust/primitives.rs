@@ -90,6 +90,45 @@ fn read_lock(is_raced: bool) {
     });
 }
 
+/// One thread sets a flag under the lock, and the other one looks at it again and again.
+fn polled_flag(is_raced: bool) {
+    let (own, other) = shared(Mutex::new(false));
+    let give = move || {
+        let mut flag = own.lock().unwrap();
+        touch("flag", true);
+        *flag = true;
+    };
+    let is_set = move || {
+        let flag = other.lock().unwrap();
+        touch("flag", false);
+        *flag
+    };
+    two(is_raced, give, move || while !is_set() {});
+}
+
+/// Whoever comes first makes a value under the lock.
+fn lazy_value(is_raced: bool) {
+    let (own, other) = shared(Mutex::new(None));
+    let (given, is_given) = plain_mpsc::channel();
+    let make = |value: &Mutex<Option<usize>>| {
+        let mut value = value.lock().unwrap();
+        touch("value", false);
+        value.get_or_insert_with(|| {
+            touch("value", true);
+            1
+        });
+    };
+    let give = move || {
+        make(&own);
+        given.send(()).unwrap();
+    };
+    two(is_raced, give, move || {
+        is_given.recv().unwrap();
+        make(&other);
+        touch("value", false); // Outside the lock.
+    });
+}
+
 fn queue(is_raced: bool) {
     let (sender, receiver) = channel();
     two(is_raced, move || sender.send(1).unwrap(), move || assert_eq!(receiver.recv(), Ok(1)));
@@ -339,10 +378,12 @@ fn forced_once(is_raced: bool) {
 
 type Program = (&'static str, fn(bool));
 
-const PROGRAMS: [Program; 25] = [
+const PROGRAMS: [Program; 27] = [
     ("condition", condition),
     ("timed_condition", timed_condition),
     ("read_lock", read_lock),
+    ("polled_flag", polled_flag),
+    ("lazy_value", lazy_value),
     ("queue", queue),
     ("bounded_queue", bounded_queue),
     ("receipt", receipt),

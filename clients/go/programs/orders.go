@@ -60,6 +60,10 @@ func init() {
 		"cancelled_race":   func() { cancelled(true) },
 		"cached":           func() { cached(false) },
 		"cached_race":      func() { cached(true) },
+		"polled":           func() { polled(false) },
+		"polled_race":      func() { polled(true) },
+		"lazy":             func() { lazy(false) },
+		"lazy_race":        func() { lazy(true) },
 	})
 }
 
@@ -642,4 +646,53 @@ func cached(isWrong bool) {
 		}
 	}
 	twice(look, look)
+}
+
+// polled looks at a flag under a lock again and again. The race is a change behind the setting of the flag.
+func polled(isLate bool) {
+	var lock itctrace.Mutex
+	isReady := false
+	polling := start(func() {
+		for isSet := false; !isSet; {
+			lock.Lock()
+			itctrace.Touch("flag", false)
+			isSet = isReady
+			lock.Unlock()
+		}
+		itctrace.Touch("stock", false) // race: polled_race
+	})
+	itctrace.Touch("stock", true)
+	lock.Lock()
+	itctrace.Touch("flag", true)
+	isReady = true
+	lock.Unlock()
+	if isLate {
+		itctrace.Touch("stock", true) // race: polled_race
+	}
+	polling.Wait()
+}
+
+// lazy has whoever comes first make a value under the lock. The race is a change behind that.
+func lazy(isLate bool) {
+	var lock itctrace.Mutex
+	isMade := false
+	look := func() {
+		lock.Lock()
+		defer lock.Unlock()
+		itctrace.Touch("made", false)
+		if !isMade {
+			itctrace.Touch("value", true)
+			itctrace.Touch("made", true)
+			isMade = true
+		}
+	}
+	twice(func() {
+		look()
+		if isLate {
+			itctrace.Touch("value", true) // race: lazy_race
+		}
+	}, func() {
+		look()
+		itctrace.Touch("value", false) // race: lazy_race
+	})
 }

@@ -176,6 +176,51 @@ final class Primitives {
                 });
     }
 
+    /** One thread sets a flag under the lock, and the other one looks at it again and again. */
+    private static void polledFlag(boolean isRaced) throws InterruptedException {
+        Lock lock = Traced.lock(new ReentrantLock());
+        boolean[] flag = {false};
+        two(
+                isRaced,
+                () -> {
+                    lock.lock();
+                    Traced.touch("flag", true);
+                    flag[0] = true;
+                    lock.unlock();
+                },
+                () -> {
+                    for (boolean isSet = false; !isSet; ) {
+                        lock.lock();
+                        Traced.touch("flag", false);
+                        isSet = flag[0];
+                        lock.unlock();
+                    }
+                });
+    }
+
+    /** Whoever comes first makes a value under the lock. */
+    private static void lazyValue(boolean isRaced) throws InterruptedException {
+        Lock lock = Traced.lock(new ReentrantLock());
+        Object[] value = {null};
+        Step make =
+                () -> {
+                    lock.lock();
+                    Traced.touch("value", false);
+                    if (value[0] == null) {
+                        Traced.touch("value", true);
+                        value[0] = "made";
+                    }
+                    lock.unlock();
+                };
+        inTurn(
+                isRaced,
+                make,
+                () -> {
+                    make.run();
+                    Traced.touch("value", false); // Outside the lock.
+                });
+    }
+
     private static void stampedLock(boolean isRaced) throws InterruptedException {
         StampedLock lock = Traced.stampedLock();
         inTurn(isRaced, () -> lock.unlockWrite(lock.writeLock()), () -> lock.unlockRead(lock.readLock()));
@@ -470,6 +515,8 @@ final class Primitives {
         PROGRAMS.put("monitor", Primitives::monitor);
         PROGRAMS.put("condition", Primitives::condition);
         PROGRAMS.put("read_lock", Primitives::readLock);
+        PROGRAMS.put("polled_flag", Primitives::polledFlag);
+        PROGRAMS.put("lazy_value", Primitives::lazyValue);
         PROGRAMS.put("stamped_lock", Primitives::stampedLock);
         PROGRAMS.put("stamped_trust", Primitives::stampedTrust);
         PROGRAMS.put("stamped_turn", Primitives::stampedTurn);

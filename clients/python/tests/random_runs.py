@@ -49,6 +49,10 @@ class Run:
 
     def close(self) -> None:
         """Nothing more happens."""
+        self._rows_at: dict[int, list[Row]] = defaultdict(list)
+        for row in self.rows:
+            self._rows_at[row.event].append(row)
+        self._looks: dict[int, set[int]] = {}
         self.full = self._reach(with_locks=True)
         self.without_locks = self._reach(with_locks=False)
 
@@ -81,7 +85,25 @@ class Run:
                 return True
             if event.source and event.lock is None and (event.source == first or self.is_before(first, event.source)):
                 return True
+            if any(first == write or self.is_before(first, write) for write in self._looks_at(event.number)):
+                return True
         return False
+
+    def _looks_at(self, number: int) -> set[int]:
+        """The last writes by others under a lock that the event reads under, if it does not write there itself."""
+        if number not in self._looks:
+            self._looks[number] = {
+                write.event for read in self._rows_at[number] if read.kind == READ and read.thing is not None and not read.name
+                for lock in read.held for write in self._last_write(read, lock)
+            }
+        return self._looks[number]
+
+    def _last_write(self, read: Row, lock: str) -> list[Row]:
+        writes = [row for row in self.rows if (row.thing, row.kind) == (read.thing, WRITE) and lock in row.held]
+        if any(row.event == read.event for row in writes):
+            return []
+        before = sorted((row for row in writes if self.is_before(row.event, read.event)), key=lambda row: row.event)
+        return [row for row in before[-1:] if row.task != read.task]
 
     # Races, by looking at all pairs
 

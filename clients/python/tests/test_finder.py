@@ -9,8 +9,8 @@ from typing import Any
 from unittest import mock
 
 from itc_trace import Collector, Races, Session
-from itc_trace.analyse import races, racing_pairs
-from itc_trace.model.conflicts import CHANGING, CONFLICTING
+from itc_trace.analyse import looks, races, racing_pairs
+from itc_trace.model.conflicts import CHANGING, CONFLICTING, READ, WRITE
 from itc_trace.record.journal import Row
 from itc_trace.analyse.races import _Finder, _things_of
 from itc_trace.session import Refused
@@ -248,6 +248,11 @@ def _all_signals(trace: Trace, steps: Steps) -> Told:
     return Told(trace.before, trace.before)
 
 
+def _looks_by_one_who_writes(rows: Iterable[Row], trace: Trace) -> dict[int, int]:
+    """As if whoever writes a thing looked at it."""
+    return looks.looks_of([row._replace(kind=READ) if row.kind == WRITE and row.event % 2 else row for row in rows], trace)
+
+
 def _any_hand_over(thing: Any, trace: Trace, told: list[int], replaced: Any) -> Any:
     """As if a thing that was made before the other task began could be handed over to it."""
     handed_over, taken_out = races._handed_over(thing, trace), races._taken_out(thing, replaced)
@@ -272,6 +277,8 @@ WRONG: list[tuple[Any, str, Any]] = [
     (racing_pairs._Alike, "without", _in_common),
     (races, "told_by_signals", _no_signals),
     (races, "told_by_signals", _all_signals),
+    (races, "looks_of", lambda *_: {}),
+    (races, "looks_of", _looks_by_one_who_writes),
     (races, "_untold", _any_hand_over),
     (races, "_handed_over", lambda *_: 0),
 ]

@@ -19,6 +19,7 @@ from typing import Protocol
 from ..record.collector import HOST, NoCollector
 from ..model.conflicts import CONFLICTING, MAKING, WRITE
 from .fast_track import deciding_pairs
+from .looks import looks_of
 from ..record.journal import Row, read_whole
 from ..model.lock_identity import ANSWER, REQUEST
 from .order import Order
@@ -217,6 +218,7 @@ class _Finder:
         self._found = found
         self._is_strict = is_strict
         self._locks = {row.event: row.lock for row in rows if row.lock is not None}
+        self._rows = rows
         self._replaced = _replaced(rows)
         self._order = Order(view)
 
@@ -262,7 +264,8 @@ class _Finder:
             return
         trace = self._trace
         locks = lock_events(trace, self._locks)
-        told = told_by_signals(trace, Steps(locks, events_of_lock(self._locks, REQUEST), events_of_lock(self._locks, ANSWER))).known
+        requests, answers = events_of_lock(self._locks, REQUEST), events_of_lock(self._locks, ANSWER)
+        told = told_by_signals(trace, Steps(locks, requests, answers, looks_of(self._rows, trace))).known
         races = {_key(race.example) for race in self._found.races}
         listed: dict[object, Race] = {}
         for thing in things:

@@ -2,8 +2,9 @@
 
 from __future__ import annotations
 
-from collections.abc import Callable, Iterable
+from collections.abc import Callable, Iterable, Mapping
 from functools import cached_property
+from types import MappingProxyType
 from typing import NamedTuple, Protocol
 
 from ..session import Refused
@@ -94,6 +95,8 @@ class Steps(NamedTuple):
     requests: set[int]
     """Those of what the process asks itself. They are among the locks, as the answers are."""
     answers: set[int]
+    looks: Mapping[int, Events] = MappingProxyType({})
+    """What the task of an event knows by a look at what another one has left under a lock."""
 
 
 class Told(NamedTuple):
@@ -112,7 +115,8 @@ def told_by_signals(trace: Trace, steps: Steps) -> Told:
     """
     told, by_no_answer = [0], [0]
     for event in trace.events:
-        source, known, handed_on = trace.source(event), 0, 0
+        source, known = trace.source(event), steps.looks.get(event.number, 0)
+        handed_on = known
         for one in event.follows:
             if source is None or one != source.number:
                 known |= told[one] | 1 << one
