@@ -15,6 +15,7 @@ from pathlib import Path
 import completions
 import manual
 from contents import MAINTAINER, SUMMARY, TOP, files, glibc, released_program, version
+from words import of_the_command, of_the_program
 
 MODULES = "usr/lib/python3/dist-packages"
 COMMAND = "#!/usr/bin/python3\nimport sys\n\nfrom itc_trace.command import main\n\nsys.exit(main())\n"
@@ -35,10 +36,11 @@ def contents() -> dict[str, tuple[bytes, int]]:
     held = {f"{MODULES}/{file.path}": (file.content, 0o755 if file.is_command else 0o644) for file in files()}
     held["usr/bin/itc_trace"] = (released_program(), 0o755)
     held["usr/bin/itc-trace"] = (COMMAND.encode(), 0o755)
-    held["usr/share/man/man1/itc_trace.1.gz"] = (gzip.compress(manual.page().encode(), mtime=0), 0o644)
-    held["usr/share/bash-completion/completions/itc_trace"] = (completions.bash().encode(), 0o644)
-    held["usr/share/zsh/vendor-completions/_itc_trace"] = (completions.zsh().encode(), 0o644)
-    held["usr/share/fish/vendor_completions.d/itc_trace.fish"] = (completions.fish().encode(), 0o644)
+    for line in (of_the_program(), of_the_command()):
+        held[f"usr/share/man/man1/{line.name}.1.gz"] = (gzip.compress(manual.page(line).encode(), mtime=0), 0o644)
+        held[f"usr/share/bash-completion/completions/{line.name}"] = (completions.bash(line).encode(), 0o644)
+        held[f"usr/share/zsh/vendor-completions/_{line.name}"] = (completions.zsh(line).encode(), 0o644)
+        held[f"usr/share/fish/vendor_completions.d/{line.name}.fish"] = (completions.fish(line).encode(), 0o644)
     held["usr/share/doc/itc-trace/copyright"] = ((TOP / "LICENSE").read_bytes(), 0o644)
     return held
 

@@ -1,20 +1,20 @@
-"""The page of the manual, made from the help of the program."""
+"""The pages of the manual, made from the help of the commands."""
 
 from __future__ import annotations
 
 from contents import MAINTAINER, SUMMARY, version
-from words import commands, help_of
+from words import CommandLine
 
 
-def page() -> str:
+def page(line: CommandLine) -> str:
     """The page in the language of man."""
-    told = [_section("itc_trace", help_of()), *(_section(f"itc_trace {one.name}", one.help) for one in commands())]
-    head = f'.TH ITC_TRACE 1 "" "itc_trace {version()}" "User Commands"\n.SH NAME\nitc_trace \\- {_escaped(SUMMARY)}\n'
+    told = [_section(line.name, line.help), *(_section(f"{line.name} {one.name}", one.help) for one in line.commands)]
+    head = f'.TH {line.name.upper()} 1 "" "itc_trace {version()}" "User Commands"\n.SH NAME\n{_escaped(line.name)} \\- {_escaped(SUMMARY)}\n'
     return head + "".join(told) + f".SH AUTHOR\n{_escaped(MAINTAINER)}\n"
 
 
 def _section(title: str, text: str) -> str:
-    return f'.SH "{title.upper()}"\n.nf\n{_escaped(text.rstrip())}\n.fi\n'
+    return f'.SH "{_escaped(title.upper())}"\n.nf\n{_escaped(text.rstrip())}\n.fi\n'
 
 
 def _escaped(text: str) -> str:

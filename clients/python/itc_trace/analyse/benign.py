@@ -8,7 +8,7 @@ from __future__ import annotations
 
 import re
 import tokenize
-from collections.abc import Iterable
+from collections.abc import Iterable, Iterator
 from dataclasses import dataclass, field
 from functools import cache
 from itertools import takewhile
@@ -18,6 +18,7 @@ from ..record.faults import Fault
 from .races import Race, Races, Side
 
 COMMENT = re.compile(r"#\s*itc:\s*benign\b")
+PLACE = re.compile(r"[^:*].*:\d+|.*\*.*")
 MOST_PLACES = 2
 
 
@@ -27,6 +28,8 @@ class Pattern:
 
     thing: str
     places: tuple[str, ...] = ()
+    line: str = ""
+    """Where it stands, by its file and the number of its line."""
 
     def fits(self, race: Race) -> bool:
         return _fits(race.thing, self.thing) and any(
@@ -49,6 +52,7 @@ class Looking:
 
     strict: bool = False
     patterns: list[Pattern] = field(default_factory=list)
+    _fitting: set[Pattern] = field(default_factory=set)
 
     def silence(self, found: Races) -> None:
         """Takes out what is meant, and counts it."""
@@ -58,7 +62,15 @@ class Looking:
         found.silenced += before - len(found.races) - len(found.possible)
 
     def _is_meant(self, race: Race) -> bool:
-        return any(_has_comment(side) for side in race.sides) or any(pattern.fits(race) for pattern in self.patterns)
+        fitting = {pattern for pattern in self.patterns if pattern.fits(race)}
+        self._fitting |= fitting
+        return bool(fitting) or any(_has_comment(side) for side in race.sides)
+
+    def unfitting(self) -> Iterator[str]:
+        """The lines of files by which no race is meant, in words for a person."""
+        lines = [f"{pattern.line} ({' '.join((pattern.thing, *pattern.places))})" for pattern in self.patterns if pattern not in self._fitting]
+        if lines:
+            yield f"no race is silenced by {', '.join(lines)}"
 
 
 def _has_comment(side: Side) -> bool:
@@ -92,5 +104,8 @@ def _patterns(lines: Iterable[str], file: str) -> Iterable[Pattern]:
         words = list(takewhile(lambda word: not word.startswith("#"), line.split()))
         if len(words) > MOST_PLACES + 1:
             raise Fault(f"{file}:{number}: a thing and two places at most: write * for a space")
+        for place in words[1:]:
+            if not PLACE.fullmatch(place):
+                raise Fault(f"{file}:{number}: {place} is no place: name one as shop.py:7, where * stands for any letters")
         if words:
-            yield Pattern(words[0], tuple(words[1:]))
+            yield Pattern(words[0], tuple(words[1:]), f"{file}:{number}")

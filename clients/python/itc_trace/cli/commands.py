@@ -29,18 +29,23 @@ from .system_file import read_system
 
 NEW_SEED = -1
 FLAGS = {"--strict", "--quiet", "--watch-nothing", "--shake", "--no-shake", "--help", "-h"}
+OPTIONS_OF_RUN = (
+    "port", "host", "tenant", "process", "export", "journal", "picture", "status-file", "fail-on", "strict", "benign", "runs", "shake",
+    "no-shake", "part-events", "quiet", "watch", "watch-nothing",
+)
 MOST_RUNS = 10_000
 LEAST_PART = 100
 
 
-def _parser() -> argparse.ArgumentParser:
-    parser = argparse.ArgumentParser(prog="python3 -m itc_trace", description=__doc__)
-    commands = parser.add_subparsers(dest="command", required=True)
+def parser(name: str) -> argparse.ArgumentParser:
+    made = argparse.ArgumentParser(prog=name, description=f"The commands: `{name} run|system|races|relay|snapshot ..`.")
+    commands = made.add_subparsers(dest="command", required=True)
     _add_run(commands.add_parser("run", help="run a program with tracing on, and list its races", allow_abbrev=False))
     system = commands.add_parser("system", help="run several processes, and list the races of them together")
     system.add_argument("file", help="the TOML file that describes them")
     system.add_argument("--export", metavar="FILE", help="keep the trace there, and its journal beside it")
     system.add_argument("--picture", metavar="FILE", help="draw the trace there")
+    _add_status_file(system)
     _add_fail_on(system)
     _add_looking(system)
     races = commands.add_parser("races", help="list the races of a trace by its journal")
@@ -57,7 +62,7 @@ def _parser() -> argparse.ArgumentParser:
     taking = commands.add_parser("snapshot", help="write an export of a tenant while it runs")
     _add_port(taking)
     taking.add_argument("tenant")
-    return parser
+    return made
 
 
 def _add_port(parser: argparse.ArgumentParser, is_required: bool = True) -> None:
@@ -74,6 +79,10 @@ def _add_fail_on(parser: argparse.ArgumentParser) -> None:
                         help="end with 66 where there is a race, or where one is possible (race)")
 
 
+def _add_status_file(parser: argparse.ArgumentParser) -> None:
+    parser.add_argument("--status-file", metavar="FILE", help="write the verdict and the program's own status there, apart")
+
+
 def _add_looking(parser: argparse.ArgumentParser) -> None:
     parser.add_argument("--strict", action="store_true", help="two tasks of one loop race as two threads do")
     parser.add_argument("--benign", metavar="FILE", action="append", default=[], help="races that are meant: a thing and places a line")
@@ -87,6 +96,7 @@ def _add_run(parser: argparse.ArgumentParser) -> None:
     parser.add_argument("--export", metavar="FILE", help="keep the trace there, and its journal beside it")
     parser.add_argument("--journal", metavar="FILE", help="keep the journal there")
     parser.add_argument("--picture", metavar="FILE", help="draw the trace there")
+    _add_status_file(parser)
     _add_fail_on(parser)
     _add_looking(parser)
     parser.add_argument("--runs", type=_runs, default=1, metavar="N", help="run the program N times, all but the first shaken")
@@ -137,11 +147,13 @@ def _divided(words: list[str]) -> tuple[list[str], list[str]]:
 def _run(words: argparse.Namespace, program: list[str]) -> int:
     if not program or program[0] == "-m" and len(program) < 2:
         raise Fault("run wants a program, or -m and a module")
+    if words.is_program_marked is False:
+        tell_of_options_behind(program)
     return run(Run(
         program, words.port, words.tenant, words.process, words.export, words.journal, words.picture, words.host, quiet=words.quiet,
         fail_on_possible=words.fail_on == "possible", runs=words.runs, is_shaken=not words.no_shake,
         seed=random.SystemRandom().randrange(MOST_SEED) if words.shake == NEW_SEED else words.shake,
-        part_events=words.part_events, watched=None if words.watch_nothing else words.watch or [], looking=_looking(words),
+        part_events=words.part_events, status_file=words.status_file, watched=None if words.watch_nothing else words.watch or [], looking=_looking(words),
     ))
 
 
@@ -152,14 +164,18 @@ def _looking(words: argparse.Namespace) -> Looking:
 def _system(words: argparse.Namespace) -> int:
     system = read_system(words.file)
     system.export, system.picture = words.export or system.export, words.picture or system.picture
-    return run_system(system, _looking(words), words.fail_on == "possible")
+    return run_system(system, _looking(words), words.fail_on == "possible", words.status_file)
 
 
 def _races(words: argparse.Namespace) -> int:
     if words.picture is not None:
         check_writable(words.picture)
-    if not words.journal and words.port is None and os.path.isfile(words.trace) and is_in_parts(words.trace):
-        return _races_of_parts(words)
+    words.looking = _looking(words)
+    divided = _journal_in_parts(words)
+    if divided is not None:
+        return _races_of_parts(words, divided)
+    if not words.journal and words.port is None and os.path.isfile(f"{words.trace}.journal"):
+        words.journal = [f"{words.trace}.journal"]
     if not words.journal:
         raise Fault("races wants the journal of each process, behind the export or the tenant")
     if words.port is None:
@@ -169,24 +185,32 @@ def _races(words: argparse.Namespace) -> int:
     return _races_of(words, words.trace, words.port, words.host, f"tenant {words.trace} at port {words.port}")
 
 
+def _journal_in_parts(words: argparse.Namespace) -> str | None:
+    """The journal of a run in parts, if it is that: given for the export, behind it, or beside the export that is named."""
+    if words.port is not None or len(words.journal) > 1:
+        return None
+    given = words.journal or [words.trace, f"{words.trace}.journal"]
+    return next((one for one in given if os.path.isfile(one) and is_in_parts(one)), None)
+
+
 def _races_of(words: argparse.Namespace, tenant: str, port: int, host: str, trace: str) -> int:
     lines = list(lines_of(words.journal))
     check_trace(tenant, port, lines, host, trace)
-    found = races_seen(tenant, port, lines, host, _looking(words), Bar(sys.stderr))
+    found = races_seen(tenant, port, lines, host, words.looking, Bar(sys.stderr))
     is_drawn = words.picture is not None and draw_tenant(tenant, port, host, lines, words.picture, found)
     return _tell(words, found, words.picture if is_drawn else None)
 
 
-def _races_of_parts(words: argparse.Namespace) -> int:
+def _races_of_parts(words: argparse.Namespace, journal: str) -> int:
     """The races of a run in parts, whose exports are made anew for a picture."""
     with tempfile.TemporaryDirectory(prefix="itc_trace_") as work:
         parts = None if words.picture is None else os.path.join(work, "export")
-        found = races_of_parts(words.trace, _looking(words), Bar(sys.stderr), None, parts)
+        found = races_of_parts(journal, words.looking, Bar(sys.stderr), None, parts)
         return _tell(words, found, draw_parts(parts, words.picture, found, ""))
 
 
 def _tell(words: argparse.Namespace, found: Races, picture: str | None = None) -> int:
-    print(told(found, picture))
+    print(told(found, picture, words.looking))
     tell_if_untouched(found)
     return int(found.verdict(words.fail_on == "possible"))
 
@@ -199,9 +223,24 @@ def _relay(words: argparse.Namespace) -> None:
         raise Fault(f"port {words.listen} cannot be listened at: {fault.strerror}: choose another by --listen") from fault
 
 
-def main() -> int:
+def tell_of_options_behind(program: list[str]) -> None:
+    """Says of options of `run` behind the program that the program gets them, unless its source has their names."""
+    try:
+        with open(program[0], "rb") as file:
+            source = file.read()
+    except OSError:
+        return  # It is a module, or a folder.
+    options = {f"--{one}" for one in OPTIONS_OF_RUN}
+    for word in program[1:]:
+        option = word.partition("=")[0]
+        if option in options and option.removeprefix("--").encode() not in source:
+            print(f"itc_trace: {program[0]} gets {option}: put it before {program[0]} if it is for run, or put -- before the program", file=sys.stderr)
+
+
+def main(name: str = "python3 -m itc_trace") -> int:
     own, program = _divided(sys.argv[1:])
-    words = _parser().parse_args(own)
+    words = parser(name).parse_args(own)
+    words.is_program_marked = "--" in sys.argv[1 : len(own) + 2]
     try:
         if words.command == "run":
             return _run(words, program)

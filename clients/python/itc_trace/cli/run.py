@@ -25,10 +25,12 @@ from .ending import Child, Ended, ends_by_signals, is_asked_to_end
 from ..record.environment import OWN_TENANT
 from ..record.faults import WORDS_REFUSED, Fault, look
 from .launch import RAISED, REFUSED
+from .statuses import OWN_STATUSES, forget_status, keep_status, own_status
 from ..report.merging import Merged
 from ..processes.part_collectors import PartCollectors
 from ..analyse.parts import number_of_parts, races_of_parts
 from ..analyse.progress import Bar
+from ..report.hints import hints
 from ..report.race_rows import race_rows
 from ..analyse.races import Race, Races
 from ..analyse.seeing import races_seen
@@ -67,6 +69,8 @@ class Run:
     """After so many events a new part of the trace begins."""
     is_shaken: bool = True
     """Whether the runs from the second one on are shaken."""
+    status_file: str | None = None
+    """Where the verdict and the program's status are written apart."""
 
     def of(self, number: int) -> Run:
         """The run of this number, with files of its own."""
@@ -90,12 +94,13 @@ class Outcome:
 def run(asked: Run) -> int:
     """The program's own status where the verdict is 0, else that of the verdict."""
     _check(asked)
+    forget_status(asked.status_file)
     try:
         with ends_by_signals():
             return _run_once(asked, asked.seed) if asked.runs == 1 else _run_often(asked)
     except Ended as ended:
         _say(f"itc_trace: incomplete: {ended}")
-        return int(Verdict.INCOMPLETE)
+        return keep_status(asked.status_file, Verdict.INCOMPLETE, None)
 
 
 def _check(asked: Run) -> None:
@@ -107,6 +112,8 @@ def _check(asked: Run) -> None:
         raise Fault(f"there is no program {program}: name a file, or -m and a module")
     elif not os.path.isdir(program):
         _check_syntax(program)
+    if asked.status_file is not None:
+        check_writable(asked.status_file)
     for number in range(1, asked.runs + 1):
         for file in (asked.of(number).export, asked.of(number).journal, asked.of(number).picture):
             if file is not None:
@@ -159,11 +166,12 @@ def _run_once(asked: Run, seed: int | None) -> int:
         return WORDS_REFUSED
     races = outcome.races
     verdict = races.verdict(asked.fail_on_possible)
-    if verdict or races.possible or not asked.quiet:
-        _say(told(races, outcome.picture))
+    is_ambiguous = not verdict and outcome.status in OWN_STATUSES
+    if verdict or races.possible or is_ambiguous or not asked.quiet:
+        _say(told(races, outcome.picture, asked.looking) + own_status(verdict, outcome.status))
         if asked.watched is None and _is_untouched(races) and not outcome.has_raised:
             _say(UNTOUCHED)
-    return int(verdict) or outcome.status
+    return keep_status(asked.status_file, verdict, outcome.status)
 
 
 def _run_often(asked: Run) -> int:
@@ -183,8 +191,8 @@ def _run_often(asked: Run) -> int:
             break
     verdict = merged.verdict(asked.fail_on_possible)
     if verdict or merged.has_possible or not asked.quiet:
-        _say(merged.text())
-    return int(verdict) or merged.status
+        _say(merged.text(said_beside(merged.examples(), asked.looking)) + own_status(verdict, merged.status))
+    return keep_status(asked.status_file, verdict, merged.status)
 
 
 def _by_seed(seed: int | None) -> str:
@@ -340,13 +348,19 @@ def _say(text: str) -> None:
             print(text, file=sys.stderr, flush=True)
 
 
-def told(races: Races, picture: str | None = None) -> str:
+def said_beside(races: Races, looking: Looking) -> list[str]:
+    """What a reader of the races is told, too, a line each."""
+    return [f"itc_trace: {hint}" for hint in (*hints(races), *looking.unfitting())]
+
+
+def told(races: Races, picture: str | None = None, looking: Looking | None = None) -> str:
     """Why it is incomplete, where it is, and the races, each with a link into the picture, where there is one."""
     lines = [f"itc_trace: incomplete: {reasons(races.unseen)}"] if races.unseen else []
     for race in [*races.races, *races.possible]:
         lines.append(f"itc_trace: {race}")
         if picture is not None:
             lines.append(f"    {_link(race, picture)}")
+    lines += said_beside(races, looking or Looking())
     lines.append(f"itc_trace: {races.summary()}")
     return "\n".join(lines)
 

@@ -37,6 +37,7 @@ from ..session import Refused
 from .ending import name_of
 from .launch import REFUSED
 from .run import check_writable, draw, draw_parts, environment_of_package, told
+from .statuses import forget_status, keep_status, own_status
 from .system_file import Described, System
 from ..model.verdict import END_OF_ALL, Cause, Unseen
 
@@ -339,11 +340,12 @@ BORDERS = "borders"
 ENDED_AS_A_SERVICE = Unseen(Cause.KILLED, "the program was ended by SIGTERM").row()
 
 
-def run_system(system: System, looking: Looking, fail_on_possible: bool = False) -> int:
+def run_system(system: System, looking: Looking, fail_on_possible: bool = False, status_file: str | None = None) -> int:
     """The verdict's status, and where that is 0 the first status of a process that was not 0."""
-    for file in (system.export, system.picture):
+    for file in (system.export, system.picture, status_file):
         if file is not None:
             check_writable(file)
+    forget_status(status_file)
     with tempfile.TemporaryDirectory(prefix="itc_trace_") as folder, PartCollectors(system.tenant) as collectors:
         parts = RelayParts(lambda: ask_for_port(collectors.asked_at), os.path.join(folder, BORDERS))
         with Relaying(collectors.port, parts) as relay:
@@ -359,8 +361,9 @@ def run_system(system: System, looking: Looking, fail_on_possible: bool = False)
             races = races_seen(system.tenant, collectors.port, lines, HOST, looking, Bar(sys.stderr))
             races.unseen = [*running.unseen, *races.unseen]
             picture = _keep(system, collectors.port, lines, folder, races)
-        print(told(races, picture), file=sys.stderr, flush=True)
-        return int(races.verdict(fail_on_possible)) or running.status
+        verdict = races.verdict(fail_on_possible)
+        print(told(races, picture, looking) + own_status(verdict, running.status), file=sys.stderr, flush=True)
+        return keep_status(status_file, verdict, running.status)
 
 
 def _races_in_parts(system: System, looking: Looking, lines: list[str], folder: str, port: int, exports: str | None) -> Races:

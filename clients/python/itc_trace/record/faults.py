@@ -2,6 +2,7 @@
 
 from __future__ import annotations
 
+import re
 import socket
 
 from .collector import HOST
@@ -12,6 +13,8 @@ WORDS_REFUSED = 2
 
 TASK_EXISTS, NO_TENANT, DESK_TAKEN, NO_PLACE = 402, 420, 421, 422
 FULL = (413, 414, 415)
+REPLY = re.compile(r"\d{3}( |$)")
+MOST_SHOWN = 40
 
 
 class Fault(ConnectionError):
@@ -27,7 +30,9 @@ def nobody_listens(port: int) -> str:
 
 def refusal(reply: str, tenant: str, port: int) -> str:
     """Why the collector does not take a session or a report, and what to do."""
-    code = int(reply[:3]) if reply[:3].isdigit() else 0
+    if not REPLY.match(reply):
+        return f"what listens at port {port} is no collector, as it answers {reply[:MOST_SHOWN]!r}: name the port of one"
+    code = int(reply[:3])
     advice = _advice(code, tenant, port)
     return f"{reply}: {advice}" if advice else f"tenant {tenant} at port {port}: {reply}"
 

@@ -2,6 +2,7 @@
 
 from __future__ import annotations
 
+from collections.abc import Iterable
 from dataclasses import dataclass, field
 
 from ..analyse.races import Race, Races
@@ -53,13 +54,17 @@ class Merged:
     def verdict(self, fail_on_possible: bool = False) -> Verdict:
         return verdict_of(len(self._races) + (len(self._only_possible) if fail_on_possible else 0), self.unseen)
 
-    def text(self) -> str:
+    def examples(self) -> Races:
+        """The example of each race."""
+        return Races([often.example for often in self._races.values()], [often.example for often in self._only_possible.values()])
+
+    def text(self, said_beside: Iterable[str] = ()) -> str:
         lines = [f"itc_trace: incomplete: {reasons(self.unseen)}"] if self.unseen else []
         for often in [*self._races.values(), *self._only_possible.values()]:
             by_seed = "" if often.seed is None else f" (--shake={often.seed})"
             lines.append(f"itc_trace: {often.example}")
             lines.append(f"    in {often.runs} of {_runs(self.runs)}, first in run {often.first_run}{by_seed}")
-        return "\n".join([*lines, f"itc_trace: {self._summary()}"])
+        return "\n".join([*lines, *said_beside, f"itc_trace: {self._summary()}"])
 
     def _summary(self) -> str:
         count = len(self._races)

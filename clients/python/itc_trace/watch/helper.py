@@ -6,6 +6,7 @@ import hashlib
 import importlib.machinery
 import importlib.util
 import os
+import shutil
 import subprocess
 import sys
 import sysconfig
@@ -19,6 +20,7 @@ HEADER = "both_languages.h"
 PURE = "ITC_TRACE_PURE"
 """A variable of the environment: if it is set, the hooks are those in Python."""
 LONGEST_BUILD = 120.0
+COMPILES = "itc_trace: compiles the hooks of watched modules, once for this Python: it takes some seconds"
 KNOWN_VERSIONS = frozenset({(3, 11), (3, 12), (3, 13)})
 """Of which the helper knows the objects."""
 
@@ -59,6 +61,8 @@ def _build(name: str) -> None:
         with open(os.path.join(folder, HEADER), "w", encoding="ascii") as both:
             both.write(header())
         words = ["cc", "-O2", "-shared", "-fPIC", f"-I{include}", f"-I{folder}", SOURCE, "-o", made]
+        if sys.__stderr__ is not None and shutil.which(words[0]) is not None:
+            print(COMPILES, file=sys.__stderr__, flush=True)
         try:
             is_built = subprocess.run(words, capture_output=True, timeout=LONGEST_BUILD, check=False).returncode == 0
         except (OSError, subprocess.SubprocessError):

@@ -1,0 +1,44 @@
+"""What a reader of races is told beside them: why lines have no source, and what gives no order that could."""
+
+from __future__ import annotations
+
+import ast
+import os
+from collections.abc import Iterator
+
+from ..analyse.races import Races
+
+OF_SOCKETS = frozenset(("accept", "recv", "recv_into", "recvfrom", "send", "sendall", "sendto", "sock_recv", "sock_sendall"))
+"""Methods by which programs tell each other that something was done."""
+
+
+def hints(found: Races) -> Iterator[str]:
+    """In words for a person, a line each."""
+    files = list(dict.fromkeys(file for race in [*found.races, *found.possible] for file in map(_file_of, race.sides) if file))
+    missing = [file for file in files if not os.path.isfile(file)]
+    if missing:
+        yield f"no line of {', '.join(missing)} is shown, as it is not here: list the races in the folder of the run to see them"
+    sockets = [place for file in files if file not in missing for place in _first_use_of_sockets(file)]
+    if sockets:
+        yield f"the socket at {', '.join(sockets)} gives no order: if its message does, tell so by itc_trace.outgoing() and incoming()"
+
+
+def _file_of(side: object) -> str:
+    file, _, line = str(getattr(side, "place")).rpartition(":")
+    return file if line.isdigit() and not file.startswith("<") else ""
+
+
+def _first_use_of_sockets(file: str) -> list[str]:
+    """The place where a program that imports sockets first sends or takes by one. None if it does not."""
+    try:
+        with open(file, "rb") as source:
+            tree = ast.parse(source.read())
+    except (OSError, SyntaxError, ValueError, RecursionError):
+        return []
+    nodes = list(ast.walk(tree))
+    is_importing = any(
+        isinstance(node, ast.Import) and any(name.name == "socket" for name in node.names)
+        or isinstance(node, ast.ImportFrom) and node.module == "socket" for node in nodes
+    )
+    lines = [node.lineno for node in nodes if isinstance(node, ast.Call) and isinstance(node.func, ast.Attribute) and node.func.attr in OF_SOCKETS]
+    return [f"{file}:{min(lines)}"] if is_importing and lines else []
