@@ -123,6 +123,41 @@ DRAWINGS: list[tuple[str, int, str]] = [
 ]
 
 
+EACH = """
+import json, os, sys, tempfile
+from itc_trace.cli import commands
+
+def answer(words):
+    with tempfile.TemporaryFile() as output, tempfile.TemporaryFile() as error:
+        child = os.fork()
+        if child == 0:
+            os.dup2(output.fileno(), 1)
+            os.dup2(error.fileno(), 2)
+            sys.argv = ["itc_trace", *words]
+            try:
+                status = commands.main()
+            except SystemExit as fault:
+                status = fault.code
+            except BaseException:
+                import traceback
+                traceback.print_exc()
+                status = 1
+            sys.stdout.flush()
+            sys.stderr.flush()
+            os._exit(status)
+        status = os.waitstatus_to_exitcode(os.waitpid(child, 0)[1])
+        said = []
+        for file in (output, error):
+            file.seek(0)
+            said.append(file.read().decode())
+        return status, *said
+
+os.chdir(sys.argv[1])
+print(json.dumps([answer(words) for words in json.loads(sys.argv[2])]))
+"""
+"""Runs each command in a process that has imported the package already, and tells its status and what it wrote."""
+
+
 class _Quiet(http.server.BaseHTTPRequestHandler):
     def log_message(self, *_: object) -> None:
         pass
@@ -148,12 +183,16 @@ class Usages(unittest.TestCase):
         self.addCleanup(server.server_close)
         self.addCleanup(server.shutdown)
         ports = {"FREE": str(self.enterContext(kept_port())), "HTTP": str(server.server_address[1])}
-        for typed, status, told in USAGES:
+        asked = [[ports.get(word, word) for word in typed.split()] for typed, _, _ in USAGES]
+        ran = run_python("-c", EACH, str(self.folder), json.dumps(asked))
+        self.assertEqual(ran.returncode, 0, ran.stderr)
+        answers = json.loads(ran.stdout)
+        self.assertEqual(len(answers), len(USAGES))
+        for (typed, status, told), (ended, output, error) in zip(USAGES, answers, strict=True):
             with self.subTest(typed=typed):
-                ran = self.run_here(*(ports.get(word, word) for word in typed.split()))
-                self.assertEqual((ran.returncode, ran.stdout), (status, ""), ran.stderr)
-                self.assertIn(told, ran.stderr.splitlines()[-1])
-                self.assertNotIn("Traceback", ran.stderr)
+                self.assertEqual((ended, output), (status, ""), error)
+                self.assertIn(told, error.splitlines()[-1])
+                self.assertNotIn("Traceback", error)
 
     def test_each_of_the_picture_is_answered_in_words(self) -> None:
         for typed, status, told in DRAWINGS:
