@@ -51,7 +51,10 @@ for _ in range(20):
         thread.join()
 """
 PICTURE = PACKAGE.parent.parent / "picture"
-EXPORT = '{"events":4096,"messages":2048,"tasks":512,"tenant":"x","version":2}\n'
+EXPORT = (
+    '{"events":4096,"messages":2048,"tasks":512,"tenant":"x","version":2}\n'
+    '{"event":1,"kind":"local","name":"-","preds":[],"stamp":"[1;1]","task":"root"}\n'
+)
 
 USAGES: list[tuple[str, int, str]] = [
     ("run", 2, "run wants a program"),
@@ -109,13 +112,17 @@ DRAWINGS: list[tuple[str, int, str]] = [
     ("empty", 2, "picture: empty is empty"),
     ("</dev/null", 2, "picture: standard input is empty"),
     ("<&-", 2, "picture: standard input is closed"),
-    ("random", 1, "picture: no export: line 1, reason 1"),
+    ("random", 2, "picture: no export: line 1, reason 1"),
     ("--labels nope g.export", 2, "picture: nope cannot be read"),
-    ("--labels random g.export", 2, "picture: random has no labels: line 1 is no object of JSON"),
-    ("--labels shop.py g.export", 2, "picture: shop.py has no labels"),
-    ("--labels word g.export", 2, "picture: word has no labels"),
-    ("--races random g.export", 2, "picture: random has no races"),
+    ("--labels random g.export", 2, "picture: random: line 1 is no line of a journal"),
+    ("--labels shop.py g.export", 2, "picture: shop.py: line 1 is no line of a journal"),
+    ("--labels word g.export", 2, "picture: word: line 1 breaks off"),
+    ("--races random g.export", 2, "picture: random: line 1 is no line of a list of races"),
+    ("--races empty g.export", 2, "picture: empty is empty: it is no list of races"),
     ("--races folder g.export", 2, "picture: folder cannot be read"),
+    ("--parts word g.export", 2, "picture: --parts lists the exports: name no other"),
+    ("--parts word --labels word", 2, "picture: --labels is of one export"),
+    ("--parts empty", 2, "picture: empty is empty: it lists no parts"),
     ("g.export >/dev/full", 3, "picture: the page cannot be written: No space left on device"),
     ("g.export >&-", 3, "picture: the page cannot be written: standard output is closed"),
     ("--nope", 2, "unrecognized arguments: --nope"),
@@ -205,7 +212,7 @@ class Usages(unittest.TestCase):
     def test_a_picture_of_a_file_is_that_of_its_content(self) -> None:
         by_file, by_input = (
             subprocess.run(["sh", "-c", f"'{sys.executable}' '{PICTURE}' {typed}"], capture_output=True, cwd=self.folder, check=True).stdout
-            for typed in ("g.export --races empty", "--races empty <g.export")
+            for typed in ("g.export", "<g.export")
         )
         self.assertEqual(by_file, by_input)
         self.assertTrue(by_file.startswith(b"<!"))
