@@ -24,6 +24,7 @@ from .run import MOST_SEED, Run, check_writable, draw_parts, draw_tenant, run, t
 from ..analyse.seeing import check_trace, lines_of, races_seen
 from ..session import Refused
 from ..analyse.snapshot import snapshot
+from ..report.hints import missing_sources
 from .system import run_system
 from .system_file import read_system
 
@@ -210,7 +211,7 @@ def _races_of_parts(words: argparse.Namespace, journal: str) -> int:
 
 
 def _tell(words: argparse.Namespace, found: Races, picture: str | None = None) -> int:
-    print(told(found, picture, words.looking))
+    print(told(found, picture, words.looking, missing_sources(found)))
     tell_if_untouched(found)
     return int(found.verdict(words.fail_on == "possible"))
 

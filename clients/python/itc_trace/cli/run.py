@@ -353,14 +353,14 @@ def said_beside(races: Races, looking: Looking) -> list[str]:
     return [f"itc_trace: {hint}" for hint in (*hints(races), *looking.unfitting())]
 
 
-def told(races: Races, picture: str | None = None, looking: Looking | None = None) -> str:
+def told(races: Races, picture: str | None = None, looking: Looking | None = None, beside: Iterable[str] = ()) -> str:
     """Why it is incomplete, where it is, and the races, each with a link into the picture, where there is one."""
     lines = [f"itc_trace: incomplete: {reasons(races.unseen)}"] if races.unseen else []
     for race in [*races.races, *races.possible]:
         lines.append(f"itc_trace: {race}")
         if picture is not None:
             lines.append(f"    {_link(race, picture)}")
-    lines += said_beside(races, looking or Looking())
+    lines += [*said_beside(races, looking or Looking()), *(f"itc_trace: {line}" for line in beside)]
     lines.append(f"itc_trace: {races.summary()}")
     return "\n".join(lines)
 

@@ -14,13 +14,20 @@ OF_SOCKETS = frozenset(("accept", "recv", "recv_into", "recvfrom", "send", "send
 
 def hints(found: Races) -> Iterator[str]:
     """In words for a person, a line each."""
-    files = list(dict.fromkeys(file for race in [*found.races, *found.possible] for file in map(_file_of, race.sides) if file))
-    missing = [file for file in files if not os.path.isfile(file)]
-    if missing:
-        yield f"no line of {', '.join(missing)} is shown, as it is not here: list the races in the folder of the run to see them"
-    sockets = [place for file in files if file not in missing for place in _first_use_of_sockets(file)]
+    sockets = [place for file in _files(found) if os.path.isfile(file) for place in _first_use_of_sockets(file)]
     if sockets:
         yield f"the socket at {', '.join(sockets)} gives no order: if its message does, tell so by itc_trace.outgoing() and incoming()"
+
+
+def missing_sources(found: Races) -> Iterator[str]:
+    """Why lines have no source, where races are listed that were kept."""
+    missing = [file for file in _files(found) if not os.path.isfile(file)]
+    if missing:
+        yield f"no line of {', '.join(missing)} is shown, as it is not here: list the races in the folder of the run to see them"
+
+
+def _files(found: Races) -> list[str]:
+    return list(dict.fromkeys(file for race in [*found.races, *found.possible] for file in map(_file_of, race.sides) if file))
 
 
 def _file_of(side: object) -> str:
