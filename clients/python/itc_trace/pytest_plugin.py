@@ -69,7 +69,8 @@ class _Traced:
         self.found: str | None = None
         """Why the test fails, if it does."""
         try:
-            self._tracing = Tracing(*config.stash[_tenants].next(), looking=_looking(config)).start()
+            port, tenant = config.stash[_tenants].next()
+            self._tracing = Tracing(port, tenant, looking=_looking(config)).start()
         except Exception as fault:  # No collector, say, or the process is traced already.
             self.found = f"itc_trace: the test was not traced: {fault}"
 
@@ -212,9 +213,10 @@ def pytest_runtest_call(item: pytest.Item) -> Generator[None, Any, None]:
 @contextlib.contextmanager
 def _with_its_lines_watched(item: pytest.Item) -> Iterator[None]:
     """The lines of a doctest have hooks, too, if it is traced and its file is watched."""
-    selection = watch.selection() if hasattr(item, "dtest") and _is_marked(item) else None
-    if selection is not None and selection.has_file(str(item.dtest.globs.get("__name__", "")), str(item.path)):
-        with doctests.watched(item.dtest, selection):
+    doctest: Any = getattr(item, "dtest", None)
+    selection = watch.selection() if doctest is not None and _is_marked(item) else None
+    if selection is not None and selection.has_file(str(doctest.globs.get("__name__", "")), str(item.path)):
+        with doctests.watched(doctest, selection):
             yield
     else:
         yield
@@ -251,7 +253,7 @@ def _is_skipped(report: pytest.TestReport) -> bool:
     return bool(report.skipped) and not hasattr(report, "wasxfail")
 
 
-def _tell(report: pytest.TestReport, found: str) -> None:
+def _tell(report: Any, found: str) -> None:
     """The test fails for what was found, unless it fails anyway. One that is to fail does so by this."""
     strict = "[XPASS(strict)] "
     if report.passed and hasattr(report, "wasxfail"):

@@ -1,39 +1,61 @@
-"""What a reader of the package may believe of its sources: nothing is named that is not used, and no module reaches into another."""
+"""What a reader of the package may believe of its sources: types are right, no name is unused, and no module reaches into another."""
 
 from __future__ import annotations
 
-import ast
+import collections
 import shutil
 import subprocess
 import tempfile
 import unittest
-from collections.abc import Iterator
 from pathlib import Path
 
 import rooms
 
+from .sources import ignored, names_of_others, reached_into, swallowed
 from .support import PACKAGE
 
-PYFLAKES = "pyflakes3"
+PYFLAKES, MYPY = "pyflakes3", "mypy"
+OF_THE_LIBRARY = {
+    "cli.launch": "_run_module_as_main",
+    "cli.run": "_args_from_interpreter_flags _xoptions",
+    "processes.children": "_popen",
+    "record.noting": "_active _current_tasks _get_running_loop",
+    "sync.asynchronous": "_GatheringFuture _callback _children _count _get_running_loop _lock _locked _value _waiters",
+    "sync.callbacks": "_registry",
+    "sync.futures": "_WorkItem _condition _exception _max_workers _state",
+    "sync.http": "_SocketWriter _buffer",
+    "sync.importlib_bootstrap": "_ModuleLock _calc___package__ _lock_unlock_module _module_locks _resolve_name",
+    "sync.locks": "_is_owned",
+    "sync.process_signals": "_cond _flag _lock _make_methods _semlock",
+    "sync.processes": "_count _is_mine _make_methods _registry",
+    "sync.queues": "_lock _qsize",
+    "sync.starts": "_popen _start_method",
+    "sync.thread_pools": "_cache _cond _event _inqueue _items _outqueue _processes _quick_get _quick_put",
+    "sync.threads": "_args _cond _count _flag _is_owned _lock _target _waiters",
+    "sync.values": "_wrapper",
+    "watch": "_get_code_from_file",
+    "watch.inside": "_FIELD _field_type",
+    "watch.late": "_at_fork_reinit",
+    "watch.places": "_at_fork_reinit",
+}
+"""Names of the library's own that modules use, where there is no other way to what they follow."""
+SWALLOWED = {
+    "cli.launch": ["_error_of", "_show"],  # The program's own error, which is shown as the interpreter would.
+    "pytest_plugin": ["__init__", "end"],  # The test fails, and is told why.
+    "record.noting": ["_adopt_task", "_text"],  # The program's own object, which may give anything or nothing.
+    "watch.depth": ["run"],  # It is raised again, in the thread that waits.
+    "watch.finder": ["_code_of", "plain"],  # The program's own import fails for it, too.
+    "watch.kept": ["found"],  # Whatever lies in the file, the module is rewritten anew.
+}
+"""Functions that catch every fault and tell nobody. In all others it is raised again, or counted."""
+IGNORED = {
+    "arg-type": 1, "assignment": 3, "attr-defined": 23, "import": 1, "misc": 14, "no-any-return": 8, "type-arg": 1, "union-attr": 2,
+}
+"""So many findings of each kind are passed over at most.
 
-
-def reached_into(name: str, path: Path, known: dict[str, Path]) -> Iterator[str]:
-    """The names of another module of the package that begin with an underscore, and are used here."""
-    tree = ast.parse(path.read_text(encoding="utf-8"))
-    modules: set[str] = set()
-    for node in ast.walk(tree):
-        if isinstance(node, ast.ImportFrom) and node.level:
-            package = [one for one in (name.split(".") if path.name == "__init__.py" else name.split(".")[:-1]) if one]
-            base = ".".join(package[: len(package) - node.level + 1] + (node.module.split(".") if node.module else []))
-            modules |= {one.asname or one.name for one in node.names if f"{base}.{one.name}".strip(".") in known}
-            yield from (f"{path.name}:{node.lineno} imports {one.name}" for one in node.names if is_own(one.name))
-    for node in ast.walk(tree):
-        if isinstance(node, ast.Attribute) and isinstance(node.value, ast.Name) and node.value.id in modules and is_own(node.attr):
-            yield f"{path.name}:{node.lineno} uses {node.value.id}.{node.attr}"
-
-
-def is_own(name: str) -> bool:
-    return name.startswith("_") and not name.startswith("__")
+Most are names of the library's own that no stub has, fields that the rewriting adds to nodes, and classes made of what is known at run
+time alone.
+"""
 
 
 class Lint(unittest.TestCase):
@@ -45,16 +67,72 @@ class Lint(unittest.TestCase):
         found = subprocess.run([PYFLAKES, *files], capture_output=True, text=True, check=False)
         self.assertEqual((found.stdout, found.stderr, found.returncode), ("", "", 0))
 
+    @unittest.skipIf(shutil.which(MYPY) is None, f"there is no {MYPY} here: apt-get install -y {MYPY}")
+    def test_types_are_right(self) -> None:
+        with tempfile.TemporaryDirectory() as cache:
+            command = [MYPY, "--strict", "--cache-dir", cache, "itc_trace"]
+            found = subprocess.run(command, cwd=PACKAGE, capture_output=True, text=True, check=False)
+        self.assertRegex(found.stdout, r"\ASuccess: no issues found in \d{3} source files\n\Z")
+
+    def test_few_findings_of_types_are_passed_over(self) -> None:
+        counts = collections.Counter(kind for path in rooms.modules().values() for kind in ignored(path))
+        self.assertEqual({kind: count for kind, count in counts.items() if count > IGNORED.get(kind, 0)}, {})
+
     def test_no_module_uses_the_own_names_of_another(self) -> None:
         known = rooms.modules()
         self.assertEqual([one for name, path in known.items() for one in reached_into(name, path, known)], [])
 
-    def test_own_names_are_seen(self) -> None:
-        with tempfile.TemporaryDirectory() as folder:
-            path = Path(folder) / "high.py"
-            path.write_text("from . import low\nfrom .low import _one, two\n\nlow._three = low.four.__class__, low.five, self._six\n", encoding="utf-8")
-            found = list(reached_into("room.high", path, {"room.low": path, "room.high": path}))
+    def test_the_own_names_of_the_library_that_are_used_are_listed(self) -> None:
+        found = {name: names_of_others(path) for name, path in rooms.modules().items()}
+        self.assertEqual({name: " ".join(sorted(names)) for name, names in found.items() if names}, OF_THE_LIBRARY)
+
+    def test_no_other_function_swallows_every_fault(self) -> None:
+        found = {name: swallowed(path) for name, path in rooms.modules().items()}
+        self.assertEqual({name: functions for name, functions in found.items() if functions}, SWALLOWED)
+
+
+class Planted(unittest.TestCase):
+    """What breaks these rules is seen."""
+
+    def setUp(self) -> None:
+        folder = tempfile.TemporaryDirectory()
+        self.addCleanup(folder.cleanup)
+        self.path = Path(folder.name) / "high.py"
+
+    def plant(self, *lines: str) -> Path:
+        self.path.write_text("\n".join(lines) + "\n", encoding="utf-8")
+        return self.path
+
+    def test_own_names_of_another_module(self) -> None:
+        path = self.plant(
+            "from . import low", "from .low import _one, two", "", "low._three = low.four.__class__, low.five, self._six",
+        )
+        found = list(reached_into("room.high", path, {"room.low": path, "room.high": path}))
         self.assertEqual(found, ["high.py:2 imports _one", "high.py:4 uses low._three"])
+
+    def test_own_names_of_the_library(self) -> None:
+        path = self.plant(
+            "from threading import _active", "class One:", "    __slots__ = ('_slot',)", "    def __init__(self):", "        self._own = 1",
+            "def _function(one):", "    return one._own, one._slot, one._function, one._itc_line, one._replace(), one._cond, one.__dict__",
+        )
+        self.assertEqual(names_of_others(path), {"_active", "_cond"})
+
+    def test_faults_that_nobody_hears_of(self) -> None:
+        path = self.plant(
+            "def silent():", "    try: work()", "    except Exception: pass",
+            "def bare():", "    try: work()", "    except: pass",
+            "def one_of_two():", "    try: work()", "    except (OSError, Exception): pass",
+            "def of_another_fault():", "    try: work()", "    except Exception as fault: lost(other)",
+            "def another_raised():", "    try: work()", "    except Exception as fault: raise OSError",
+            "def counted():", "    try: work()", "    except Exception as fault: lost(fault)",
+            "def raised():", "    try: work()", "    except BaseException:", "        undo()", "        raise",
+            "def narrow():", "    try: work()", "    except OSError: pass",
+        )
+        self.assertEqual(swallowed(path), ["silent", "bare", "one_of_two", "of_another_fault", "another_raised"])
+
+    def test_findings_that_are_passed_over(self) -> None:
+        path = self.plant("one = 1  # type: ignore", "two = 2  # type: ignore[misc]  # Told why.", "three = 3")
+        self.assertEqual(ignored(path), ["", "misc"])
 
 
 if __name__ == "__main__":

@@ -98,8 +98,7 @@ class Tracing:
         with self._stopping:
             self.is_stopping = True
             if self._file is not None:
-                for one in [*watch.unwatched(self.is_child), *watch.not_looked_into(), *not_followed()]:
-                    self.tell(one)
+                self._tell_what_was_not_seen()
             tracer, self._tracer = self._tracer, None
             file, self._file = self._file, None
             children, self._children = self._children, None
@@ -112,6 +111,11 @@ class Tracing:
                 if one is not None:
                     one.close()
             self.is_stopping = False
+
+    def _tell_what_was_not_seen(self) -> None:
+        unseen: list[Unseen | PassedOver] = [*watch.unwatched(self.is_child), *watch.not_looked_into(), *not_followed()]
+        for one in unseen:
+            self.tell(one)
 
     def tell(self, unseen: Unseen | PassedOver) -> None:
         """Says in the journal what of the run is not seen. If that cannot be written, tracing stops, and the journal breaks off."""
@@ -242,7 +246,8 @@ _witnesses: list[Witness] = []
 
 
 def _tell(unseen: Unseen) -> None:
-    for one in [*_active, *_witnesses]:
+    told: list[Tracing | Witness] = [*_active, *_witnesses]
+    for one in told:
         one.tell(unseen)
 
 

@@ -20,7 +20,8 @@ from ..sync.base import like
 from ..sync.process_pools import take_done
 
 ANOTHER_PROGRAM = Unseen(Cause.KILLED, "tracing stopped where the process was to go on as another program")
-_set_handler, _handler_of, _interrupt = signal.signal, signal.getsignal, _thread.interrupt_main
+_set_handler, _handler_of = signal.signal, signal.getsignal
+_interrupt: Any = _thread.interrupt_main
 """As they are before any program is traced."""
 ENDING_SIGNALS = [getattr(signal, name) for name in ("SIGTERM", "SIGHUP") if hasattr(signal, name)]
 

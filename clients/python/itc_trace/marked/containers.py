@@ -165,7 +165,8 @@ def _added_to(self: Any, other: Any) -> Any:
     if not isinstance(other, (list, deque, bytes, bytearray)):
         return NotImplemented
     note(self._itc_name, READ)
-    return type(other).__add__(other, self)
+    kind: Any = type(other)
+    return kind.__add__(other, self)
 
 
 def is_method(base: type, name: str) -> bool:
@@ -281,7 +282,7 @@ class _View:
 
     def __init__(self, view: Any, name: str) -> None:
         self._mapping = self._view = view
-        self._name = name
+        self._name = name  # type: ignore[misc]  # It is a slot of each view, whose other base has slots of its own.
         self._stretch = STRETCHES.get(get_ident())
 
     def __len__(self) -> int:

@@ -44,7 +44,7 @@ def shared(value: T, name: str, across: bool = False) -> T:
         return value
     if isinstance(value, NEVER_WRAPPED):
         _warn_of_unwatched(value, name)
-        return value
+        return cast(T, value)
     kind: Any = type(value)
     if across:
         name = Across(name)

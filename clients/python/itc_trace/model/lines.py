@@ -12,7 +12,7 @@ from itertools import islice
 from types import CodeType
 from typing import Any, NamedTuple, Protocol
 
-from .lock_identity import LockIdentity, Signal
+from .lock_identity import LockIdentity, LockOrAsking, Signal
 from .verdict import Unseen
 
 MARK, TAKE, TAKE_END, SPAWN, FINISH, JOIN, TOUCH, LATE, GONE, SEND, RECV, STOP, CHILD, LEAVE_LOOP = range(14)
@@ -132,12 +132,12 @@ class Line:
         self.name = ""
         self.count = 0
         self.message: str | None = None
-        self.lock: LockIdentity | None = None
+        self.lock: LockOrAsking | None = None
         """The lock that the message is of."""
         self.sent: list[tuple[int, str]] = []
         self.pending: list[Token] = []
         self.known: dict[Line, int] = {}
-        self.known_by_locks: dict[tuple[Line, LockIdentity], int] = {}
+        self.known_by_locks: dict[tuple[Line, LockOrAsking], int] = {}
         self.parent: Line | None = None
         self.parent_count = 0
         self.touches: TouchEvent | None = None
@@ -184,13 +184,13 @@ class LateJob:
 class Token:
     """A place in a line, behind the events that it had when the token was noted. Whoever takes it, comes after these.
 
-    What it stands for is a `LockIdentity`, where a lock is handed over, and a `What` or a `Signal` of any other order. Its
-    `lock` says which of them only luck puts in order.
+    What it stands for is a `LockIdentity`, where a lock is handed over, an `Asking` of a request or a response, and a `What` or a
+    `Signal` of any other order. Its `lock` says which of them only luck puts in order.
     """
 
     __slots__ = ("line", "what", "code", "instruction", "last_taker", "count", "message", "time", "__weakref__")
 
-    def __init__(self, line: Line, what: What | LockIdentity | Signal, code: CodeType | None, instruction: int) -> None:
+    def __init__(self, line: Line, what: What | LockOrAsking | Signal, code: CodeType | None, instruction: int) -> None:
         self.line = line
         self.what = what
         self.code = code

@@ -124,6 +124,10 @@ class Asking:
         return Asking(ANSWER, "answer", "answer", "take answer")
 
 
+LockOrAsking = LockIdentity | Asking
+"""What may put tasks in order by luck alone."""
+
+
 class Signal:
     """What the release of a lock stands for that another task acquired: an order of its own."""
 

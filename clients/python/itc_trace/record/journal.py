@@ -3,9 +3,9 @@
 from __future__ import annotations
 
 import json
-from collections.abc import Iterable, Iterator
+import json.encoder
+from collections.abc import Callable, Iterable, Iterator
 from dataclasses import dataclass
-from json.encoder import encode_basestring_ascii as text_of
 from types import CodeType
 from typing import Any, NamedTuple
 
@@ -14,10 +14,12 @@ from .dividing import Border
 from ..model.file_names import name_of_file
 from ..model.frames import line_of
 from ..model.lines import Touch
-from ..model.lock_identity import LockIdentity
+from ..model.lock_identity import LockOrAsking
 from ..model.stretches import SITES, Across
 from ..model.verdict import BREAKS_OFF, Cause, PassedOver, Unseen
 
+text_of: Callable[[str], str] = vars(json.encoder)["encode_basestring_ascii"]
+"""A text as JSON has it."""
 MOST_NAMED = 4096
 """So many texts of named things are kept, not to make each anew."""
 
@@ -305,7 +307,7 @@ class TouchTexts:
         self._things.clear()
         self._locks.clear()
 
-    def lock(self, lock: LockIdentity) -> str:
+    def lock(self, lock: LockOrAsking) -> str:
         """The name of a lock, behind what tells it from others of the same name."""
         text = self._locks.get(lock.serial)
         if text is None:

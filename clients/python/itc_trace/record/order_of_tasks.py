@@ -9,7 +9,7 @@ from sys import getrefcount
 from types import CodeType
 
 from ..model.lines import END, GONE, JOIN, RESULT, TAKE, TAKE_END, Line, Note, Reporter, Token
-from ..model.lock_identity import LockIdentity
+from ..model.lock_identity import LockOrAsking
 from ..model.loop_runs import STOPS, LoopRun
 from ..model.verdict import Cause
 from .awaited import await_at_exit, take_awaited
@@ -104,7 +104,7 @@ class OrderOfTasks:
         self._reports.report(line, "send", message, token.code, token.instruction, token.what.giving, lock, token.time)
         self._sent(line, message, lock)
 
-    def _sent(self, line: Line, message: str, lock: LockIdentity | None) -> None:
+    def _sent(self, line: Line, message: str, lock: LockOrAsking | None) -> None:
         line.message, line.lock = message, lock
         if lock is None:
             line.sent.append((line.count, message))

@@ -7,7 +7,7 @@ from collections import deque
 from types import CodeType
 
 from ..model.lines import Line, TouchEvent
-from ..model.lock_identity import LockIdentity
+from ..model.lock_identity import LockOrAsking
 from .connection import Connection
 from .dividing import Report, request
 from .touch_journal import TouchJournal
@@ -21,7 +21,7 @@ class Outstanding:
     __slots__ = ("text", "task", "kind", "name", "code", "instruction", "label", "lock", "time", "touches", "waiter", "may_be_refused")
 
     def __init__(self, text: str, task: str, kind: str, name: str, code: CodeType | None, instruction: int, label: str,
-                 lock: LockIdentity | None = None, time: float = 0.0) -> None:
+                 lock: LockOrAsking | None = None, time: float = 0.0) -> None:
         self.text = text
         self.task = task
         self.kind = kind
@@ -51,7 +51,7 @@ class Reports:
         """Whether nothing is answered any more."""
 
     def report(self, line: Line, kind: str, name: str, code: CodeType | None, instruction: int, label: str,
-                lock: LockIdentity | None = None, time: float = 0.0) -> Outstanding:
+                lock: LockOrAsking | None = None, time: float = 0.0) -> Outstanding:
         if line.touches is not None:
             self.touches.end_event(line)
         report = self.put(kind, line.name, name, code, instruction, label, lock, time or self.time)
@@ -62,7 +62,7 @@ class Reports:
         return report
 
     def put(self, kind: str, task: str, name: str, code: CodeType | None, instruction: int, label: str,
-             lock: LockIdentity | None = None, time: float = 0.0) -> Outstanding:
+             lock: LockOrAsking | None = None, time: float = 0.0) -> Outstanding:
         """Has a report sent with the next ones."""
         text = f"{request(kind, task, name)}\n"
         report = Outstanding(text, task, kind, name, code, instruction, label, lock, time)

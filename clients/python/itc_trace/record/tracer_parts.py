@@ -10,7 +10,7 @@ from sys import getrefcount
 from .dividing import LEAVE, ROOT, Border, Divider, Limits, Report
 from .faults import Fault
 from ..model.lines import Line, Token
-from ..model.lock_identity import LockIdentity
+from ..model.lock_identity import LockOrAsking
 
 MOST_ENDED = 1200
 """So many ended tasks that may be waited for are taken into the next part, those that ended last, however small it is to be."""
@@ -31,7 +31,7 @@ REFERENCES_OF_NOBODY = _references_of_nobody()
 class _Message:
     """A message, the lock that it hands over, and the tokens by which it may be received."""
 
-    lock: LockIdentity | None
+    lock: LockOrAsking | None
     tokens: list[weakref.ref[Token]] = field(default_factory=list)
     is_outside: bool = False
 
@@ -71,7 +71,7 @@ class Parts:
     def add(self, line: Line) -> None:
         self._lines[line.name] = line
 
-    def sent(self, message: str, lock: LockIdentity | None, tokens: Iterable[Token]) -> None:
+    def sent(self, message: str, lock: LockOrAsking | None, tokens: Iterable[Token]) -> None:
         """The message may be received by whoever has one of these tokens."""
         known = self._messages.setdefault(message, _Message(lock))
         known.tokens += map(weakref.ref, tokens)
@@ -80,7 +80,7 @@ class Parts:
         """The message may be received by whoever has its name."""
         self._messages[message].is_outside = True
 
-    def lock_of(self, report: Report) -> LockIdentity | None:
+    def lock_of(self, report: Report) -> LockOrAsking | None:
         """The lock that a message hands over."""
         return self._messages[report.name].lock if report.kind == "send" else None
 

@@ -352,7 +352,7 @@ def _naming(original: Any) -> Any:
 def _create_future(original: Any) -> Any:
     def create_future(self: Any) -> Any:
         frame = frame_at(1)
-        if is_internal(frame) and frame.f_code not in _FOR_THE_PROGRAM:
+        if frame is not None and is_internal(frame) and frame.f_code not in _FOR_THE_PROGRAM:
             return original(self)
         return TracedFuture(loop=self)
 
@@ -457,15 +457,15 @@ def _put_loops(patches: Patches) -> None:
 def _run_handle(original: Any) -> Any:
     """Each callback of a loop is a turn, and the stretches of what it runs begin and end there."""
 
-    def _run(self: Any) -> None:
+    def _run(self: Any) -> Any:
         if state.note is None:
-            return original(self)  # type: ignore[no-any-return]
+            return original(self)
         thread = get_ident()
         STRETCHES.pop(thread, None)
         TURNS[thread] = next(_turns)
         take_step(_line_of_step(self._callback))
         try:
-            return original(self)  # type: ignore[no-any-return]
+            return original(self)
         finally:
             del self  # Frames of the callback refer to this one, and the handle to what the callback is given.
             STRETCHES.pop(thread, None)
@@ -485,13 +485,13 @@ def _line_of_step(callback: Any) -> Line | None:
 def _run_forever(original: Any) -> Any:
     """Behind the run of a loop its thread goes on after all that the loop's tasks did by then, and they after what it does in between."""
 
-    def run_forever(self: Any) -> None:
+    def run_forever(self: Any) -> Any:
         token = mark(BEGINS) if state.note is not None and _running_loop() is None else None
         if token is None:
-            return original(self)  # type: ignore[no-any-return]
+            return original(self)
         run = RUNS[get_ident()] = LoopRun(token)
         try:
-            return original(self)  # type: ignore[no-any-return]
+            return original(self)
         finally:
             RUNS.pop(get_ident(), None)
             if state.note is not None:
@@ -561,7 +561,8 @@ def _added(future: Any, callback: Any) -> Token | None:
     for entry in getattr(future, "_itc_callbacks", ()):
         if entry[0] is callback or entry[0] == callback:
             future._itc_callbacks = [one for one in future._itc_callbacks if one is not entry]
-            return entry[1]  # type: ignore[no-any-return]
+            token: Token | None = entry[1]
+            return token
     return None
 
 
@@ -825,15 +826,15 @@ def _put_queues(patches: Patches) -> None:
 
 
 def _put_nowait(original: Any) -> Any:
-    def put_nowait(self: Any, item: Any) -> None:
+    def put_nowait(self: Any, item: Any) -> Any:
         if state.note is None:
-            return original(self, item)  # type: ignore[no-any-return]
+            return original(self, item)
         if has_few_places(self) and not self.full():
             room_of(self, self.qsize()).use()
         items = items_of(self)
         items.add(item, mark(QUEUE))
         try:
-            return original(self, item)  # type: ignore[no-any-return]
+            return original(self, item)
         except BaseException:
             items.remove(item, from_end=True)
             raise
@@ -856,9 +857,9 @@ def _get_nowait(original: Any) -> Any:
 
 
 def _task_done(original: Any) -> Any:
-    def task_done(self: Any) -> None:
+    def task_done(self: Any) -> Any:
         note_done(self)
-        return original(self)  # type: ignore[no-any-return]
+        return original(self)
 
     return task_done
 

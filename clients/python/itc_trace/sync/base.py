@@ -81,7 +81,8 @@ class Builtin(staticmethod):  # type: ignore[type-arg]
         return self.__name__
 
 
-Builtin.__name__ = Builtin.__qualname__ = BuiltinFunctionType.__name__
+_builtin: Any = BuiltinFunctionType
+Builtin.__name__ = Builtin.__qualname__ = _builtin.__name__
 Builtin.__module__ = BuiltinFunctionType.__module__
 
 

@@ -56,7 +56,9 @@ class _Computing:
 
 def _computed(one: Any) -> _Computed:
     computed: _Computed | None = one.__dict__.get("_itc_computed")
-    return one.__dict__.setdefault("_itc_computed", _Computed()) if computed is None else computed  # type: ignore[no-any-return]
+    if computed is None:
+        computed = one.__dict__.setdefault("_itc_computed", _Computed())
+    return computed
 
 
 def _get(original: Any) -> Any:

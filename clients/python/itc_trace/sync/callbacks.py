@@ -12,7 +12,7 @@ from .base import Patches, like, named_like
 _stack: Any = vars(contextlib)["_BaseExitStack"]
 _CREATE = "_create_cb_wrapper"
 
-_places: dict[weakref.finalize[Any, Any], Place] = {}
+_places: dict[Any, Place] = {}
 """Where the program has handed on what each finalizer calls, if it is such a method."""
 
 

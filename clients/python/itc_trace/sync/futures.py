@@ -160,10 +160,10 @@ def _done(original: Any) -> Any:
 
 
 def _add_done_callback(original: Any) -> Any:
-    def add_done_callback(self: Any, fn: Any) -> None:
+    def add_done_callback(self: Any, fn: Any) -> Any:
         if state.note is not None and callable(fn) and not is_internal(frame_at(1)):
             fn = _called_back(fn, mark(CALLBACK))
-        return original(self, fn)  # type: ignore[no-any-return]
+        return original(self, fn)
 
     return add_done_callback
 
@@ -261,7 +261,7 @@ def _begin_job(item: Any, future: Any, pool: Any, name: str) -> None:
 
 
 def _item_run(original: Any) -> Any:
-    def run(self: Any, *words: Any) -> None:
+    def run(self: Any, *words: Any) -> Any:
         line = self.__dict__.get("_itc_line")
         if line is None or line.tracer is not state.tracer:
             submitted = self.__dict__.get("_itc_submitted")
@@ -271,20 +271,20 @@ def _item_run(original: Any) -> Any:
             take(submitted)
             _tell_called(self)
             try:
-                return original(self, *words)  # type: ignore[no-any-return]
+                return original(self, *words)
             finally:
                 del self  # The traceback of what the job raises refers to this frame, and the job's future to that.
         ready = mark(WORKER) if self._itc_is_after_worker else None
-        worker = getattr(local, "line", None)
+        before = getattr(local, "line", None)
         line.must_finish = True
         enter(line)
         take(ready)
         _tell_called(self)
         try:
-            return original(self, *words)  # type: ignore[no-any-return]
+            return original(self, *words)
         finally:
             del self
-            enter(worker)
+            enter(before)
             note = state.note
             if note is not None:
                 note((FINISH, line, False, False))

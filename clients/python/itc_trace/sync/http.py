@@ -7,6 +7,7 @@ if this process reports beside others. If the process answers itself, its handle
 from __future__ import annotations
 
 import os
+from collections.abc import Sequence
 from types import FrameType, ModuleType
 from typing import Any
 
@@ -204,7 +205,7 @@ def _end_headers(original: Any) -> Any:
 
 def _goes_on(handler: Any) -> bool:
     """Whether these are the headers of an answer behind which the response itself is still to come."""
-    lines = getattr(handler, "_headers_buffer", ())
+    lines: Sequence[bytes] = getattr(handler, "_headers_buffer", ())
     return bool(lines) and lines[0].split(b" ")[1:2][:1] in ([b"100"], [b"102"], [b"103"])
 
 

@@ -36,8 +36,9 @@ class _Finder:
         if waiting is None:
             return None
         spec = importlib.util.find_spec(name)
-        if spec is not None and spec.loader is not None and hasattr(spec.loader, "exec_module"):
-            spec.loader.exec_module = _then(spec.loader.exec_module, waiting)  # type: ignore[method-assign]
+        loader: Any = None if spec is None else spec.loader
+        if hasattr(loader, "exec_module"):
+            loader.exec_module = _then(loader.exec_module, waiting)
         return spec
 
 

@@ -127,10 +127,10 @@ def _ended(line: Line, worker: Line | None) -> str | None:
 def take_done() -> None:
     """Before this process ends: whoever joins it comes after its jobs."""
     for line in _done:
-        note = state.note
-        if note is not None and line.tracer is state.tracer:
-            line.tracer.main.section = None
-            note((JOIN, line.tracer.main, line, None, 0))
+        note, tracer = state.note, state.tracer
+        if note is not None and tracer is not None and line.tracer is tracer:
+            tracer.main.section = None
+            note((JOIN, tracer.main, line, None, 0))
 
 
 # The result

@@ -132,7 +132,7 @@ def _begin(original: Any) -> Any:
             following.is_not_followed(name)
         if frame is None or value > MOST_PERMITS:
             return
-        traced = _Lock(self._semlock, name, frame) if name in LOCKS else _Semaphore(self._semlock, value)
+        traced: _Lock | _Semaphore = _Lock(self._semlock, name, frame) if name in LOCKS else _Semaphore(self._semlock, value)
         self._itc_traced, self.acquire, self.release = traced, traced.acquire, traced.release
 
     return __init__

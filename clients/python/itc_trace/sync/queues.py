@@ -116,7 +116,7 @@ class Items:
                 tokens[number] = token
                 return
             known = tokens[number]
-            if type(known) is deque:
+            if isinstance(known, deque):
                 known.append(token)
             else:
                 tokens[number] = deque((known, token))
@@ -126,7 +126,7 @@ class Items:
         number = id(item)
         with _guard:
             tokens = self._tokens.pop(number, None)
-            if type(tokens) is not deque:
+            if not isinstance(tokens, deque):
                 return tokens
             token = tokens.pop() if self._is_stack or from_end else tokens.popleft()
             if tokens:
@@ -156,7 +156,7 @@ class Room:
 
 
 def has_few_places(one: Any) -> bool:
-    return 0 < one.maxsize <= MOST_PLACES
+    return bool(0 < one.maxsize <= MOST_PLACES)
 
 
 def room_of(one: Any, size: int) -> Room:
@@ -242,9 +242,9 @@ def _get_by_program(one: Any) -> Any:
 
 
 def _put(original: Any) -> Any:
-    def put(self: Any, item: Any, block: bool = True, timeout: float | None = None) -> None:
+    def put(self: Any, item: Any, block: bool = True, timeout: float | None = None) -> Any:
         is_own = state.note is None or type(self)._put in _own_steps
-        return original(self if is_own else _Seen(self), item, block, timeout)  # type: ignore[no-any-return]
+        return original(self if is_own else _Seen(self), item, block, timeout)
 
     return put
 
@@ -277,9 +277,9 @@ def take_done(one: Any) -> None:
 
 
 def _task_done(original: Any) -> Any:
-    def task_done(self: Any) -> None:
+    def task_done(self: Any) -> Any:
         note_done(self)
-        return original(self)  # type: ignore[no-any-return]
+        return original(self)
 
     return task_done
 
@@ -287,9 +287,9 @@ def _task_done(original: Any) -> Any:
 def _join(original: Any) -> Any:
     """What is done behind the moment in which all was done is none of what it has waited for."""
 
-    def join(self: Any) -> None:
+    def join(self: Any) -> Any:
         if state.note is None:
-            return original(self)  # type: ignore[no-any-return]
+            return original(self)
         with self.all_tasks_done:
             while self.unfinished_tasks:
                 self.all_tasks_done.wait()

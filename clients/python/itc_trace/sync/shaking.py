@@ -47,8 +47,8 @@ class Shaking:
             if name in vars(owner):
                 original = vars(owner)[name]
                 setattr(owner, name, like(original, self._paused(original)))
-
-        threading.Thread.run = like(threading.Thread.run, self._paused(threading.Thread.run, always=True))  # type: ignore[method-assign]
+        run = threading.Thread.run
+        setattr(threading.Thread, "run", like(run, self._paused(run, always=True)))
 
     def _paused(self, original: Any, always: bool = False) -> Any:
         def paused(*words: Any, **named: Any) -> Any:

@@ -175,7 +175,7 @@ class _Jobs:
         note, tracer, pool = state.note, state.tracer, self._pool()
         result = None if pool is None else pool._cache.get(job[0])
         awaited = getattr(result, "_itc_awaited", None)
-        if note is None or tracer is None or awaited is None:
+        if note is None or tracer is None or pool is None or awaited is None:
             return None
         has_initializer = getattr(pool, "_initializer", None) is not None
         if pool._processes == 1:
@@ -246,9 +246,9 @@ class _Awaited:
 
 
 def _begin_result(original: Any) -> Any:
-    def __init__(self: Any, pool: Any, callback: Any, error_callback: Any) -> None:
+    def __init__(self: Any, pool: Any, callback: Any, error_callback: Any) -> Any:
         if not _is_of_threads(pool):
-            return original(self, pool, callback, error_callback)  # type: ignore[no-any-return]
+            return original(self, pool, callback, error_callback)
         awaited = self._itc_awaited = _Awaited()
         original(self, pool, *(None if one is None else _called_back(one, awaited) for one in (callback, error_callback)))
         self._event._itc_is_silent = True

@@ -90,10 +90,10 @@ def _begin_timer(original: Any) -> Any:
 
 
 def _run_timer(original: Any) -> Any:
-    def run(self: Any) -> None:
+    def run(self: Any) -> Any:
         handed = self.__dict__.get("_itc_handed")
         if handed is None:
-            return original(self)  # type: ignore[no-any-return]
+            return original(self)
         self.finished.wait(self.interval)
         if not self.finished.is_set():
             called(self.function, tuple(self.args), handed)
@@ -105,10 +105,10 @@ def _run_timer(original: Any) -> Any:
 
 
 def _start(original: Any) -> Any:
-    def start(self: threading.Thread) -> None:
+    def start(self: threading.Thread) -> Any:
         note = state.note
         if note is None or self.ident is not None or are_replaced():
-            return original(self)  # type: ignore[no-any-return]
+            return original(self)
         line = Line(state.tracer, thread_name(self))
         line.must_finish = True
         line.watch(self)
@@ -116,21 +116,21 @@ def _start(original: Any) -> Any:
             await_at_exit(line)
         self.__dict__["_itc_line"] = line  # The program's own class may refuse attributes.
         note((SPAWN, starting(line), line, *place(frame_at(1))))
-        return original(self)  # type: ignore[no-any-return]
+        return original(self)
 
     return start
 
 
 def _bootstrap(original: Any) -> Any:
-    def bootstrap(self: threading.Thread) -> None:
+    def bootstrap(self: threading.Thread) -> Any:
         line = self.__dict__.get("_itc_line")
         if line is None:
-            return original(self)  # type: ignore[no-any-return]
+            return original(self)
         enter(line)
         if not isinstance(self, threading.Timer):
             _tell_of_target(self)
         try:
-            return original(self)  # type: ignore[no-any-return]
+            return original(self)
         finally:
             _note_end(line)
 
@@ -190,12 +190,12 @@ def _note_join(thread: threading.Thread, line: Line) -> None:
 
 
 def _start_plain(original: Any) -> Any:
-    def start_new_thread(function: Any, args: Any, kwargs: Any = None, /) -> int:
+    def start_new_thread(function: Any, args: Any, kwargs: Any = None, /) -> Any:
         note = state.note
         words = (args,) if kwargs is None else (args, kwargs)
         frame = frame_at(1)
         if note is None or is_internal(frame) or not callable(function):
-            return original(function, *words)  # type: ignore[no-any-return]
+            return original(function, *words)
         line = Line(state.tracer, getattr(function, "__name__", "thread") + "#")
         place_of_function = handed_at(function)
 
@@ -208,7 +208,7 @@ def _start_plain(original: Any) -> Any:
                 _note_end(line)
 
         note((SPAWN, starting(line), line, *place(frame)))
-        return original(like(function, run), *words)  # type: ignore[no-any-return]
+        return original(like(function, run), *words)
 
     return start_new_thread
 
@@ -408,10 +408,10 @@ def _semaphore_acquire(original: Any) -> Any:
 
 
 def _semaphore_release(original: Any) -> Any:
-    def release(self: Any, n: int = 1) -> None:
+    def release(self: Any, n: int = 1) -> Any:
         if "_itc_permits" in self.__dict__:
             local.permit = mark(SEMAPHORE)
-        return original(self, n)  # type: ignore[no-any-return]
+        return original(self, n)
 
     return release
 

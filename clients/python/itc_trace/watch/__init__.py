@@ -43,10 +43,10 @@ def watch(folders: Sequence[str], packages: Sequence[str] = ()) -> None:
         leaving.begin()
         gc.callbacks.append(things.collecting)
     else:
-        sys.meta_path.remove(_finder)  # type: ignore[arg-type]
+        sys.meta_path.remove(_finder)
     _finder = Finder(Selection(folders, [name for name in packages if not _is_traced_as_a_whole(name)]))
     hooks.put(False)
-    sys.meta_path.insert(0, _finder)  # type: ignore[arg-type]
+    sys.meta_path.insert(0, _finder)
     leaving.stand_first()
     if importlib.util.spec_from_file_location is _plain_spec:
         importlib.util.spec_from_file_location = like(_plain_spec, _spec_from_file_location)
@@ -119,7 +119,7 @@ def begin() -> None:
         return
     if _plain_line_begin is None:
         _plain_line_begin = Line.__init__
-        Line.__init__ = _begin_line  # type: ignore[method-assign]
+        setattr(Line, "__init__", _begin_line)
 
 
 def _begin_line(line: Line, *words: Any, **named: Any) -> None:
@@ -130,7 +130,7 @@ def _begin_line(line: Line, *words: Any, **named: Any) -> None:
 def _switch_on() -> None:
     global _plain_line_begin
     if _plain_line_begin is not None:
-        Line.__init__ = _plain_line_begin  # type: ignore[method-assign]
+        setattr(Line, "__init__", _plain_line_begin)
         _plain_line_begin = None
         hooks.put(True)
 
@@ -176,7 +176,7 @@ def end() -> None:
     if _finder is None:
         return
     if _plain_line_begin is not None:
-        Line.__init__ = _plain_line_begin  # type: ignore[method-assign]
+        setattr(Line, "__init__", _plain_line_begin)
         _plain_line_begin = None
     hooks.put(False)
     leaving.end()

@@ -56,10 +56,10 @@ _WITH_ONE_INSIDE: tuple[tuple[type, str], ...] = (
 )
 """Containers of the library that are written in Python, and the field in which each has its elements. A writer of rows has what it writes to."""
 
-_BY_KEYS = (
+_BY_KEYS: tuple[type, ...] = (
     type({}.keys()), type(OrderedDict().keys()), type(iter({})), type(iter(OrderedDict())), type(reversed({})), types.MappingProxyType,
 )
-_BY_ELEMENTS = (
+_BY_ELEMENTS: tuple[type, ...] = (
     type({}.values()), type({}.items()), type(OrderedDict().values()), type(OrderedDict().items()), type(iter({}.values())),
     type(iter({}.items())), type(reversed({}.values())), type(reversed({}.items())), type(iter([])), type(reversed([])),
     type(iter(set())), type(iter(deque())), type(reversed(deque())), type(iter(bytearray())), type(iter(array("b"))),
@@ -69,8 +69,9 @@ BY_ELEMENTS = ids_of(_BY_ELEMENTS)
 VIEWS = ids_of((*_BY_KEYS, *_BY_ELEMENTS))
 """Types whose objects refer to the one container that they look at."""
 
+_TABLES: tuple[dict[Any, Any], ...] = ({}, OrderedDict())
 _UNCHANGED = ids_of((
-    *(type(view) for table in ({}, OrderedDict()) for view in (table.keys(), table.values(), table.items())), types.MappingProxyType,
+    *(type(view) for table in _TABLES for view in (table.keys(), table.values(), table.items())), types.MappingProxyType,
 ))
 """Those of them that no look changes."""
 _OF_VALUES = ids_of((

@@ -58,7 +58,7 @@ from .seen import NEVER
 from .templates import Path, field_paths
 from .things import MADE, OWNERS, Made, Owner, let_go_of_some, made_by, made_here, maker_now, mark_of, owner_of, variable_of
 
-INDEXED = (list, bytearray, array, deque)
+INDEXED: tuple[Any, ...] = (list, bytearray, array, deque)
 FLAT = PLAIN - {id(tuple), id(frozenset)}
 """Types whose values have nothing inside that could change."""
 ANYBODY, NOBODY = 0, sys.maxsize
@@ -870,7 +870,8 @@ def _touch_keyed(one: Any, key: Any, site: int, limit: int, ways: str | None = N
         return
     of_fields = object_of(one) if FIELDS_OF and family == DICT else None
     if of_fields is not None:
-        kinds = ways or (access.kinds if access.what == "element" else KEYED.get(access.name, {}).get(DICT, ""))
+        by_method = KEYED.get(access.name, {}).get(DICT, "")
+        kinds = ways or (access.kinds if access.what == "element" else by_method)
         _touch_by_name(of_fields, key, _KINDS_OF_WAYS.get(kinds, READ_ONLY), site)
         return
     if access.what == "element":
@@ -884,7 +885,8 @@ def _touch_keyed(one: Any, key: Any, site: int, limit: int, ways: str | None = N
         if getrefcount(one) <= limit:
             return
         owner = owner_of(one, access.text)
-    kinds = ways or (AT_ONCE if access.name == SETDEFAULT and access.what != "element" else KEYED.get(access.name, {}).get(family, ""))
+    by_method = KEYED.get(access.name, {}).get(family, "")
+    kinds = ways or (AT_ONCE if access.name == SETDEFAULT and access.what != "element" else by_method)
     is_repeated = ways is None or ways == access.kinds  # Else it depends on what has the container inside, too.
     if not kinds or family == BUFFER:
         _touch_shape(owner, WHOLE[family].get(access.name or "__contains__"), site)
@@ -1283,11 +1285,12 @@ def _touch_method_inside(one: Any, site: int) -> None:
 
 
 _EMPTY: tuple[Any, ...] = ([], {}, set(), deque(), bytearray(), (), array("b"), {}.keys(), {}.values(), {}.items())
+_EMPTY_IN_ORDER: tuple[Any, ...] = ([], {}, deque(), {}.keys(), {}.values(), {}.items())
 FOLLOWED: tuple[type, ...] = (
     object, bytearray, defaultdict, types.CellType, types.SimpleNamespace, enumerate, filter, map, reversed, zip,
     *(type(one) for one in (*_EMPTY[:2], *_EMPTY[7:])),
-    *(type(iter(one)) for one in _EMPTY), *(type(reversed(one)) for one in ([], {}, deque(), {}.keys(), {}.values(), {}.items())),
-    *(one for one in vars(itertools).values() if type(one) is type and one is not itertools.tee),
+    *(type(iter(one)) for one in _EMPTY), *(type(reversed(one)) for one in _EMPTY_IN_ORDER),
+    *(one for one in vars(itertools).values() if type(one) is type),
     *(one for one in vars(builtins).values() if type(one) is type and issubclass(one, BaseException)),
 )
 """Types of which the helper sees that an object is gone. It need not hold one that cannot be referred to weakly."""
@@ -1362,7 +1365,7 @@ def put_for_the_end() -> None:
 
     What the program's finalizers run then has hooks, too. The copy is known by its names, as nothing refers to it.
     """
-    quiet = {ON: False, **{PREFIX + name: one for name, one in AT_THE_END.items()}}
+    quiet: dict[str, Any] = {ON: False, **{PREFIX + name: one for name, one in AT_THE_END.items()}}
     for table in gc.get_objects():
         if type(table) is dict and BUILDS_CLASSES in table and table is not vars(builtins):
             table.update(quiet)

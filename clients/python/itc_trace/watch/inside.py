@@ -100,7 +100,7 @@ def _iterators_in(one: Any) -> list[Any]:
 
 
 def _references_of_inner() -> int:
-    outer = enumerate(())
+    outer: enumerate[Any] = enumerate(())
     for part in _iterators_in(outer):
         return getrefcount(part)
     return 0
@@ -204,4 +204,9 @@ def _declared_fields(kind: type) -> dict[str, Any]:
     """The fields of a dataclass."""
     owner = class_with(kind, "__dataclass_fields__")
     fields = {} if owner is None else vars_of(owner)["__dataclass_fields__"]
-    return {name: field for name, field in fields.items() if type(field) is Field and field._field_type is _FIELD}
+    return {name: field for name, field in fields.items() if _is_declared(field)}
+
+
+def _is_declared(field: Any) -> bool:
+    is_field = type(field) is Field
+    return is_field and field._field_type is _FIELD

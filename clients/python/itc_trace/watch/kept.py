@@ -11,7 +11,6 @@ import os
 import stat
 import sys
 from collections.abc import Callable, Iterator
-from importlib.util import source_hash
 from marshal import dumps, loads
 from os import O_CREAT, O_EXCL, O_RDONLY, O_WRONLY, close, fstat, getpid, replace, unlink, write
 from os import open as open_file
@@ -23,6 +22,7 @@ from .helper import user_folder
 
 MAGIC = b"itc_trace kept 1"
 DIGEST = 16
+source_hash: Callable[[bytes], bytes] = vars(importlib.util)["source_hash"]
 HASH = len(source_hash(b""))
 HEADER = len(MAGIC) + 2 * DIGEST + HASH
 MOST_SLOTS = 4

@@ -169,8 +169,9 @@ class _Finder:
             spec = find_spec(name)
         finally:
             self._searched.discard(name)
-        if spec is not None and hasattr(spec.loader, "exec_module"):
-            spec.loader.exec_module = _then_plain(spec.loader.exec_module)  # type: ignore[union-attr, method-assign]
+        loader: Any = None if spec is None else spec.loader
+        if hasattr(loader, "exec_module"):
+            loader.exec_module = _then_plain(loader.exec_module)
         return spec
 
 

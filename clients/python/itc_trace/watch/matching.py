@@ -21,7 +21,7 @@ NOT_KNOWN = Unknown()
 MISSING = Unknown()
 MOST_COPIED = 256
 SIMPLE = ids_of((str, int, bytes, float, bool, complex, type(None)))
-ROWS = (list, tuple, deque, array)
+ROWS: tuple[Any, ...] = (list, tuple, deque, array)
 TABLES = ids_of((dict, defaultdict, OrderedDict, Counter))
 
 _flags_of: Any = vars(type)["__flags__"].__get__

@@ -22,6 +22,7 @@ def at(node: Any, made: Made) -> Made:
 
 def compiled(tree: ast.Module, file: str) -> CodeType:
     try:
-        return compile(tree, file, "exec", dont_inherit=True)  # type: ignore[no-any-return]
+        code: CodeType = compile(tree, file, "exec", dont_inherit=True)
     except TypeError:  # A node has no place.
-        return compile(ast.fix_missing_locations(tree), file, "exec", dont_inherit=True)  # type: ignore[no-any-return]
+        code = compile(ast.fix_missing_locations(tree), file, "exec", dont_inherit=True)
+    return code

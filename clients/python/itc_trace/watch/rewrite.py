@@ -89,7 +89,7 @@ GIVEN = (*REACHED, ast.Call, ast.IfExp, ast.BoolOp, ast.NamedExpr, ast.Await)
 JOINING = (ast.Add, ast.Sub, ast.BitOr, ast.BitAnd, ast.BitXor)
 """Operators that make a container of two others."""
 NUMBERS = (int, float, complex)
-IN_PLACE = {
+IN_PLACE: dict[type[ast.operator], str] = {
     ast.Add: ADDITION, **dict.fromkeys((ast.Mult, ast.BitOr, ast.BitAnd, ast.BitXor, ast.Sub), REWRITE),
 }
 
@@ -513,8 +513,8 @@ class Rewriter:
         """A new container, passed through a hook that keeps where it was made, and for which name."""
         if not _is_new(value) or not isinstance(target, REACHED):
             return value
-        is_of_class = self._scope.kind == CLASS and isinstance(target, ast.Name)
-        name = f"{self._scope.class_name}.{target.id}" if is_of_class else self._text(target)
+        is_variable_of_class = isinstance(target, ast.Name) and self._scope.kind == CLASS
+        name = f"{self._scope.class_name}.{self._text(target)}" if is_variable_of_class else self._text(target)
         return self._hook("after_making", value, self._child(value), self._site(value, "made", "", "", name))
 
     # Compound statements

@@ -82,11 +82,11 @@ def _stored_in(folder: str, sources: list[Source]) -> tuple[set[str], set[str]]:
     if len(sources) < FEWEST_KEPT:
         return _stored_by_all(sources)
     kept = Kept(os.path.join(folder, "__init__.py"), "names", repr([tuple(one) for one in sources]).encode("utf-8", "surrogateescape"))
-    found = kept.found(lambda made: True)
+    found: tuple[set[str], set[str]] | None = kept.found(lambda made: True)
     if found is None:
         found = _stored_by_all(sources)
         kept.keep(found)
-    return found  # type: ignore[no-any-return]
+    return found
 
 
 def _stored_by_all(sources: list[Source]) -> tuple[set[str], set[str]]:

@@ -14,7 +14,7 @@ from collections import deque
 from collections.abc import Callable
 from sys import getrefcount
 from types import CodeType, FunctionType
-from typing import Any, NamedTuple
+from typing import TYPE_CHECKING, Any, NamedTuple
 
 from ..model.conflicts import MAKING
 from ..model.frames import line_of
@@ -117,7 +117,8 @@ class OwnerFields:
         self.history: list[Any] = []
         self.is_sharing = False
         self.is_shared = False
-        self.things: dict[Any, Thing | Element] = {}
+        self.things: dict[Any, Any] = {}
+        """Its fields, its shape, and its elements."""
         self.recipes: dict[Any, dict[Any, Touched]] = {}
         """What is noted where a place touches it once more, in another stretch."""
         self.reference: Any = None
@@ -126,10 +127,13 @@ class OwnerFields:
         self._making = making
 
 
-Fields: Any = OwnerFields if quick is None else quick.OwnerFields
+if TYPE_CHECKING or quick is None:
+    Fields = OwnerFields
+else:
+    Fields = quick.OwnerFields
 
 
-class Owner(Fields):  # type: ignore[misc]
+class Owner(Fields):
     """An object, a class, a module or a cell, with the things of it that were touched.
 
     As long as one task alone has touched it, `history` has what it has seen in each stretch, and there are no things of it.
@@ -161,7 +165,7 @@ class Owner(Fields):  # type: ignore[misc]
             thing.is_gone = True
 
 
-OWNERS: Any = {} if quick is None else quick.OWNERS
+OWNERS: dict[int, Owner] = {} if quick is None else quick.OWNERS
 """Of each object that is known, by its identity."""
 MADE: dict[int, Made] = {}
 KEPT: dict[int, Any] = {}
@@ -174,7 +178,7 @@ _bases = iter(range(FIRST_NUMBER_OF_OWNERS, 1 << 62, FIRST_NUMBER_OF_OWNERS))
 
 def _owner_of(one: Any, name: str) -> Owner:
     """The owner that stands for an object. The name is for an object that nobody has named where it was made."""
-    return OWNERS.get(id(one)) or _new_owner(one, id(one), name)  # type: ignore[no-any-return]
+    return OWNERS.get(id(one)) or _new_owner(one, id(one), name)
 
 
 owner_of: Callable[[Any, str], Owner] = _owner_of if quick is None else quick.owner_of
@@ -196,13 +200,13 @@ def _new_owner(one: Any, key: int, name: str) -> Owner:
         let_go_of_some(LOOKED_THROUGH)
         KEPT[key] = one
         HELD.append(key)
-    return OWNERS.setdefault(key, owner)  # type: ignore[no-any-return]
+    return OWNERS.setdefault(key, owner)
 
 
 def let_go_of_some(most: int) -> None:
     """Lets go of some of what nobody else holds any more, and of the oldest where too many are held."""
     if quick is not None:
-        OWNERS.let_go_of_some(most)
+        quick.OWNERS.let_go_of_some(most)
     for _ in range(min(most, len(HELD))):
         try:
             key = HELD.popleft()
@@ -287,9 +291,10 @@ def _added(owner: Owner, mark: Any, made: Any, told: dict[Any, Touched], line: L
 
 
 def field_of(owner: Owner, class_name: str, name: str, told: dict[Any, Touched], line: Line | None) -> Thing:
-    return owner.things.get(name) or _added(  # type: ignore[return-value]
+    thing: Thing = owner.things.get(name) or _added(
         owner, name, Thing(next(_numbers), _field_named(owner, class_name, name), owner.made), told, line,
     )
+    return thing
 
 
 _PRIVATE = re.compile(r"_([^\W_]\w*?)(__\w*[^\W_]_?)")
@@ -310,9 +315,10 @@ SHAPE = ("shape",)
 
 
 def shape_of(owner: Owner, told: dict[Any, Touched], line: Line | None) -> Thing:
-    return owner.things.get(SHAPE) or _added(  # type: ignore[return-value]
+    shape: Thing = owner.things.get(SHAPE) or _added(
         owner, SHAPE, Thing(next(_numbers), owner.name, owner.made), told, line,
     )
+    return shape
 
 
 def mark_of(key: Any, value: Any) -> tuple[Any, Any]:
@@ -324,9 +330,10 @@ def mark_of(key: Any, value: Any) -> tuple[Any, Any]:
 
 
 def element_of(owner: Owner, mark: Any, key: Any, told: dict[Any, Touched], line: Line | None) -> Element:
-    return owner.things.get(mark) or _added(  # type: ignore[return-value]
+    element: Element = owner.things.get(mark) or _added(
         owner, mark, Element(next(_numbers), owner, key), told, line,
     )
+    return element
 
 
 _variables: dict[tuple[str, str], Thing] = {}
