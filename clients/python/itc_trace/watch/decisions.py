@@ -6,22 +6,20 @@ It is decided once for each place and type. Nothing here runs code of the progra
 from __future__ import annotations
 
 import _csv
-import csv
 import functools
 import io
 import itertools
-import os
 import threading
 import types
 import weakref
 from array import array
 from builtins import any, dict, enumerate, filter, frozenset, id, int, issubclass, iter, list, map, next, reversed, set, str, tuple, type, zip
-from collections import ChainMap, OrderedDict, UserDict, UserList, deque
+from collections import OrderedDict, deque
 from collections.abc import Iterable
 from typing import Any
 
 from .helper import quick
-from .kinds import DICT, TYPES
+from .kinds import DICT, REFERRED, TYPES, WITH_ONE_INSIDE
 from .places import DELETED, SKIPPED, Access
 
 SKIP, FIELD, OWN_FIELD, OF_CLASS, OF_TYPE, OF_MODULE, AS_KEY, OF_METHOD, OF_SUPER = range(9)
@@ -48,13 +46,6 @@ _EXACT: dict[int, int] = {id(kind): family for kind, family in _BASES}
 NO_FAMILY = -1
 _METHODS_OF = {"r": "__getitem__", "w": "__setitem__", "d": "__delitem__", "c": "__contains__"}
 """What is called for each way to touch an element."""
-
-DATA, MAPS, VARIABLES, WRITER, REFERRED, WRITTEN_TO = "data", "maps", "_data", "writer", "referred", "written to"
-_WITH_ONE_INSIDE: tuple[tuple[type, str], ...] = (
-    (UserDict, DATA), (UserList, DATA), (weakref.WeakValueDictionary, DATA), (weakref.WeakKeyDictionary, DATA), (weakref.WeakSet, DATA),
-    (ChainMap, MAPS), (type(os.environ), VARIABLES), (csv.DictWriter, WRITER), (type(_csv.writer(io.StringIO())), WRITTEN_TO),
-)
-"""Containers of the library that are written in Python, and the field in which each has its elements. A writer of rows has what it writes to."""
 
 _BY_KEYS: tuple[type, ...] = (
     type({}.keys()), type(OrderedDict().keys()), type(iter({})), type(iter(OrderedDict())), type(reversed({})), types.MappingProxyType,
@@ -237,7 +228,7 @@ def field_inside(kind: type) -> str:
     name = _inside.get(id(kind))
     if name is None:
         _remember(kind)
-        found = next((field for base, field in _WITH_ONE_INSIDE if is_of(kind, base)), "")
+        found = next((field for base, field in WITH_ONE_INSIDE if is_of(kind, base)), "")
         name = _inside[id(kind)] = REFERRED if id(kind) in VIEWS else found
     return name
 

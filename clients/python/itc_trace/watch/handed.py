@@ -11,9 +11,9 @@ from ..model.frames import line_of
 from . import hooks
 from .decisions import value_of_field
 from .finder import FILES
-from .kinds import CHANGED_ARGUMENT, KEYED, METHODS, depth_of, known_function
+from .kinds import CHANGED_ARGUMENT, KEYED, METHODS, READERS, SHOWING, STEPPERS, depth_of, known_function
 from .places import NAMES_OF_HANDED, Access, new_site
-from .rewrite import OF_ATTRIBUTES, READERS, SHOWING, STEPPERS
+from .rewrite import OF_ATTRIBUTES
 
 _OF_BUILTINS = "builtins."
 _FIELDS = {**{f"{_OF_BUILTINS}{name}": kinds for name, kinds in OF_ATTRIBUTES.items()}, ATTRGETTER: "r"}

@@ -31,7 +31,7 @@ from .both_languages import (
     DEEP, IF_OWN, LEFT, LOOKED_THROUGH_AT_ONCE, MOST_BEGUN, NO_TOUCH, OF_DICT, OF_FIELD, OF_LIST, OF_SHAPE, OF_STEPS, OTHER, OWN_OR_OF_CLASS,
 )
 from .decisions import (
-    AS_KEY, BY_ELEMENTS, COMPOSED, FIELD, FILES, OF_CLASS, OF_METHOD, OF_MODULE, OF_SUPER, OF_TYPE, OWN_FIELD, PLAIN, SKIP, STEPPED, VARIABLES,
+    AS_KEY, BY_ELEMENTS, COMPOSED, FIELD, FILES, OF_CLASS, OF_METHOD, OF_MODULE, OF_SUPER, OF_TYPE, OWN_FIELD, PLAIN, SKIP, STEPPED,
     VIEWS, WATCHED, class_with, decision, family_of, field_inside, fields_of, has_own_method, has_setter, has_watched_method, ids_of,
     is_bound_by_code, is_watched_class, mro_of, name_of, value_of_element, value_of_field, vars_of, without_own,
 )
@@ -42,7 +42,7 @@ from .keys import SIMPLE, UNKNOWN, tell_of_unknown, value_of
 from .kinds import DEEP as DEEP_SITES
 from .kinds import (
     BUFFER, BY_FIELDS, COMPARED, DEPTHS_OF_METHODS, DEQUE, DICT, IN_PLACE_METHODS, KEYED, LIST, OF_FILE, OF_GENERATOR, ORDERED, SHOWN, TRUTH,
-    WHOLE, WRITTEN,
+    VARIABLES, WHOLE, WRITTEN,
 )
 from .late import ADDED, FOUND, LOOKING, NOTHING, READ_ONLY, again, by_kinds, note_shared, saw, share, shorten
 from .late import cell as cell_late

@@ -18,10 +18,11 @@ from types import BuiltinMethodType, MemberDescriptorType, SimpleNamespace
 from typing import Any, NamedTuple
 
 from .decisions import (
-    COMPOSED, MAPS, REFERRED, ROWS_OF_ITERATORS, STEPPED, VIEWS, WRITER, WRITTEN_TO, class_with, family_of, field_inside, fields_of,
-    has_watched_method, ids_of, is_made, is_watched_class, mro_of, name_of, value_of_field, vars_of,
+    COMPOSED, ROWS_OF_ITERATORS, STEPPED, VIEWS, class_with, family_of, field_inside, fields_of, has_watched_method, ids_of, is_made, is_watched_class, mro_of, name_of, value_of_field, vars_of,
 )
-from .kinds import COMPARED, CONTENT, DECLARED, OF_ELEMENTS, ORDERED, SHOWN, STATE, WRITTEN
+from .kinds import (
+    COMPARED, CONTENT, DECLARED, MAPS, OF_ELEMENTS, ORDERED, REFERRED, SHOWN, STATE, WRITER, WRITTEN, WRITTEN_TO,
+)
 
 READING = frozenset(("", "r", "c", "get", "keys", "values", "items", "copy", "__getitem__", "__contains__"))
 """Ways to touch, and methods, that look at each of several containers. Others change the first one."""

@@ -1,160 +1,293 @@
-"""What the methods of the library's containers do to them, in the words of the journal."""
+"""What is known of the library's containers, of their methods, and of functions that look at them: one table of each, in the journal's words.
+
+The hooks in both languages and the rewriting read what they need from what is gathered at the end. A new kind, method or function is one
+row here.
+"""
 
 from __future__ import annotations
 
+import _csv
+import csv
 import io
+import os
+import weakref
 from array import array
-from collections import Counter, OrderedDict, defaultdict, deque
+from collections import ChainMap, Counter, OrderedDict, UserDict, UserList, defaultdict, deque
+from collections.abc import Iterator
+from typing import NamedTuple
 
 from ..model.conflicts import ADDITION, ITERATION, KEYS, LENGTH, REMOVAL, REWRITE
+
+# Kinds of containers
 
 LIST, DICT, SET, DEQUE, BUFFER = range(5)
 TYPES: dict[int, tuple[type, ...]] = {
     DICT: (dict, defaultdict, OrderedDict, Counter), LIST: (list, bytearray, array), SET: (set,), DEQUE: (deque,),
     BUFFER: (io.StringIO, io.BytesIO),
 }
-"""The types of each kind. A class below one of these is of the same kind."""
+"""The types of each kind. A class below one of these is of the same kind.
 
-_COMPARISONS = "__eq__ __ne__ __lt__ __le__ __gt__ __ge__ __repr__ __str__ __format__".split()
-_ROW = {
-    **dict.fromkeys((*_COMPARISONS, *"index count copy __iter__ __reversed__ __copy__ __add__ __mul__ __rmul__".split()), ITERATION),
-    "__len__": LENGTH, "__iadd__": ADDITION, "__imul__": REWRITE,
-}
+A buffer is a text or bytes in memory. What is written stands at its end mostly, and who reads moves its position. Rows come by a writer
+of `csv`.
+"""
+
+MAPS, VARIABLES, WRITER, REFERRED, WRITTEN_TO = "maps", "_data", "writer", "referred", "written to"
+WITH_ONE_INSIDE: tuple[tuple[type, str], ...] = (
+    (UserDict, "data"),
+    (UserList, "data"),
+    (weakref.WeakValueDictionary, "data"),
+    (weakref.WeakKeyDictionary, "data"),
+    (weakref.WeakSet, "data"),
+    (ChainMap, MAPS),
+    (type(os.environ), VARIABLES),
+    (csv.DictWriter, WRITER),
+    (type(_csv.writer(io.StringIO())), WRITTEN_TO),
+)
+"""Containers that are written in Python, and the field in which each has its elements. A writer of rows has what it writes to."""
+
+# How deep something is looked at
+
+SHOWN, WRITTEN, COMPARED, ORDERED, DECLARED, STATE, FIELDS = "shown written compared ordered declared state fields".split()
+EACH, TRUTH, CONTENT = "each", "truth", "content"
+"""How deep a function looks at what it is given: at all that its text has, or its text for a programmer, at what is compared for being
+equal or greater, at all fields that its class declares, at all of its state, at its own fields, at each element, at whether each has
+elements, or at all that containers have inside, and at no field of an object."""
+OF_ELEMENTS = frozenset((EACH, TRUTH))
+BY_FIELDS = frozenset((SHOWN, WRITTEN, COMPARED, ORDERED, DECLARED, STATE, FIELDS))
+DEEP = (BY_FIELDS - {FIELDS}) | OF_ELEMENTS | {CONTENT}
+
+# What methods do
+
+ITSELF, KEY, GIVEN = "itself", "key", "given"
+"""What a method touches: the container as a whole, the element whose key is its first argument, or the containers that it is given."""
+LATE, IN_PLACE = "late", "in place"
+"""When: after all arguments are there, or where an assignment as `+=` calls it."""
+
+
+class Methods(NamedTuple):
+    """What methods of some kinds do. With no kind it is any that has them, unless a class of the program has them itself.
+
+    An element is read, written, deleted, read and written if it is not there, or compared with one after another: r, w, d, rw or c.
+    """
+
+    kinds: tuple[int, ...]
+    names: str
+    touched: str
+    words: str
+    inside: str = ""
+    when: str = ""
+
+
+_OF_ALL = "__eq__ __ne__ __lt__ __le__ __gt__ __ge__ __repr__ __str__ __format__ copy __copy__"
 _OF_BYTES = (
     "find rfind rindex startswith endswith decode hex split rsplit splitlines partition rpartition strip lstrip rstrip replace "
     "translate upper lower title capitalize swapcase center ljust rjust zfill expandtabs removeprefix removesuffix "
     "isalnum isalpha isascii isdigit islower isspace istitle isupper"
-).split()
+)
+_METHODS = (
+    Methods((LIST, DEQUE), f"{_OF_ALL} index count __iter__ __reversed__ __add__ __mul__ __rmul__", ITSELF, ITERATION),
+    Methods((LIST, DEQUE, DICT, SET), "__len__", ITSELF, LENGTH),
+    Methods((LIST, DEQUE), "__iadd__", ITSELF, ADDITION),
+    Methods((LIST, DEQUE), "__imul__", ITSELF, REWRITE),
+
+    Methods((LIST,), f"{_OF_BYTES} tobytes tolist tofile", ITSELF, ITERATION),
+    Methods((LIST,), "append extend", ITSELF, ADDITION, when=LATE),
+    Methods((LIST,), "frombytes fromlist fromfile", ITSELF, ADDITION),
+    Methods((LIST,), "insert remove", ITSELF, REMOVAL, when=LATE),
+    Methods((LIST,), "pop", ITSELF, REMOVAL),
+    Methods((LIST,), "clear sort reverse byteswap", ITSELF, REWRITE),
+    Methods((LIST,), "__getitem__", KEY, "r"),
+    Methods((LIST,), "__setitem__", KEY, "w"),
+    Methods((LIST,), "__delitem__", KEY, "d"),
+    Methods((LIST,), "__contains__", KEY, "c"),
+
+    Methods((DICT,), f"{_OF_ALL} items values most_common elements total __or__ __ror__", ITSELF, ITERATION),
+    Methods((DICT,), "keys __iter__ __reversed__", ITSELF, KEYS),
+    Methods((DICT,), "popitem", ITSELF, REMOVAL),
+    Methods((DICT,), "update", ITSELF, REWRITE, when=LATE),
+    Methods((DICT,), "clear move_to_end subtract __ior__", ITSELF, REWRITE),
+    Methods((DICT,), "get __getitem__ __contains__", KEY, "r"),
+    Methods((DICT,), "__setitem__", KEY, "w"),
+    Methods((DICT,), "pop __delitem__", KEY, "d"),
+    Methods((DICT,), "setdefault", KEY, "rw"),
+
+    Methods((SET,), f"{_OF_ALL} __iter__ __or__ __and__ __sub__ __xor__ __ror__ __rand__ __rsub__ __rxor__", ITSELF, ITERATION),
+    Methods((SET,), "union intersection difference symmetric_difference issubset issuperset isdisjoint", ITSELF, ITERATION),
+    Methods((SET,), "update", ITSELF, ADDITION, when=LATE),
+    Methods((SET,), "__ior__", ITSELF, ADDITION),
+    Methods((SET,), "pop", ITSELF, REMOVAL),
+    Methods((SET,), "clear __iand__ __isub__ __ixor__", ITSELF, REWRITE),
+    Methods((SET,), "difference_update intersection_update symmetric_difference_update", ITSELF, REWRITE),
+    Methods((SET,), "__contains__", KEY, "r"),
+    Methods((SET,), "add", KEY, "w"),
+    Methods((SET,), "discard", KEY, "d"),
+    Methods((SET,), "remove", KEY, "d", when=LATE),
+
+    # The ends of a deque are made for several threads, so they do not conflict.
+    Methods((DEQUE,), "append appendleft extend extendleft", ITSELF, ADDITION, when=LATE),
+    Methods((DEQUE,), "pop popleft", ITSELF, ADDITION),
+    Methods((DEQUE,), "insert remove", ITSELF, REWRITE, when=LATE),
+    Methods((DEQUE,), "rotate reverse clear", ITSELF, REWRITE),
+    Methods((DEQUE,), "__contains__", KEY, "c"),
+
+    Methods((BUFFER,), "write writelines writerow writerows writeheader", ITSELF, ADDITION),
+    Methods((BUFFER,), "getvalue getbuffer", ITSELF, ITERATION),
+    Methods((BUFFER,), "tell", ITSELF, LENGTH),
+    Methods((BUFFER,), "read read1 readline readlines readinto __iter__ __next__ __contains__ seek truncate", ITSELF, REWRITE),
+
+    Methods((), "__iadd__", ITSELF, ADDITION, when=IN_PLACE),
+    Methods((), "__imul__ __ior__ __iand__ __ixor__ __isub__", ITSELF, REWRITE, when=IN_PLACE),
+    Methods((), "extend extendleft union intersection difference symmetric_difference", GIVEN, KEYS),
+    Methods((), "issubset issuperset isdisjoint", GIVEN, KEYS),
+    Methods((), "intersection_update difference_update symmetric_difference_update", GIVEN, KEYS),
+    Methods((), "fromkeys _make", GIVEN, KEYS),
+    Methods((), "__add__ __iadd__ __eq__ __or__ __ior__ __and__ __sub__ __xor__", GIVEN, ITERATION),
+    Methods((), "join update subtract fromlist translate choice choices sample", GIVEN, ITERATION),
+    Methods((), "format format_map substitute safe_substitute", GIVEN, ITERATION, SHOWN),
+    Methods((), "write writelines writerow from_bytes unpack unpack_from iter_unpack", GIVEN, ITERATION),
+    Methods((), "writerows", GIVEN, ITERATION, EACH),
+    Methods((), "shuffle readinto readinto1 recv_into recvfrom_into pack_into", GIVEN, REWRITE),
+)
+
+# What functions do
+
+ALL = "*"
+"""All functions of a module for which no other row says more."""
+FIRST, SECOND, FIRST_BY_SECOND, STEPS, LATER = "first", "second", "first by second", "steps", "later"
+"""Which argument a function touches: the first one, the second one, the first one after a look at the second one, what it is given with
+each step of what it gives, or what it is given, but only later."""
+
+
+class Functions(NamedTuple):
+    """What functions of a module do to the container that they are given."""
+
+    module: str
+    names: str
+    words: str
+    inside: str = ""
+    argument: str = FIRST
+
+
+BUILTINS = "builtins"
+_FUNCTIONS = (
+    Functions(BUILTINS, "len bool", LENGTH),
+    Functions(BUILTINS, "dict bytes bytearray", ITERATION),
+    Functions(BUILTINS, "str format print", ITERATION, SHOWN),
+    Functions(BUILTINS, "repr ascii", ITERATION, WRITTEN),
+    Functions(BUILTINS, "list tuple set frozenset sorted sum min max any all next iter reversed", KEYS),
+    Functions(BUILTINS, "enumerate zip map filter", KEYS, argument=STEPS),
+    Functions("array", "array", ITERATION),
+    Functions("asyncio", "wait as_completed", ITERATION),
+    Functions("base64", ALL, ITERATION),
+    Functions("binascii", ALL, ITERATION),
+    Functions("bisect", "bisect bisect_left bisect_right", ITERATION),
+    Functions("bisect", "insort insort_left insort_right", REWRITE),
+    Functions("bz2", ALL, ITERATION),
+    Functions("collections", "Counter deque OrderedDict defaultdict UserDict UserList", ITERATION),
+    Functions("concurrent.futures", "wait as_completed", ITERATION),
+    Functions("copy", "copy", ITERATION, FIELDS),
+    Functions("copy", "deepcopy", ITERATION, STATE),
+    Functions("csv", ALL, ITERATION),
+    Functions("csv", "reader DictReader", ITERATION, argument=STEPS),
+    Functions("csv", "writer DictWriter", "", argument=LATER),
+    Functions("dataclasses", "asdict astuple", ITERATION, DECLARED),
+    Functions("dataclasses", "replace", ITERATION, FIELDS),
+    Functions("difflib", ALL, ITERATION),
+    Functions("fnmatch", ALL, ITERATION),
+    Functions("functools", "reduce", ITERATION),
+    Functions("hashlib", ALL, ITERATION),
+    Functions("heapq", "heappush heappop heapify heapreplace heappushpop", REWRITE),
+    Functions("heapq", "nlargest nsmallest merge", ITERATION),
+    Functions("html", ALL, ITERATION),
+    Functions("io", "BytesIO", ITERATION),
+    Functions("itertools", ALL, ITERATION),
+    Functions("itertools", "chain islice cycle accumulate compress dropwhile filterfalse groupby", ITERATION, argument=STEPS),
+    Functions("itertools", "pairwise starmap takewhile zip_longest batched", ITERATION, argument=STEPS),
+    Functions("itertools.chain", "from_iterable", ITERATION, EACH),
+    Functions("json", ALL, ITERATION),
+    Functions("json", "dumps dump", ITERATION, CONTENT),
+    Functions("lzma", ALL, ITERATION),
+    Functions("marshal", ALL, ITERATION),
+    Functions("math", "fsum prod dist", ITERATION),
+    Functions("operator", "truth not_ length_hint", LENGTH),
+    Functions("operator", "add concat mul and_ or_ sub xor countOf indexOf mod", ITERATION),
+    Functions("operator", "eq ne", ITERATION, COMPARED),
+    Functions("operator", "lt le gt ge", ITERATION, ORDERED),
+    Functions("operator", "iadd iconcat", ADDITION, argument=FIRST_BY_SECOND),
+    Functions("operator", "imul ior iand isub ixor", REWRITE, argument=FIRST_BY_SECOND),
+    Functions("pickle", ALL, ITERATION),
+    Functions("pickle", "dumps dump", ITERATION, STATE),
+    Functions("pprint", ALL, ITERATION),
+    Functions("pprint", "pprint pformat", ITERATION, WRITTEN),
+    Functions("random", "choice sample choices", ITERATION),
+    Functions("random", "shuffle", REWRITE),
+    Functions("shlex", ALL, ITERATION),
+    Functions("statistics", ALL, ITERATION),
+    Functions("struct", ALL, ITERATION),
+    Functions("struct", "pack_into", REWRITE, argument=SECOND),
+    Functions("textwrap", ALL, ITERATION),
+    Functions("urllib.parse", ALL, ITERATION),
+    Functions("zlib", ALL, ITERATION),
+)
+
+# What others read of the two tables
+
+
+def _methods(touched: str, when: str | None = None) -> Iterator[tuple[Methods, str]]:
+    """Each method that touches this, with its row."""
+    rows = [row for row in _METHODS if row.touched == touched and (when is None or row.when == when)]
+    return ((row, name) for row in rows for name in row.names.split())
+
+
+def _functions(*arguments: str) -> Iterator[tuple[Functions, str]]:
+    """Each function that touches one of these arguments, but for those of the language, with its row."""
+    rows = [row for row in _FUNCTIONS if row.argument in arguments and row.module != BUILTINS and row.names != ALL]
+    return ((row, f"{row.module}.{name}") for row in rows for name in row.names.split())
+
 
 WHOLE: dict[int, dict[str, str]] = {
-    LIST: {
-        **_ROW, **dict.fromkeys(_OF_BYTES, ITERATION), **dict.fromkeys(("append", "extend"), ADDITION), **dict.fromkeys(("insert", "pop", "remove"), REMOVAL),
-        **dict.fromkeys(("clear", "sort", "reverse", "byteswap"), REWRITE),
-        **dict.fromkeys(("frombytes", "fromlist", "fromfile"), ADDITION), **dict.fromkeys(("tobytes", "tolist", "tofile"), ITERATION),
-    },
-    DICT: {
-        **dict.fromkeys((*_COMPARISONS, *"items values copy most_common elements total __or__ __ror__ __copy__".split()), ITERATION),
-        **dict.fromkeys(("keys", "__iter__", "__reversed__"), KEYS), "popitem": REMOVAL, "__len__": LENGTH, "__ior__": REWRITE,
-        **dict.fromkeys("update clear move_to_end subtract".split(), REWRITE),
-    },
-    SET: {
-        **dict.fromkeys("copy union intersection difference symmetric_difference issubset issuperset isdisjoint".split(), ITERATION),
-        **dict.fromkeys((*_COMPARISONS, *"__iter__ __copy__ __or__ __and__ __sub__ __xor__ __ror__ __rand__ __rsub__ __rxor__".split()), ITERATION),
-        **dict.fromkeys(("update", "__ior__"), ADDITION), "pop": REMOVAL, "__len__": LENGTH,
-        **dict.fromkeys("clear difference_update intersection_update symmetric_difference_update __iand__ __isub__ __ixor__".split(), REWRITE),
-    },
-    DEQUE: {
-        **_ROW,
-        **dict.fromkeys("append appendleft extend extendleft pop popleft".split(), ADDITION),
-        **dict.fromkeys("insert remove rotate reverse clear".split(), REWRITE),
-    },
-    BUFFER: {
-        **dict.fromkeys("write writelines writerow writerows writeheader".split(), ADDITION),
-        **dict.fromkeys(("getvalue", "getbuffer"), ITERATION), "tell": LENGTH,
-        **dict.fromkeys("read read1 readline readlines readinto __iter__ __next__ __contains__ seek truncate".split(), REWRITE),
-    },
+    kind: {name: row.words for row, name in _methods(ITSELF) if kind in row.kinds} for kind in TYPES
 }
-"""What each method does to the shape of a container. The ends of a deque are made for several threads, so they do not conflict.
-
-A buffer is a text or bytes in memory. What is written stands at its end mostly, and who reads moves its position. Rows come by a writer of `csv`.
-"""
-
+"""What each method does to the shape of a container."""
 KEYED: dict[str, dict[int, str]] = {
-    "get": {DICT: "r"}, "pop": {DICT: "d"}, "setdefault": {DICT: "rw"}, "add": {SET: "w"}, "discard": {SET: "d"},
-    "remove": {SET: "d"}, "__getitem__": {DICT: "r", LIST: "r"}, "__setitem__": {DICT: "w", LIST: "w"},
-    "__delitem__": {DICT: "d", LIST: "d"}, "__contains__": {DICT: "r", SET: "r", LIST: "c", DEQUE: "c"},
+    name: {kind: row.words for row, same in _methods(KEY) if same == name for kind in row.kinds} for _, name in _methods(KEY)
 }
-"""Methods whose first argument is a key: read, written, deleted, or made where it is not there."""
+"""Methods whose first argument is a key, and what each kind does to the element."""
+CONSUMING = {name: row.words for row, name in _methods(GIVEN)}
+"""Methods that look at the containers which they are given, unless a class of the program has them."""
+DEPTHS_OF_METHODS = {name: row.inside for row, name in _methods(GIVEN) if row.inside}
+"""How deep a method looks at what it is given."""
+LATE_METHODS = frozenset(name for touched in (ITSELF, KEY) for _, name in _methods(touched, LATE))
+"""Those that change a container after all of their arguments are there."""
+IN_PLACE_METHODS: dict[str, tuple[str, ...]] = {
+    words: tuple(name for row, name in _methods(ITSELF, IN_PLACE) if row.words == words) for words in (ADDITION, REWRITE)
+}
+"""Those that an assignment as `+=` calls, by what it does to a container."""
 
 OF_GENERATOR = frozenset(("send", "throw", "close", "__next__"))
 """Methods by which a generator goes on."""
 OF_FILE = frozenset("read readline readlines __next__ seek truncate".split())
 """Methods by which a file of text goes on."""
-
 METHODS = frozenset(name for names in WHOLE.values() for name in names) | frozenset(KEYED) | OF_GENERATOR
 
-LATE_METHODS = frozenset("append appendleft extend extendleft insert update remove".split())
-"""Those that change a container after all of their arguments are there."""
-
-IN_PLACE_METHODS = {ADDITION: ("__iadd__",), REWRITE: tuple(f"__i{name}__" for name in "mul or and xor sub".split())}
-"""Those that an assignment as `+=` calls, by what it does to a container."""
-
-IN_PLACE_FUNCTIONS = {
-    **dict.fromkeys(("operator.iadd", "operator.iconcat"), ADDITION),
-    **dict.fromkeys((f"operator.{name}" for name in "imul ior iand isub ixor".split()), REWRITE),
-}
-"""Functions that change their first argument, and look at the second one."""
-
-CHANGED_ARGUMENT = {"struct.pack_into": 1}
-"""Which argument a function changes, if it is not the first one."""
-
-STEPPING = frozenset(
-    f"itertools.{name}" for name in "chain islice cycle accumulate compress dropwhile filterfalse groupby pairwise "
-    "starmap takewhile zip_longest batched".split()
-) | {"csv.reader", "csv.DictReader"}
-"""Functions that look at what they are given step by step, as others look at what they give."""
-
-_READING = frozenset(
-    "statistics itertools json pickle marshal pprint struct base64 binascii zlib hashlib bz2 lzma difflib csv textwrap shlex "
-    "urllib.parse html fnmatch".split()
+READERS = {name: row.words for row in _FUNCTIONS if row.module == BUILTINS for name in row.names.split()}
+"""Functions of the language that look at what they are given."""
+SHOWING = {name: row.inside for row in _FUNCTIONS if row.module == BUILTINS and row.inside for name in row.names.split()}
+"""Those that show what is inside, too, and how."""
+STEPPERS = frozenset(
+    name for row in _FUNCTIONS if row.module == BUILTINS and row.argument == STEPS for name in row.names.split()
 )
-"""Modules whose functions look at what they are given, and do not change it."""
-
-_KEEPING = frozenset(("csv.writer", "csv.DictWriter"))
-"""Those that keep what they are given, and look at it later."""
-
-_KNOWN = {
-    **IN_PLACE_FUNCTIONS, "struct.pack_into": REWRITE, "itertools.chain.from_iterable": ITERATION,
-    **dict.fromkeys((f"operator.{name}" for name in "truth not_ length_hint".split()), LENGTH),
-    **dict.fromkeys((f"operator.{name}" for name in "add concat mul eq ne lt le gt ge and_ or_ sub xor countOf indexOf mod".split()), ITERATION),
-    **dict.fromkeys((f"heapq.{name}" for name in "heappush heappop heapify heapreplace heappushpop".split()), REWRITE),
-    **dict.fromkeys(("bisect.insort", "bisect.insort_left", "bisect.insort_right", "random.shuffle"), REWRITE),
-    **dict.fromkeys(
-        "copy.copy copy.deepcopy random.choice random.sample random.choices heapq.nlargest heapq.nsmallest heapq.merge bisect.bisect "
-        "bisect.bisect_left bisect.bisect_right functools.reduce math.fsum math.prod math.dist array.array io.BytesIO collections.Counter collections.deque "
-        "collections.OrderedDict collections.defaultdict collections.UserDict collections.UserList asyncio.wait asyncio.as_completed "
-        "concurrent.futures.wait concurrent.futures.as_completed "
-        "dataclasses.asdict dataclasses.astuple dataclasses.replace".split(), ITERATION,
-    ),
-}
-
-SHOWN, WRITTEN, COMPARED, ORDERED, DECLARED, STATE, FIELDS = "shown written compared ordered declared state fields".split()
-EACH, TRUTH, CONTENT = "each", "truth", "content"
-"""How deep a function looks at what it is given: at all that its text has, or its text for a programmer, at what is compared for being equal
-or greater, at all fields that its class declares, at all of its state, at its own fields, at each element, at whether each has elements,
-or at all that containers have inside, and at no field of an object."""
-OF_ELEMENTS = frozenset((EACH, TRUTH))
-BY_FIELDS = frozenset((SHOWN, WRITTEN, COMPARED, ORDERED, DECLARED, STATE, FIELDS))
-DEEP = (BY_FIELDS - {FIELDS}) | OF_ELEMENTS | {CONTENT}
-DEPTHS_OF_METHODS = {**dict.fromkeys("format format_map substitute safe_substitute".split(), SHOWN), "writerows": EACH}
-"""How deep a method looks at what it is given."""
-_DEPTHS = {
-    **dict.fromkeys("copy.deepcopy pickle.dumps pickle.dump".split(), STATE), **dict.fromkeys(("json.dumps", "json.dump"), CONTENT),
-    **dict.fromkeys("dataclasses.asdict dataclasses.astuple".split(), DECLARED),
-    **dict.fromkeys(("copy.copy", "dataclasses.replace"), FIELDS), "itertools.chain.from_iterable": EACH,
-    **dict.fromkeys("pprint.pprint pprint.pformat".split(), WRITTEN),
-    **dict.fromkeys("operator.eq operator.ne".split(), COMPARED), **dict.fromkeys((f"operator.{name}" for name in "lt le gt ge".split()), ORDERED),
-}
-
-
-def depth_of(name: str | None) -> str:
-    """How deep a function of the library looks, if it looks deeper than at the container that it is given."""
-    return "" if name is None else _DEPTHS.get(name, "")
-
-
-CONSUMING = {
-    **dict.fromkeys(
-        "extend extendleft union intersection difference symmetric_difference issubset issuperset isdisjoint intersection_update "
-        "difference_update symmetric_difference_update fromkeys _make".split(), KEYS,
-    ),
-    **dict.fromkeys(
-        "join update subtract fromlist format format_map writelines writerow writerows write substitute safe_substitute translate "
-        "choice choices sample from_bytes unpack unpack_from iter_unpack __add__ __iadd__ __eq__ __or__ __ior__ __and__ __sub__ "
-        "__xor__".split(), ITERATION,
-    ),
-    **dict.fromkeys("shuffle readinto readinto1 recv_into recvfrom_into pack_into".split(), REWRITE),
-}
-"""Methods that look at the containers which they are given, unless a class of the program has them."""
+"""Those that look at it step by step."""
+IN_PLACE_FUNCTIONS = {name: row.words for row, name in _functions(FIRST_BY_SECOND)}
+"""Functions that change their first argument, and look at the second one."""
+CHANGED_ARGUMENT = {name: 1 for _, name in _functions(SECOND)}
+"""Which argument a function changes, if it is not the first one."""
+STEPPING = frozenset(name for _, name in _functions(STEPS))
+"""Functions that look at what they are given step by step, as others look at what they give."""
+_KNOWN = {name: row.words for row, name in _functions(FIRST, SECOND, FIRST_BY_SECOND)}
+_DEPTHS = {name: row.inside for row, name in _functions(FIRST) if row.inside}
+_KEEPING = frozenset(name for _, name in _functions(LATER))
+_READING = frozenset(row.module for row in _FUNCTIONS if row.names == ALL)
 
 
 def known_function(name: str | None) -> str | None:
@@ -162,3 +295,8 @@ def known_function(name: str | None) -> str | None:
     if name is None or name.startswith(".") or name in _KEEPING:
         return None
     return _KNOWN.get(name) or (ITERATION if name.rpartition(".")[0] in _READING else None)
+
+
+def depth_of(name: str | None) -> str:
+    """How deep a function of the library looks, if it looks deeper than at the container that it is given."""
+    return "" if name is None else _DEPTHS.get(name, "")

@@ -15,8 +15,8 @@ from typing import Any
 from ..model.conflicts import ADDITION, ITERATION, KEYS, LENGTH, REWRITE
 from . import on_stack, passed_over
 from .kinds import (
-    CHANGED_ARGUMENT, COMPARED, CONSUMING, CONTENT, DEPTHS_OF_METHODS, EACH, IN_PLACE_FUNCTIONS, IN_PLACE_METHODS, KEYED, LATE_METHODS, METHODS, ORDERED,
-    SHOWN, STATE, STEPPING, TRUTH, WRITTEN, depth_of, known_function,
+    CHANGED_ARGUMENT, COMPARED, CONSUMING, CONTENT, DEPTHS_OF_METHODS, EACH, IN_PLACE_FUNCTIONS, IN_PLACE_METHODS, KEYED,
+    LATE_METHODS, METHODS, ORDERED, READERS, SHOWING, SHOWN, STATE, STEPPERS, STEPPING, TRUTH, WRITTEN, depth_of, known_function,
 )
 from .patterns import Patterns
 from .learned import Learned
@@ -30,14 +30,6 @@ PREFIX = "_itc_"
 ON = PREFIX + "on"
 LOAD = ast.Load()
 
-READERS = {
-    **dict.fromkeys(("len", "bool"), LENGTH),
-    **dict.fromkeys("dict str repr ascii format print bytes bytearray".split(), ITERATION),
-    **dict.fromkeys("list tuple set frozenset sorted sum min max any all next iter reversed enumerate zip map filter".split(), KEYS),
-}
-"""Functions of the language that look at what they are given."""
-SHOWING = {**dict.fromkeys(("str", "format", "print"), SHOWN), **dict.fromkeys(("repr", "ascii"), WRITTEN)}
-"""Those that show what is inside, too, and how."""
 WHOLE_OBJECTS = frozenset(("vars", "__dict__", "asdict"))
 """What gives all fields of an object."""
 OF_KEYS = ("__iter__", "keys")
@@ -55,8 +47,6 @@ METHODS_OF_OPERATORS = {
     for kind, name in ((ast.Add, "add"), (ast.Sub, "sub"), (ast.Mult, "mul"), (ast.BitOr, "or"), (ast.BitAnd, "and"), (ast.BitXor, "xor"))
 }
 METHODS_OF_SLICES = {"r": ("__getitem__",), "w": ("__setitem__",), "d": ("__delitem__",)}
-STEPPERS = frozenset(("enumerate", "zip", "map", "filter"))
-"""Those that look at it step by step."""
 WRITTEN_BY = frozenset(map(ord, "ra"))
 """Conversions of a formatted text that ask for a text for a programmer."""
 OF_ATTRIBUTES = {"getattr": "r", "hasattr": "r", "setattr": "w", "delattr": "w"}
