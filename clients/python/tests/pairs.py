@@ -1598,6 +1598,18 @@ plain, rows, named, data, cells = Plain(), Rows([inner]), Named(inner), Data(1, 
         functools = [inner].copy()
         ",".join(map(str, [1, "a", plain]))
     """), is_race=False),
+    Group("a file that is kept in memory is written", """
+import tempfile
+spooled = tempfile.SpooledTemporaryFile()
+""", "spooled.write(b'a')", _listed("""
+        spooled.read()
+        spooled.readline()
+        spooled.seek(0)
+        spooled.truncate()
+        spooled.tell()
+        for line in spooled: pass
+        list(spooled)
+    """)),
     Group("another field is touched", OBJECT, "point.x = 5", _listed("""
         point.y
         point

@@ -10,6 +10,7 @@ import _csv
 import csv
 import io
 import os
+import tempfile
 import weakref
 from array import array
 from collections import ChainMap, Counter, OrderedDict, UserDict, UserList, defaultdict, deque
@@ -38,6 +39,7 @@ WITH_ONE_INSIDE: tuple[tuple[type, str], ...] = (
     (weakref.WeakValueDictionary, "data"),
     (weakref.WeakKeyDictionary, "data"),
     (weakref.WeakSet, "data"),
+    (tempfile.SpooledTemporaryFile, "_file"),
     (ChainMap, MAPS),
     (type(os.environ), VARIABLES),
     (csv.DictWriter, WRITER),
