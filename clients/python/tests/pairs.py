@@ -267,6 +267,8 @@ GROUPS = (
         |bisect.bisect(items, 1)
         import random
         |random.choice(items)
+        import secrets
+        |secrets.choice(items)
         import random
         |random.sample(items, 1)
         import random

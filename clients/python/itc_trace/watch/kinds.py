@@ -223,6 +223,7 @@ _FUNCTIONS = (
     Functions("pprint", "pprint pformat", ITERATION, WRITTEN),
     Functions("random", "choice sample choices", ITERATION),
     Functions("random", "shuffle", REWRITE),
+    Functions("secrets", "choice", ITERATION),
     Functions("shlex", ALL, ITERATION),
     Functions("statistics", ALL, ITERATION),
     Functions("struct", ALL, ITERATION),
