@@ -13,7 +13,7 @@ from typing import Any
 
 from itc_trace import touch
 
-from .support import WAIT, TracedCase
+from .support import WAIT, TracedCase, in_turn
 from .test_threads import write
 
 Work = Callable[[], Awaitable[Any]]
@@ -55,6 +55,30 @@ class Tasks(Asynchronous):
             write()
 
         self.assert_ordered(scenario)
+
+    def test_each_run_of_a_runner_comes_between_what_precedes_and_what_follows(self) -> None:
+        def scenario() -> None:
+            with asyncio.Runner() as runner:
+                for _ in range(2):
+                    write()
+                    runner.run(writing())
+            write()
+
+        self.assert_ordered(scenario)
+
+    def test_runners_of_two_threads_are_not_ordered(self) -> None:
+        def run() -> None:
+            with asyncio.Runner() as runner:
+                runner.run(writing())
+
+        self.assert_race(lambda: in_turn(run, run))
+
+    def test_a_runner_orders_no_threads_that_run_it_in_turn(self) -> None:
+        def scenario() -> None:
+            with asyncio.Runner() as runner:
+                in_turn(lambda: runner.run(writing()), lambda: runner.run(writing()))
+
+        self.assert_race(scenario)
 
     def test_a_task_comes_after_its_making_and_before_its_await(self) -> None:
         async def main() -> None:
