@@ -1,7 +1,7 @@
 """A client of itc_trace: reports what a Python program does, and asks how its events are ordered.
 
-`Session` reports and asks by hand. `tracing` and `install` report by themselves what the standard library's threads, locks,
-queues, pools and asyncio do; `shared` and `touch` say what is shared; `races` finds what nothing orders.
+`Session` reports and asks by hand. `tracing` and `install` report by themselves what the standard library's threads,
+locks, queues, pools and asyncio do; `shared` and `touch` say what is shared; `races` finds what nothing orders.
 """
 
 from . import own_path
@@ -19,7 +19,8 @@ from .model.verdict import Cause, Unseen, Verdict
 from .api.web import AsgiMiddleware, Middleware, Opener, incoming, opener, outgoing
 
 __all__ = [
-    "AsgiMiddleware", "Cause", "Collector", "Middleware", "NoCollector", "Opener", "Race", "Races", "Refused", "Session", "Tracing",
+    "AsgiMiddleware", "Cause", "Collector", "Middleware", "NoCollector", "Opener", "Race", "Races", "Refused",
+    "Session", "Tracing",
     "Unseen", "Verdict",
     "find_races", "incoming", "install", "opener", "outgoing", "shared", "touch", "tracing", "uninstall",
 ]

@@ -1,6 +1,7 @@
 """Keeps modules of the program apart from those of the library that the package itself imports.
 
-`python3 -m itc_trace` would look for `string` in the current folder first, and the program there may have a module of that name.
+`python3 -m itc_trace` would look for `string` in the current folder first, and the program there may have a module of
+that name.
 """
 
 from __future__ import annotations
@@ -21,7 +22,9 @@ def look_into_library_first() -> None:
 
 def leave_to_program(folder: str) -> None:
     """Forgets the modules that the package has imported, where the program's folder has others of these names."""
-    for name in [one for one in sys.modules if "." not in one and one not in _KNOWN_BEFORE | _KEPT and _is_in(folder, one)]:
+    for name in [
+        one for one in sys.modules if "." not in one and one not in _KNOWN_BEFORE | _KEPT and _is_in(folder, one)
+    ]:
         for one in list(sys.modules):
             if one == name or one.startswith(f"{name}."):
                 del sys.modules[one]

@@ -1,8 +1,9 @@
-"""A plugin of pytest: a test that is marked `races` fails where its run has a race, or was not seen whole. With `--races` every
-test does.
+"""A plugin of pytest: a test that is marked `races` fails where its run has a race, or was not seen whole. With
+`--races` every test does.
 
-The traced methods are put in place before the tests are imported, and note nothing but while such a test runs, with its fixtures. The
-functions of the project are watched from the end of the collection on, those of the tests with the assertions of pytest.
+The traced methods are put in place before the tests are imported, and note nothing but while such a test runs, with its
+fixtures. The functions of the project are watched from the end of the collection on, those of the tests with the
+assertions of pytest.
 """
 
 from __future__ import annotations
@@ -91,14 +92,18 @@ class _Traced:
 def pytest_addoption(parser: pytest.Parser) -> None:
     group = parser.getgroup("races")
     group.addoption("--races", action="store_true", help="trace every test, and fail it where its run has a race")
-    group.addoption("--races-watch", metavar="PACKAGE", action="append", default=[], help="watch an installed package, too")
+    group.addoption(
+        "--races-watch", metavar="PACKAGE", action="append", default=[], help="watch an installed package, too",
+    )
     group.addoption("--races-watch-nothing", action="store_true", help="note only what is shared or touched by hand")
     group.addoption("--races-benign", metavar="FILE", action="append", default=[], help="races that are meant")
     group.addoption(FAIL_ON, choices=(RACE, POSSIBLE), default=RACE, help="fail a test where a race is possible, too")
 
 
 def pytest_configure(config: pytest.Config) -> None:
-    config.addinivalue_line("markers", f"{MARK}: trace the test, and fail it where its run has a race or was not seen whole")
+    config.addinivalue_line(
+        "markers", f"{MARK}: trace the test, and fail it where its run has a race or was not seen whole",
+    )
     if not _hands_tests_on(config):
         config.stash[_tenants] = _Tenants()
         put_all()
@@ -111,7 +116,8 @@ def pytest_unconfigure(config: pytest.Config) -> None:
 
 def _hands_tests_on(config: pytest.Config) -> bool:
     """Whether the tests run in other processes, as those of xdist."""
-    return bool(config.getoption("dist", "no") != "no" and config.getoption("tx", None)) and not hasattr(config, "workerinput")
+    is_distributed = config.getoption("dist", "no") != "no" and bool(config.getoption("tx", None))
+    return is_distributed and not hasattr(config, "workerinput")
 
 
 def _looking(config: pytest.Config) -> Looking:
@@ -147,7 +153,8 @@ def _with_assertions(config: pytest.Config) -> watch.Prepare:
 
     def prepare(tree: ast.Module, source: bytes, file: str) -> None:
         is_by_pytest = any(
-            getattr(module, "__file__", None) == file and isinstance(getattr(module, "__loader__", None), AssertionRewritingHook)
+            getattr(module, "__file__", None) == file
+            and isinstance(getattr(module, "__loader__", None), AssertionRewritingHook)
             for module in list(sys.modules.values())
         )
         if is_by_pytest:

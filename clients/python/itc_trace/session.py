@@ -29,7 +29,9 @@ class Refused(Exception):
 class Session:
     """A connection to one tenant. Any thread may use it; a request waits until the one before it is answered."""
 
-    def __init__(self, tenant: str, port: int, kind: str = "report", host: str = "127.0.0.1", answer_wait: float | None = None) -> None:
+    def __init__(
+        self, tenant: str, port: int, kind: str = "report", host: str = "127.0.0.1", answer_wait: float | None = None,
+    ) -> None:
         """With the kind "report" it reports and asks, and is the only one that does; with "view" it asks.
 
         A reply that takes more seconds than `answer_wait` is a TimeoutError. With None it waits for ever.

@@ -1,8 +1,8 @@
 """What is kept of the touches of earlier parts, and which later touches race with them.
 
-A touch of an earlier part comes before an event if and only if one of the positions that know the touch does. At the next border the
-set of these positions moves on by the same rule. A touch that all live tasks know comes before all that may still happen, and is
-dropped. Touches of one line of the program that the same positions know are kept as one.
+A touch of an earlier part comes before an event if and only if one of the positions that know the touch does. At the
+next border the set of these positions moves on by the same rule. A touch that all live tasks know comes before all that
+may still happen, and is dropped. Touches of one line of the program that the same positions know are kept as one.
 """
 
 from __future__ import annotations
@@ -20,7 +20,8 @@ from .racing_pairs import Pair
 from .trace import Events, Trace
 
 _Known = tuple[str, str, "str | None", int, str, int, Events]
-"""What is the same of touches that are kept as one: thing, kind, file, line, function, loop and the positions that know them."""
+"""What is the same of touches that are kept as one: thing, kind, file, line, function,
+loop and the positions that know them."""
 
 
 class Knowing(Protocol):
@@ -74,7 +75,8 @@ class AcrossParts:
         groups: dict[tuple[object, ...], list[Row]] = defaultdict(list)
         for touch in touches:
             if touch.thing in self._kept:
-                groups[touch.thing, touch.kind, touch.file, touch.line, touch.loop, trace.before[touch.event] & positions].append(touch)
+                place = touch.thing, touch.kind, touch.file, touch.line, touch.loop
+                groups[*place, trace.before[touch.event] & positions].append(touch)
         for key, alike in groups.items():
             known: Events = key[-1]  # type: ignore[assignment]
             touch, times = alike[0], len({row.event for row in alike})
@@ -83,7 +85,8 @@ class AcrossParts:
                     yield Pairing((kept.example, touch, kept.times * times), kept.known)
 
     def unseen_turns(self, touches: Iterable[Row], trace: Trace) -> Iterator[Row]:
-        """Changes by a task of a loop that go back to a read in an earlier part, if another task's change may have come in between.
+        """Changes by a task of a loop that go back to a read in an earlier part, if another task's change may have come
+        in between.
 
         Within a part such a change is a race. Across parts it is not known whether the other one comes after the read.
         """
@@ -94,14 +97,16 @@ class AcrossParts:
                 self._reads[row.thing, row.task] = row
                 continue
             read = self._reads.pop((row.thing, row.task), None)
-            if read is not None and read.part < row.part and read.turn < row.turn and self._may_be_between(row, changes, trace):
+            is_later_turn = read is not None and read.part < row.part and read.turn < row.turn
+            if is_later_turn and self._may_be_between(row, changes, trace):
                 yield row
 
     def _may_be_between(self, change: Row, changes: list[Row], trace: Trace) -> bool:
         before = trace.before[change.event]
         for kept in self._kept.get(change.thing or "", ()):
             other = kept.example
-            if other.kind in CHANGING and other.loop == change.loop and other.task != change.task and not kept.known & before:
+            is_of_other_task = other.loop == change.loop and other.task != change.task
+            if other.kind in CHANGING and is_of_other_task and not kept.known & before:
                 return True
         return any(
             other.thing == change.thing and other.loop == change.loop and other.task != change.task
@@ -144,7 +149,10 @@ class AcrossParts:
 
 
 def _new(touches: Iterable[Row], at: list[tuple[int, Events]]) -> Iterator[tuple[_Kept, Events]]:
-    rows = {(row.thing, row.kind, row.file, row.line, row.function, row.loop, row.event): row for row in touches if row.kind != MAKING}
+    rows = {
+        (row.thing, row.kind, row.file, row.line, row.function, row.loop, row.event): row for row in touches
+        if row.kind != MAKING
+    }
     events = _union(1 << event for event in {row.event for row in rows.values()})
     known = transposed((position, met) for position, before in at if (met := before & events))
     for row in rows.values():

@@ -1,7 +1,7 @@
 """Races that the program's author means: by a comment `# itc: benign` on one of their lines, or by a file of patterns.
 
-A line of the file has a pattern of the thing, and none, one or two of the places: `stock['left'] shop.py:8 shop.py:*`. A `*` stands for
-any letters, also for a space. A word that begins with `#` begins a comment.
+A line of the file has a pattern of the thing, and none, one or two of the places: `stock['left'] shop.py:8 shop.py:*`.
+A `*` stands for any letters, also for a space. A word that begins with `#` begins a comment.
 """
 
 from __future__ import annotations
@@ -33,7 +33,8 @@ class Pattern:
 
     def fits(self, race: Race) -> bool:
         return _fits(race.thing, self.thing) and any(
-            all(_is_at(side, place) for side, place in zip(sides, self.places)) for sides in (race.sides, race.sides[::-1])
+            all(_is_at(side, place) for side, place in zip(sides, self.places))
+            for sides in (race.sides, race.sides[::-1])
         )
 
 
@@ -68,7 +69,10 @@ class Looking:
 
     def unfitting(self) -> Iterator[str]:
         """The lines of files by which no race is meant, in words for a person."""
-        lines = [f"{pattern.line} ({' '.join((pattern.thing, *pattern.places))})" for pattern in self.patterns if pattern not in self._fitting]
+        lines = [
+            f"{pattern.line} ({' '.join((pattern.thing, *pattern.places))})" for pattern in self.patterns
+            if pattern not in self._fitting
+        ]
         if lines:
             yield f"no race is silenced by {', '.join(lines)}"
 
@@ -86,7 +90,9 @@ def _lines_with_comment(file: str) -> frozenset[int]:
             tokens = list(tokenize.generate_tokens(source.readline))
     except (OSError, SyntaxError, UnicodeDecodeError, tokenize.TokenError):
         return frozenset()
-    return frozenset(token.start[0] for token in tokens if token.type == tokenize.COMMENT and COMMENT.match(token.string))
+    return frozenset(
+        token.start[0] for token in tokens if token.type == tokenize.COMMENT and COMMENT.match(token.string)
+    )
 
 
 def read_patterns(file: str) -> list[Pattern]:
@@ -106,6 +112,8 @@ def _patterns(lines: Iterable[str], file: str) -> Iterable[Pattern]:
             raise Fault(f"{file}:{number}: a thing and two places at most: write * for a space")
         for place in words[1:]:
             if not PLACE.fullmatch(place):
-                raise Fault(f"{file}:{number}: {place} is no place: name one as shop.py:7, where * stands for any letters")
+                raise Fault(
+                    f"{file}:{number}: {place} is no place: name one as shop.py:7, where * stands for any letters"
+                )
         if words:
             yield Pattern(words[0], tuple(words[1:]), f"{file}:{number}")

@@ -1,7 +1,7 @@
 """Turns a matrix of bits, whose rows are numbers, so that its columns are rows.
 
-A block of it stands in one number, and has halves, quarters and so on swapped by operations on the whole number (Warren,
-Hacker's Delight, 7-3).
+A block of it stands in one number, and has halves, quarters and so on swapped by operations on the whole number
+(Warren, Hacker's Delight, 7-3).
 """
 
 from __future__ import annotations
@@ -38,7 +38,9 @@ def _columns(rows: list[tuple[int, int]]) -> Iterable[tuple[int, int]]:
 def _turned(lines: Mapping[int, int]) -> dict[int, int]:
     size = SIDE // 8
     empty = bytes(size)
-    block = int.from_bytes(b"".join(lines[index].to_bytes(size, "little") if index in lines else empty for index in range(SIDE)), "little")
+    block = int.from_bytes(
+        b"".join(lines[index].to_bytes(size, "little") if index in lines else empty for index in range(SIDE)), "little",
+    )
     step = SIDE // 2
     while step:
         shift = step * (SIDE - 1)
@@ -52,7 +54,8 @@ def _turned(lines: Mapping[int, int]) -> dict[int, int]:
 
 @cache
 def _mask(step: int) -> int:
-    """The bits that a step swaps, at their lower places: those whose column has the step's bit, and whose row has not."""
+    """The bits that a step swaps, at their lower places: those whose column has the step's bit,
+    and whose row has not."""
     row = sum(1 << column for column in range(SIDE) if column & step)
     size = SIDE // 8
     text = b"".join(row.to_bytes(size, "little") if not index & step else bytes(size) for index in range(SIDE))

@@ -1,8 +1,9 @@
 """Which pairs of touches decide whether a thing has a race.
 
-As in FastTrack (Flanagan and Freund 2009), a touch is compared with the last ones that conflict with it and that no later touch
-stands for, and not with all. If each of these pairs is in order, all pairs that conflict are: a touch is stood for by a later one
-only if the later one comes after it and conflicts with all that it conflicts with. If one is not in order, that is a race.
+As in FastTrack (Flanagan and Freund 2009), a touch is compared with the last ones that conflict with it and that no
+later touch stands for, and not with all. If each of these pairs is in order, all pairs that conflict are: a touch is
+stood for by a later one only if the later one comes after it and conflicts with all that it conflicts with. If one is
+not in order, that is a race.
 """
 
 from __future__ import annotations

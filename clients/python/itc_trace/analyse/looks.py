@@ -1,9 +1,10 @@
 """Looks: a task reads under a lock what another one has written under the same lock.
 
-Who comes first at a lock is luck. But whoever reads a flag there, or whether a thing is made yet, does something else if the other task
-comes later. So what it does then comes after that task as it was meant to. Causally-precedes (Smaragdakis and others 2012) orders two
-sections of a lock by touches that conflict. Here only a read counts, and only of a thing that the reader does not write in that section:
-else two tasks that count something would be in order by that.
+Who comes first at a lock is luck. But whoever reads a flag there, or whether a thing is made yet, does something else
+if the other task comes later. So what it does then comes after that task as it was meant to. Causally-precedes
+(Smaragdakis and others 2012) orders two sections of a lock by touches that conflict. Here only a read counts, and only
+of a thing that the reader does not write in that section: else two tasks that count something would be in order by
+that.
 """
 
 from __future__ import annotations
@@ -16,7 +17,10 @@ from ..record.journal import Row
 from .trace import Events, Trace
 
 def looks_of(rows: Iterable[Row], trace: Trace) -> dict[int, Events]:
-    """Of each event with a look the events that its task knows by that. Only things count that the program itself has named."""
+    """Of each event with a look the events that its task knows by that.
+
+    Only things count that the program itself has named.
+    """
     writes: dict[tuple[str, str], Events] = defaultdict(int)
     reads: list[Row] = []
     for row in rows:

@@ -26,7 +26,10 @@ from .trace import Asked, Steps, Told, Trace, told_by_signals
 from ..model.verdict import Cause, PassedOver, Unseen, end_row
 
 TENANT = "trace"
-UNSEEN_TURNS = "a task of a loop read {} in one part of the trace and wrote it back in the next, at {}: who came in between was not looked at"
+UNSEEN_TURNS = (
+    "a task of a loop read {} in one part of the trace and wrote it back in the next, at {}: "
+    "who came in between was not looked at"
+)
 BY_REQUESTS = "ordered in this run only by requests of the process to itself"
 Opened = Callable[[list[str]], AbstractContextManager[Asked]]
 """Gives a view of a tenant to which these requests were reported."""
@@ -64,7 +67,8 @@ def collected(requests: list[str]) -> Iterator[Asked]:
 
 
 def find_in_parts(
-    parts: Iterable[Part], found: Races, is_strict: bool, opened: Opened = collected, bar: Bar | None = None, keep: Kept | None = None
+    parts: Iterable[Part], found: Races, is_strict: bool, opened: Opened = collected, bar: Bar | None = None,
+    keep: Kept | None = None
 ) -> None:
     """Adds the races of all parts to what was found, those across parts too. Each part may be kept."""
     across, lucky = AcrossParts(is_strict), _Requests()
@@ -120,7 +124,8 @@ class _Requests:
         return 0 if self._across is None else len(self._across)
 
     def look_at(self, part: Part, trace: Trace, across: AcrossParts) -> None:
-        """The next part, before its touches are compared. From the first request on, another order is kept than that across parts.
+        """The next part, before its touches are compared. From the first request on, another order is kept than that
+        across parts.
 
         In that order a lock hands on what a request does. Touches that only locks keep in order are not looked for.
         """
@@ -128,7 +133,9 @@ class _Requests:
         answers = events_of_lock(locks, ANSWER)
         if self._across is None and events_of_lock(locks, REQUEST):
             self._across = across.copy()
-        self._told = None if self._across is None else told_by_signals(trace, Steps(set(locks), set(locks) - answers, answers))
+        self._told = None if self._across is None else told_by_signals(
+            trace, Steps(set(locks), set(locks) - answers, answers),
+        )
         self._askers |= {row.task for row in part.rows if row.event in answers and row.kind == "recv"}
 
     def races(self, touches: list[Row]) -> Iterator[Race]:
@@ -137,7 +144,9 @@ class _Requests:
         for pairing in self._across.races(touches, self._told):
             first, second, times = pairing.pair
             if self._askers.isdisjoint((first.task, second.task)):
-                yield Race(first.name or first.thing or "", sides_of(first, second), (first, second), times, BY_REQUESTS, True)
+                yield Race(
+                    first.name or first.thing or "", sides_of(first, second), (first, second), times, BY_REQUESTS, True,
+                )
 
     def move_on(self, touches: list[Row], border: Border) -> None:
         if self._across is not None and self._told is not None:
@@ -184,7 +193,8 @@ def races_of_parts(
     journal: str, looking: Looking | None = None, bar: Bar | None = None, last: tuple[str, int] | None = None,
     export: str | None = None,
 ) -> Races:
-    """The races of a run that was divided, by its journal. The tenant and the port of the last part are given if it is still there.
+    """The races of a run that was divided, by its journal. The tenant and the port of the last part are given if it is
+    still there.
 
     Each part has an export and a journal of its own, if an export is named, where these are listed.
     """

@@ -1,8 +1,8 @@
 """Finds the races of a trace: touches of one thing that conflict, by tasks that nothing keeps in order.
 
-The order comes from the collector alone. For each thing it is asked of the few pairs of touches that decide whether there is a race.
-Only if there is one, it is asked which events each event follows, and all pairs of places that race are looked for. A race is possible if nothing but locks that the two tasks do
-not both hold put two touches in order.
+The order comes from the collector alone. For each thing it is asked of the few pairs of touches that decide whether
+there is a race. Only if there is one, it is asked which events each event follows, and all pairs of places that race
+are looked for. A race is possible if nothing but locks that the two tasks do not both hold put two touches in order.
 """
 
 from __future__ import annotations
@@ -32,7 +32,10 @@ from .without_locks import WithoutLocks
 
 NOTHING = "nothing orders them"
 MOST_ORDERS = 32768
-"""So many pairs of touches that decide are asked for, each by itself. What comes before what by these is known in another way, too."""
+"""So many pairs of touches that decide are asked for, each by itself.
+
+What comes before what by these is known in another way, too.
+"""
 
 
 @dataclass(frozen=True)
@@ -170,14 +173,17 @@ def find_races(
 ) -> Races:
     """The races among the touches that the journal lists, by the order that the collector answers.
 
-    If it is strict, two tasks of one loop race as two threads do. If it is not, only a read that a task writes back in a later turn
-    of the loop, with a change by another task in between, is a race of them. Things that the program has named are always strict.
-    A bar shows how far it has come.
+    If it is strict, two tasks of one loop race as two threads do. If it is not, only a read that a task writes back in
+    a later turn of the loop, with a change by another task in between, is a race of them. Things that the program has
+    named are always strict. A bar shows how far it has come.
     """
     whole = read_whole(journal)
     rows = sorted(dict.fromkeys(whole.rows), key=lambda row: row.event)
     touches = [row for row in rows if row.is_touch and row.kind != MAKING]
-    found = Races(unseen=whole.unseen, passed_over=whole.passed_over, touches=len(touches), events=len({row.event for row in rows}))
+    found = Races(
+        unseen=whole.unseen, passed_over=whole.passed_over, touches=len(touches),
+        events=len({row.event for row in rows}),
+    )
     found.places = len({(row.thing, row.place) for row in touches})
     found.things = len({row.thing for row in touches})
     things = [thing for thing in _things_of(rows) if thing.may_race]
@@ -247,7 +253,8 @@ class _Finder:
         _confirm(self._found.races, self._order)
 
     def _racing(self, things: list[_Thing]) -> Iterator[_Thing]:
-        """The things of which a pair that decides has no order, and those that have too many such pairs to ask for each."""
+        """The things of which a pair that decides has no order,
+        and those that have too many such pairs to ask for each."""
         deciding: list[tuple[_Thing, list[tuple[int, int]]]] = []
         room = MOST_ORDERS
         for thing in things:
@@ -279,7 +286,9 @@ class _Finder:
                     list_pair(pair, listed)
         for race in listed.values():
             race.is_possible = True
-            race.why = self._reason(lock_that_tells(trace, locks, race.example[0].event, race.example[1].event), *race.example)
+            race.why = self._reason(
+                lock_that_tells(trace, locks, race.example[0].event, race.example[1].event), *race.example
+            )
         self._found.possible = in_order(listed)
         if listed:
             with WithoutLocks(trace, locks) as tenant:
@@ -348,7 +357,8 @@ def _replaced(rows: list[Row]) -> _Replaced:
 def _taken_out(thing: _Thing, replaced: _Replaced) -> dict[int, Events]:
     """For each touch the earlier ones after which its task took the thing out of the place that it is named for.
 
-    The task put something else there under a lock that the earlier touches were under, and had the thing alone from then on.
+    The task put something else there under a lock that the earlier touches were under, and had the thing alone from
+    then on.
     """
     taken: dict[int, Events] = defaultdict(int)
     first, last = thing.touches[0], thing.touches[-1]
@@ -356,7 +366,12 @@ def _taken_out(thing: _Thing, replaced: _Replaced) -> dict[int, Events]:
         puts = replaced.get((task, first.name), [])
         between = puts[bisect_left(puts, first.event, key=_event):bisect_right(puts, last.event, key=_event)]
         for put in between:
-            known = sum({1 << row.event for row in thing.touches if row.event <= put.event and not set(row.held).isdisjoint(put.held)})
+            known = sum(
+                {
+                    1 << row.event for row in thing.touches
+                    if row.event <= put.event and not set(row.held).isdisjoint(put.held)
+                }
+            )
             for touch in thing.touches if known else ():
                 if touch.task == task and touch.event >= put.event and touch.thing != put.thing:
                     taken[touch.event] |= known

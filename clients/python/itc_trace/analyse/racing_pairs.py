@@ -1,6 +1,7 @@
 """All pairs of lines at which a thing has races, and how many pairs of touches each is of.
 
-Sets of touches are sets of their events, as the bits of numbers. So a touch is compared with all others of a line at once.
+Sets of touches are sets of their events, as the bits of numbers. So a touch is compared with all others of a line at
+once.
 """
 
 from __future__ import annotations
@@ -56,7 +57,10 @@ class _Groups:
         self._by_kind: dict[str, Events] = defaultdict(int)
 
     def add(self, row: Row) -> _Alike:
-        """The group that the touch belongs to. With locks, touches of one event with others held are in several groups."""
+        """The group that the touch belongs to.
+
+        With locks, touches of one event with others held are in several groups.
+        """
         for place in count():
             key = row.kind, row.file, row.line, row.function, row.loop, place
             alike = self._groups.setdefault(key, _Alike(row))
@@ -79,8 +83,8 @@ def racing_pairs(
 ) -> Iterator[Pair]:
     """The pairs of one thing, whose touches are given in the order of their events.
 
-    With locks a pair is none if its tasks held a lock in common. If it is not strict, tasks of one loop take turns, for which there
-    is an order of its own.
+    With locks a pair is none if its tasks held a lock in common. If it is not strict, tasks of one loop take turns, for
+    which there is an order of its own.
     """
     groups = _Groups(with_locks)
     found: dict[tuple[_Alike, _Alike], Pair] = {}
@@ -105,7 +109,8 @@ def racing_pairs(
 
 
 class _Split(NamedTuple):
-    """Reads in one turn of a loop, and what goes back to them in a later one: a change, or the next step of an iteration."""
+    """Reads in one turn of a loop, and what goes back to them in a later one: a change,
+    or the next step of an iteration."""
 
     reads: list[Row]
     change: Row
@@ -153,8 +158,8 @@ def _turn(row: Row) -> int:
 
 
 class _SplitPairs:
-    """Between two tasks of one loop: a read, a change by the same task that goes back to it in a later turn, and a change by the
-    other task that may come in between."""
+    """Between two tasks of one loop: a read, a change by the same task that goes back to it in a later turn, and a
+    change by the other task that may come in between."""
 
     def __init__(self, tasks: dict[str, list[Row]], unordered: Unordered, with_locks: bool) -> None:
         self._unordered = unordered

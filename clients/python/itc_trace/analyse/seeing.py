@@ -16,7 +16,8 @@ MOST_LOOKED_AT = 64
 
 
 def races_seen(
-    tenant: str, port: int, journal: Iterable[str], host: str = HOST, looking: Looking | None = None, bar: Bar | None = None
+    tenant: str, port: int, journal: Iterable[str], host: str = HOST, looking: Looking | None = None,
+    bar: Bar | None = None
 ) -> Races:
     """The races among what the journal lists, and none where the collector cannot be asked, with that reason."""
     lines, looking = list(journal), looking or Looking()
@@ -36,16 +37,19 @@ def check_trace(tenant: str, port: int, lines: Iterable[str], host: str = HOST, 
         for row, reply in zip(some, view.ask(f"event {row.event}" for row in some)):
             words = reply.split()
             if words[0] != "200" or words[2] != row.task or words[1] != ("local" if row.is_touch else row.kind):
+                name = trace or f"tenant {tenant} at port {port}"
                 raise NoJournal(
-                    f"the journal is of another trace: {trace or f'tenant {tenant} at port {port}'} has no event {row.event} of "
-                    f"{row.task} as it is told there: name the trace that was kept with it"
+                    f"the journal is of another trace: {name} has no event {row.event} of {row.task} "
+                    "as it is told there: name the trace that was kept with it"
                 )
 
 
 def _unknown(whole: Journal, fault: Exception) -> Races:
     touches = [row for row in whole.rows if row.is_touch]
     unseen = [*whole.unseen, Unseen(Cause.COLLECTOR, f"the collector does not tell the order of events ({fault})")]
-    return Races(unseen=unseen, events=len(whole.rows), touches=len(touches), things=len({row.thing for row in touches}))
+    return Races(
+        unseen=unseen, events=len(whole.rows), touches=len(touches), things=len({row.thing for row in touches}),
+    )
 
 
 def lines_of(journals: Iterable[str]) -> Iterator[str]:
@@ -56,7 +60,9 @@ def lines_of(journals: Iterable[str]) -> Iterator[str]:
         try:
             missing = read_whole(lines).missing
         except NoJournal as fault:
-            raise NoJournal(f"{name} is no journal: {fault}: name the FILE of --journal, or FILE.journal of --export") from fault
+            raise NoJournal(
+                f"{name} is no journal: {fault}: name the FILE of --journal, or FILE.journal of --export"
+            ) from fault
         yield from (line for line in lines if line.endswith("\n"))
         for one in missing:
             yield one._replace(text=one.text.replace("the journal", name, 1)).row()

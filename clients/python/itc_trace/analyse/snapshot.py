@@ -17,7 +17,10 @@ NO_PLACE, NO_MEMORY = "422", "507"
 
 
 def snapshot(tenant: str, port: int, output: TextIO, host: str = HOST) -> int:
-    """Writes as many events as there are now, and gives their number. The header has the greatest limits, which hold any trace."""
+    """Writes as many events as there are now, and gives their number.
+
+    The header has the greatest limits, which hold any trace.
+    """
     with Session(tenant, port, "view", host, LONGEST_ANSWER) as view:
         events = int(_asked(view, ["count"])[0].split()[1])
         write_export(view, events, tenant, output)
@@ -26,7 +29,9 @@ def snapshot(tenant: str, port: int, output: TextIO, host: str = HOST) -> int:
 
 def write_export(view: Asked, events: int, tenant: str, output: TextIO) -> None:
     """Writes the first events of a tenant."""
-    output.write(f'{{"events":{MOST_EVENTS},"messages":{MOST_MESSAGES},"tasks":{MOST_TASKS},"tenant":"{tenant}","version":2}}\n')
+    output.write(
+        f'{{"events":{MOST_EVENTS},"messages":{MOST_MESSAGES},"tasks":{MOST_TASKS},"tenant":"{tenant}","version":2}}\n'
+    )
     for first in range(1, events + 1, EVENTS_AT_ONCE):
         numbers = range(first, min(first + EVENTS_AT_ONCE, events + 1))
         output.write("".join(_lines(view, numbers)))

@@ -71,7 +71,8 @@ class Trace:
     def source(self, event: Event) -> Event | None:
         """What a receipt or a join takes in: who sent the message, or the end of the task."""
         for one in (self[number] for number in event.follows):
-            if event.kind == "recv" and (one.kind, one.name) == ("send", event.name) or event.kind == "join" and one.task == event.name:
+            is_message = event.kind == "recv" and (one.kind, one.name) == ("send", event.name)
+            if is_message or event.kind == "join" and one.task == event.name:
                 return one
         return None
 
@@ -89,7 +90,8 @@ def lock_events(trace: Trace, numbers: Iterable[int]) -> set[int]:
 
 
 class Steps(NamedTuple):
-    """The receipts by which a task comes to know of others in another way than by what was meant to put them in order."""
+    """The receipts by which a task comes to know of others in another
+    way than by what was meant to put them in order."""
 
     locks: set[int]
     requests: set[int]
@@ -110,8 +112,9 @@ class Told(NamedTuple):
 def told_by_signals(trace: Trace, steps: Steps) -> Told:
     """Of each event what its task knows by anything but a lock: by what the last step of the way to it was.
 
-    A lock may have had its part before. If the last of many workers, by a count under a lock, sets an event, whoever waits for the
-    event comes after all of them, and was meant to. A request tells of what whoever asks knows but by answers.
+    A lock may have had its part before. If the last of many workers, by a count under a lock, sets an event, whoever
+    waits for the event comes after all of them, and was meant to. A request tells of what whoever asks knows but by
+    answers.
     """
     told, by_no_answer = [0], [0]
     for event in trace.events:

@@ -8,7 +8,9 @@ import tempfile
 from collections.abc import Sequence
 from types import TracebackType
 
-from ..processes.children import IN_CHILD, LEFT_CHILD, UNKNOWN_CHILDREN, Announced, ForkedChildren, Witness, tell_of_processes
+from ..processes.children import (
+    IN_CHILD, LEFT_CHILD, UNKNOWN_CHILDREN, Announced, ForkedChildren, Witness, tell_of_processes,
+)
 from ..record import plain
 from .. import watch
 from ..analyse.benign import Looking
@@ -83,7 +85,9 @@ class Tracing:
             handle, self.journal = tempfile.mkstemp(suffix=".journal", prefix="itc_trace_")
             os.close(handle)
         self._file = JournalFile(self.journal, adds=self.is_child)
-        self._tracer = Tracer(self.port, self.tenant, self._file, self.process, self.host, self._shaking, self._parts, self._child)
+        self._tracer = Tracer(
+            self.port, self.tenant, self._file, self.process, self.host, self._shaking, self._parts, self._child,
+        )
         self._children = ForkedChildren()
         self._announced = Announced(self.journal)
         state.witness = None
@@ -118,7 +122,10 @@ class Tracing:
             self.tell(one)
 
     def tell(self, unseen: Unseen | PassedOver) -> None:
-        """Says in the journal what of the run is not seen. If that cannot be written, tracing stops, and the journal breaks off."""
+        """Says in the journal what of the run is not seen.
+
+        If that cannot be written, tracing stops, and the journal breaks off.
+        """
         self.write(unseen.row())
 
     def write(self, row: str) -> None:
@@ -201,8 +208,9 @@ def tracing(
 ) -> Tracing:
     """Traces a block: `with itc_trace.tracing() as traced: ..`; behind it `traced.races()` has what was found.
 
-    A process that reports beside others to one tenant gives its name, and has a task of its own in place of `root`. The functions in
-    the folder of the program are watched, and those of the packages that are named; with None no more than what is marked.
+    A process that reports beside others to one tenant gives its name, and has a task of its own in place of `root`. The
+    functions in the folder of the program are watched, and those of the packages that are named; with None no more than
+    what is marked.
     """
     _watch(watched)
     return Tracing(port, tenant, journal, process, host)
@@ -217,10 +225,13 @@ _installed: Tracing | None = None
 
 
 def install(
-    port: int | None = None, tenant: str = OWN_TENANT, journal: str | os.PathLike[str] | None = None, process: str | None = None,
-    host: str = HOST, watched: Sequence[str] | None = (),
+    port: int | None = None, tenant: str = OWN_TENANT, journal: str | os.PathLike[str] | None = None,
+    process: str | None = None, host: str = HOST, watched: Sequence[str] | None = (),
 ) -> Tracing:
-    """Traces from here on to the end of the program, and watches as `tracing` does. Without a port the environment has to name one."""
+    """Traces from here on to the end of the program, and watches as `tracing` does.
+
+    Without a port the environment has to name one.
+    """
     global _installed
     if port is None and not os.environ.get(PORT):
         raise Fault(f"install wants the port of a collector, or {PORT} in the environment")

@@ -25,7 +25,10 @@ def outgoing() -> str | None:
 
 
 def incoming(message: str | None) -> None:
-    """From now on the current task comes after the place where this message was sent. What is no message is passed over."""
+    """From now on the current task comes after the place where this message was sent.
+
+    What is no message is passed over.
+    """
     incoming_at(message, sys._getframe(1))
 
 

@@ -1,7 +1,7 @@
 """Containers whose reads and writes are noted: of their own type, so that every library takes them.
 
-A container that lies in a shared one, or in an attribute of a shared object, is part of that thing. It is noted too, if nobody
-else holds it.
+A container that lies in a shared one, or in an attribute of a shared object, is part of that thing. It is noted too, if
+nobody else holds it.
 """
 
 from __future__ import annotations
@@ -21,9 +21,10 @@ from ..model.stretches import STRETCHES
 
 READS = frozenset(
     "__getitem__ __contains__ __iter__ __len__ __reversed__ __eq__ __ne__ __lt__ __le__ __gt__ __ge__ __add__ __radd__ "
-    "__mul__ __rmul__ __or__ __ror__ __and__ __rand__ __sub__ __rsub__ __xor__ __rxor__ __bool__ __str__ __repr__ __format__ "
-    "__copy__ __deepcopy__ get keys values items copy index count union intersection difference symmetric_difference isdisjoint "
-    "issubset issuperset most_common elements total decode hex find startswith endswith tolist tobytes tounicode buffer_info".split()
+    "__mul__ __rmul__ __or__ __ror__ __and__ __rand__ __sub__ __rsub__ __xor__ __rxor__ __bool__ __str__ __repr__ "
+    "__format__ __copy__ __deepcopy__ get keys values items copy index count union intersection difference "
+    "symmetric_difference isdisjoint issubset issuperset most_common elements total decode hex find startswith "
+    "endswith tolist tobytes tounicode buffer_info".split()
 )
 """Methods that only look. Of a type of the library every other one writes."""
 
@@ -66,7 +67,8 @@ def note(name: str, kind: str) -> None:
     touch_at(name, kind, *place_of(frame))
 
 
-# How many references a container has that nobody else holds. Later Pythons do not count those of variables, so none is taken there.
+# How many references a container has that nobody else holds. Later Pythons do not count those of variables, so none is
+# taken there.
 
 
 class _Probe(list[Any]):

@@ -18,7 +18,8 @@ from ..model.stretches import Across
 T = TypeVar("T")
 
 NEVER_WRAPPED = (
-    type(None), bool, int, float, complex, str, bytes, tuple, frozenset, type, types.FunctionType, types.BuiltinFunctionType,
+    type(None), bool, int, float, complex, str, bytes, tuple, frozenset, type, types.FunctionType,
+    types.BuiltinFunctionType,
     types.ModuleType,
 )
 """What cannot change, or is no thing that tasks share."""
@@ -37,8 +38,8 @@ def shared(value: T, name: str, across: bool = False) -> T:
 
     It is a thing of this process, unless it is one across all processes that share it by this name.
 
-    Use what it returns in place of the value. Where tracing is off it is the value itself. So is a number, a text or a tuple
-    while a program is traced: a warning says so.
+    Use what it returns in place of the value. Where tracing is off it is the value itself. So is a number, a text or a
+    tuple while a program is traced: a warning says so.
     """
     if state.note is None and state.witness is None and not state.is_patched:
         return value

@@ -14,9 +14,10 @@ from .containers import (
 )
 
 _OWN = frozenset(
-    "__class__ __new__ __init__ __del__ __init_subclass__ __subclasshook__ __class_getitem__ __set_name__ __getattribute__ "
-    "__getattr__ __setattr__ __delattr__ __dir__ __hash__ __reduce__ __reduce_ex__ __getstate__ __setstate__ __getnewargs__ "
-    "__getnewargs_ex__ __sizeof__ __slots__ __dict__ __weakref__ __doc__ __module__ __annotations__".split()
+    "__class__ __new__ __init__ __del__ __init_subclass__ __subclasshook__ __class_getitem__ __set_name__ "
+    "__getattribute__ __getattr__ __setattr__ __delattr__ __dir__ __hash__ __reduce__ __reduce_ex__ __getstate__ "
+    "__setstate__ __getnewargs__ __getnewargs_ex__ __sizeof__ __slots__ __dict__ __weakref__ __doc__ __module__ "
+    "__annotations__".split()
 )
 """Special methods that a stand-in has of its own, or has no use for."""
 
@@ -41,7 +42,8 @@ def stand_in(value: Any, name: str) -> Any:
     object.__setattr__(made, "_itc_name", name)
     names = getattr(value, "__dict__", None)
     if type(names) is dict:
-        object.__setattr__(made, "__dict__", names)  # Methods that set an attribute by `object.__setattr__` set the value's.
+        # Methods that set an attribute by `object.__setattr__` set the value's.
+        object.__setattr__(made, "__dict__", names)
     return made
 
 
@@ -107,7 +109,8 @@ def _special(base: type, name: str) -> Callable[..., Any]:
 
 
 def value_of(one: Any) -> Any:
-    return object.__getattribute__(one, "_itc_value") if isinstance(type(one), type) and issubclass(type(one), StandIn) else one
+    is_stand_in = isinstance(type(one), type) and issubclass(type(one), StandIn)
+    return object.__getattribute__(one, "_itc_value") if is_stand_in else one
 
 
 def name_of(one: StandIn) -> str:
@@ -223,7 +226,8 @@ def _keeps_order(kind: type) -> bool:
     if known is None:
         modules = [getattr(one, "__module__", "") for one in kind.__mro__]
         known = any(
-            isinstance(module, str) and (module.partition(".")[0] in _SYNCHRONIZING or module.startswith("itc_trace.sync"))
+            isinstance(module, str)
+            and (module.partition(".")[0] in _SYNCHRONIZING or module.startswith("itc_trace.sync"))
             for module in modules
         )
         _synchronizing[kind] = known

@@ -9,12 +9,15 @@ MAKING = "making"
 """The thing is made here. It conflicts with nothing, and tells whose the thing was at first."""
 
 STEP = "step"
-"""A loop through the thing goes on, which looked at it in an earlier turn of its event loop. It conflicts with nothing by itself."""
+"""A loop through the thing goes on, which looked at it in an earlier turn of its event loop.
+
+It conflicts with nothing by itself.
+"""
 
 _PAIRS = (
-    (WRITE, WRITE), (WRITE, READ), (WRITE, LOOKUP), (WRITE, LENGTH), (WRITE, ITERATION), (WRITE, ADDITION), (WRITE, REWRITE),
-    (REWRITE, REWRITE), (REWRITE, READ), (REWRITE, LOOKUP), (REWRITE, LENGTH), (REWRITE, ITERATION), (REWRITE, ADDITION),
-    (ADDITION, READ), (ADDITION, LENGTH), (ADDITION, ITERATION),
+    *((WRITE, kind) for kind in (WRITE, READ, LOOKUP, LENGTH, ITERATION, ADDITION, REWRITE)),
+    *((REWRITE, kind) for kind in (REWRITE, READ, LOOKUP, LENGTH, ITERATION, ADDITION)),
+    *((ADDITION, kind) for kind in (READ, LENGTH, ITERATION)),
     *((KEYS, kind) for kind in (WRITE, ADDITION, REMOVAL, REWRITE)),
     *((REMOVAL, kind) for kind in (REMOVAL, READ, WRITE, LOOKUP, LENGTH, ITERATION, ADDITION, REPLACEMENT, REWRITE)),
     *((REPLACEMENT, kind) for kind in (READ, WRITE, ITERATION, REWRITE)),

@@ -7,18 +7,24 @@ from types import CodeType, FrameType
 from typing import Any
 
 INTERNAL = frozenset({
-    "threading", "queue", "concurrent", "asyncio", "logging", "functools", "importlib", "_frozen_importlib", "atexit", "itc_trace",
+    "threading", "queue", "concurrent", "asyncio", "logging", "functools", "importlib", "_frozen_importlib", "atexit",
+    "itc_trace",
 })
 """Library modules whose own locks and queues are not traced: what they promise is traced as a whole."""
 
-INTERNAL_MODULES = frozenset(f"multiprocessing.{one}" for one in ("queues", "resource_tracker", "forkserver", "util", "heap"))
+INTERNAL_MODULES = frozenset(
+    f"multiprocessing.{one}" for one in ("queues", "resource_tracker", "forkserver", "util", "heap")
+)
 """Modules of a package that is not internal as a whole."""
 
 _internal_names: dict[Any, bool] = {}
 
 
 def frame_at(depth: int) -> FrameType | None:
-    """The frame so many calls above the caller. None, where the interpreter itself has called, as at the program's end."""
+    """The frame so many calls above the caller.
+
+    None, where the interpreter itself has called, as at the program's end.
+    """
     try:
         return _getframe(depth + 1)
     except ValueError:
@@ -32,7 +38,9 @@ def is_internal(frame: FrameType | None) -> bool:
     name = frame.f_globals.get("__name__")
     known = _internal_names.get(name)
     if known is None:
-        known = _internal_names[name] = isinstance(name, str) and (name.partition(".")[0] in INTERNAL or name in INTERNAL_MODULES)
+        known = _internal_names[name] = isinstance(name, str) and (
+            name.partition(".")[0] in INTERNAL or name in INTERNAL_MODULES
+        )
     return known
 
 

@@ -108,7 +108,8 @@ class Line:
 
     __slots__ = (
         "number", "tracer", "hint", "waiting", "reference", "must_finish", "held", "lent", "section", "job", "loop_run",
-        "name", "count", "message", "lock", "sent", "pending", "known", "known_by_locks", "parent", "parent_count", "touches",
+        "name", "count", "message", "lock", "sent", "pending", "known", "known_by_locks", "parent", "parent_count",
+        "touches",
         "end_token", "is_finished", "has_ended", "is_gone", "joined_by", "joined_at", "joined", "first_taker",
         "is_forgotten", "is_process",
     )
@@ -128,7 +129,8 @@ class Line:
         self.lent: tuple[LockIdentity, ...] = ()
         """The locks that the task held which started it."""
         self.section: Section | None = None
-        """The section of a lock that it has left, or its last token of another kind, if it has done nothing else since."""
+        """The section of a lock that it has left, or its last token of another kind,
+        if it has done nothing else since."""
         self.name = ""
         self.count = 0
         self.message: str | None = None
@@ -167,7 +169,10 @@ class Line:
 
 
 class LateJob:
-    """A job of a pool that is no task of its own. What it touches is told by the line of its thread, and known as the job's."""
+    """A job of a pool that is no task of its own.
+
+    What it touches is told by the line of its thread, and known as the job's.
+    """
 
     __slots__ = ("line", "number", "numbers")
 
@@ -184,8 +189,8 @@ class LateJob:
 class Token:
     """A place in a line, behind the events that it had when the token was noted. Whoever takes it, comes after these.
 
-    What it stands for is a `LockIdentity`, where a lock is handed over, an `Asking` of a request or a response, and a `What` or a
-    `Signal` of any other order. Its `lock` says which of them only luck puts in order.
+    What it stands for is a `LockIdentity`, where a lock is handed over, an `Asking` of a request or a response, and a
+    `What` or a `Signal` of any other order. Its `lock` says which of them only luck puts in order.
     """
 
     __slots__ = ("line", "what", "code", "instruction", "last_taker", "count", "message", "time", "__weakref__")
@@ -204,7 +209,8 @@ class Token:
 
 
 Touched = tuple[Any, str, Any]
-"""A thing, which is a text if the program has named it; the kind of the touch; and a site, or where a marked touch stands."""
+"""A thing, which is a text if the program has named it; the kind of the touch; and a site,
+or where a marked touch stands."""
 
 
 class Stretch(dict[Hashable, Touched]):
@@ -239,7 +245,9 @@ class Touch(NamedTuple):
 class TouchEvent:
     """An event that stands for what a task touches, up to the next event of this task."""
 
-    __slots__ = ("task", "part", "time", "event", "stretches", "touches", "looked_at", "has_row", "is_open", "is_waiting")
+    __slots__ = (
+        "task", "part", "time", "event", "stretches", "touches", "looked_at", "has_row", "is_open", "is_waiting",
+    )
 
     def __init__(self, task: str, part: int = 1, time: float = 0.0) -> None:
         self.task = task
@@ -280,8 +288,9 @@ class TouchEvent:
 class Section:
     """What a task did with a lock held, and the token of its release.
 
-    If the task acquires the lock again before anybody else, and has done nothing in between, it goes on in the section: the stretch
-    and the token stay, and nothing is noted. A token that is no lock's has one without a stretch: it stays for who comes again.
+    If the task acquires the lock again before anybody else, and has done nothing in between, it goes on in the section:
+    the stretch and the token stay, and nothing is noted. A token that is no lock's has one without a stretch: it stays
+    for who comes again.
     """
 
     __slots__ = ("token", "stretch", "is_entered_again")

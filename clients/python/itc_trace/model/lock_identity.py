@@ -23,14 +23,19 @@ REQUEST, ANSWER = "the request at ", "an answer"
 class LockIdentity:
     """One lock. A task that holds it has it in `Line.held`, and the token of a release has it as what it stands for.
 
-    A release is a signal if another task acquired the lock. It is one too if a lock is still held that was acquired after it, as
-    in a read-write lock that is built of two. From then on `signal` of the lock says so, and of both in the second case.
+    A release is a signal if another task acquired the lock. It is one too if a lock is still held that was acquired
+    after it, as in a read-write lock that is built of two. From then on `signal` of the lock says so, and of both in
+    the second case.
 
-    The lock of a condition guards what the waiting ones look at. So to acquire it is an order as meant as a wake-up. A lock that is held
-    while its task waits for one that it started encloses what that one does, though that one does not hold it.
+    The lock of a condition guards what the waiting ones look at. So to acquire it is an order as meant as a wake-up. A
+    lock that is held while its task waits for one that it started encloses what that one does, though that one does not
+    hold it.
     """
 
-    __slots__ = ("serial", "kind", "code", "instruction", "number", "signal", "is_of_condition", "encloses_tasks", "_name", "_hint")
+    __slots__ = (
+        "serial", "kind", "code", "instruction", "number", "signal", "is_of_condition", "encloses_tasks", "_name",
+        "_hint",
+    )
 
     def __init__(self, kind: str, frame: FrameType | None) -> None:
         frame = _maker(frame)
@@ -98,8 +103,9 @@ class LockIdentity:
 class Asking:
     """The requests that a process makes at one place of its program, and answers itself, or such answers.
 
-    Whoever answers comes after who asked, and the other way round. But what they so know of other answers is luck: the program happened
-    to ask one after another. So it is told of as a lock is, which tasks happen to acquire one after another.
+    Whoever answers comes after who asked, and the other way round. But what they so know of other answers is luck: the
+    program happened to ask one after another. So it is told of as a lock is, which tasks happen to acquire one after
+    another.
     """
 
     __slots__ = ("serial", "name", "hint", "giving", "taking")
@@ -163,7 +169,8 @@ def _maker(frame: FrameType | None) -> FrameType | None:
 def variable_of_result(code: CodeType, instruction: int) -> str | None:
     """The name of the variable or attribute that is given the result of the instruction at once."""
     instructions = (one for one in dis.get_instructions(code) if one.opname not in ("CACHE", "COPY"))
-    following = next((one for one in instructions if one.offset > instruction), None)  # A call may stand at the end of its caches.
+    # A call may stand at the end of its caches.
+    following = next((one for one in instructions if one.offset > instruction), None)
     if following is not None and following.opname in _STORES:
         return str(following.argval)
     while following is not None and following.opname in _LOADS:

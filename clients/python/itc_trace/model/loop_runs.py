@@ -14,7 +14,8 @@ STOPS = What("loop", "run until loop stops", "loop has stopped")
 class LoopRun:
     """From where a thread begins to run a loop to where it goes on behind it, and the tasks that took a step meanwhile.
 
-    The program's threads add tasks. The thread that reports leaves out those that ended once another task knows their end.
+    The program's threads add tasks. The thread that reports leaves out those that ended once another task knows their
+    end.
     """
 
     __slots__ = ("token", "lines", "keeper")

@@ -1,7 +1,7 @@
 """What a task touches between two synchronizations: a stretch, which has one set of locks held.
 
-A touch that was noted in this stretch already costs a look into a dictionary. Stretches with no event of their task in between
-share one event, which a thread of the package reports.
+A touch that was noted in this stretch already costs a look into a dictionary. Stretches with no event of their task in
+between share one event, which a thread of the package reports.
 """
 
 from __future__ import annotations
@@ -23,7 +23,10 @@ class Site(NamedTuple):
 
 
 class Sites:
-    """The places that are told by their index. Those of a module are made when they are asked for, as most never are."""
+    """The places that are told by their index.
+
+    Those of a module are made when they are asked for, as most never are.
+    """
 
     def __init__(self) -> None:
         self._count = 0

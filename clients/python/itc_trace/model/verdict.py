@@ -63,7 +63,10 @@ def listed(passed_over: Iterable[PassedOver]) -> str:
 
 
 END_ROW = '{"end":true}\n'
-"""The last line of a journal whose process reported all that it noted. This one does not say how many lines there are."""
+"""The last line of a journal whose process reported all that it noted.
+
+This one does not say how many lines there are.
+"""
 
 
 def end_row(lines: int) -> str:
@@ -77,7 +80,8 @@ def child_begun_row(tag: str, how: str) -> str:
 
 
 def child_ended_row(tag: str, lines: int = 0) -> str:
-    """The last line of a child process that reported all that it noted, and how many lines it has written with this one."""
+    """The last line of a child process that reported all that it noted,
+    and how many lines it has written with this one."""
     return json.dumps({"child": tag, "ended": True, "lines": lines}, separators=(",", ":")) + "\n"
 
 

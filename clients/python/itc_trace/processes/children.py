@@ -23,7 +23,9 @@ VARIABLE = "ITC_TRACE_CHILD_OF"
 """Names the journal of a traced process to those that it starts."""
 
 LEFT_CHILD = Unseen(Cause.CHILD, "a child process goes on after its parent, and was not traced")
-UNKNOWN_CHILDREN = Unseen(Cause.CHILD, "the program has closed a file of the package, so a child process may go on that was not traced")
+UNKNOWN_CHILDREN = Unseen(
+    Cause.CHILD, "the program has closed a file of the package, so a child process may go on that was not traced",
+)
 IN_CHILD = Unseen(Cause.CHILD, "this is a child process, which is not traced")
 
 
@@ -57,7 +59,10 @@ _is_told_of_processes = False
 
 
 def tell_of_processes(tell: Callable[[Unseen], None]) -> None:
-    """Tells of the processes of a program that is watched. Nobody knows what they touch, as their shared memory is not watched."""
+    """Tells of the processes of a program that is watched.
+
+    Nobody knows what they touch, as their shared memory is not watched.
+    """
     global _is_told_of_processes
     if not _is_told_of_processes:
         _is_told_of_processes = True
@@ -95,20 +100,31 @@ def _wrap_command(owner: Any, name: str, place: int, tell: Callable[[Unseen], No
         command = words[place] if len(words) > place else named.get("args", named.get("argv", named.get("command", "")))
         program = watch.program_of(command, os.fspath(named.get("cwd") or os.getcwd()))
         if program is not None:
-            tell(Unseen(Cause.CHILD, f"a child process was not traced: {program}, which was started at {place_of_start(1)}"))
+            tell(
+                Unseen(
+                    Cause.CHILD, f"a child process was not traced: {program}, which was started at {place_of_start(1)}",
+                )
+            )
         return told
 
     setattr(owner, name, like(original, run))
 
 
 def _wrap_replacement(name: str, tell: Callable[[Unseen], None]) -> None:
-    """Tells of each program of a watched folder that takes the place of a forked child. Nobody comes back from a call to say so."""
+    """Tells of each program of a watched folder that takes the place of a forked child.
+
+    Nobody comes back from a call to say so.
+    """
     original = getattr(os, name)
 
     def replace(path: Any, words: Any, *environment: Any) -> Any:
         program = watch.program_of(words, os.getcwd()) if _can_be_run(path) else None
         if program is not None:
-            tell(Unseen(Cause.CHILD, f"a child process was not traced: {program}, which was started at {place_of_start(1)}"))
+            tell(
+                Unseen(
+                    Cause.CHILD, f"a child process was not traced: {program}, which was started at {place_of_start(1)}",
+                )
+            )
         return original(path, words, *environment)
 
     setattr(os, name, like(original, replace))
@@ -140,7 +156,8 @@ class Announced:
 
 
 class ForkedChildren:
-    """Knows whether forked children are left, by a pipe that each of them holds open until it ends or runs another program."""
+    """Knows whether forked children are left,
+    by a pipe that each of them holds open until it ends or runs another program."""
 
     def __init__(self) -> None:
         self._end, self._held = map(own_files.keep, os.pipe())

@@ -37,7 +37,10 @@ class PartCollectors:
         return self._collectors[-1].port
 
     def port_of(self, part: int) -> int:
-        """Where the last part is reported that the journal tells of. A further one may have begun when the program was killed."""
+        """Where the last part is reported that the journal tells of.
+
+        A further one may have begun when the program was killed.
+        """
         return self._collectors[-1 if part >= self._number else -2].port
 
     def _serve(self) -> None:

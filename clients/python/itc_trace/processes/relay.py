@@ -1,7 +1,7 @@
 """Lets any number of processes report to one tenant: it hands their lines to the one session that the collector takes.
 
-A report is answered only once the collector has answered it, so a relay that dies loses none that was answered. A client that
-breaks off in the middle of a line ends its own session alone, and that line is dropped.
+A report is answered only once the collector has answered it, so a relay that dies loses none that was answered. A
+client that breaks off in the middle of a line ends its own session alone, and that line is dropped.
 """
 
 from __future__ import annotations
@@ -274,7 +274,10 @@ class View(Pipe):
 class Upstream(Pipe):
     """The one session that reports for a tenant."""
 
-    def __init__(self, relay: Relay, tenant: bytes, connection: socket.socket, tries: int = 0, begins_with: list[bytes] | None = None) -> None:
+    def __init__(
+        self, relay: Relay, tenant: bytes, connection: socket.socket, tries: int = 0,
+        begins_with: list[bytes] | None = None,
+    ) -> None:
         """A part of a trace begins with these lines."""
         super().__init__(relay, connection)
         self.lines: deque[bytes] = deque()
@@ -313,7 +316,10 @@ class Upstream(Pipe):
             self._hand_over_when_due()
 
     def _hand_over_when_due(self) -> None:
-        """Before a session has made all its requests, another one goes on. So it does with a new part before the one before is full."""
+        """Before a session has made all its requests, another one goes on.
+
+        So it does with a new part before the one before is full.
+        """
         if not self.is_accepted or self.asked or not self.held or self.beginning:
             return
         if self.relay.parts is not None and self.requests + len(self.held[0][1]) <= MOST_REQUESTS:
@@ -389,8 +395,13 @@ class Upstream(Pipe):
 class Relay:
     """Listens, and passes lines and replies on, in one thread."""
 
-    def __init__(self, listen: int, port: int, host: str = HOST, tries: int = 0, parts: RelayParts | None = None) -> None:
-        """A tenant to which another session still reports is tried again so often. With parts, a trace that is nearly full goes on in another one."""
+    def __init__(
+        self, listen: int, port: int, host: str = HOST, tries: int = 0, parts: RelayParts | None = None,
+    ) -> None:
+        """A tenant to which another session still reports is tried again so often.
+
+        With parts, a trace that is nearly full goes on in another one.
+        """
         self.parts = parts
         self.selector = selectors.DefaultSelector()
         self._target = (host, port)

@@ -1,8 +1,8 @@
 """Divides the trace of a relay into parts, each at a collector of its own, if all who report know of parts.
 
-`docs/long-runs.md` has the law. The relay sees each report and its reply, and so knows what a new part has to begin with. Who reports
-tells by `forget MESSAGE` and `leave TASK` what gives no order any more. These lines are not answered. A reply of a later part has its
-number behind that of the event.
+`docs/long-runs.md` has the law. The relay sees each report and its reply, and so knows what a new part has to begin
+with. Who reports tells by `forget MESSAGE` and `leave TASK` what gives no order any more. These lines are not answered.
+A reply of a later part has its number behind that of the event.
 """
 
 from __future__ import annotations
@@ -41,7 +41,10 @@ class RelayParts:
         """Whether somebody reports who knows of no parts. Then there is no further one."""
 
     def fitting(self, lines: list[bytes]) -> tuple[list[bytes], list[bytes]]:
-        """The lines that may be sent, so that the part is not too full by them, and those behind. The first ones count as sent."""
+        """The lines that may be sent, so that the part is not too full by them, and those behind.
+
+        The first ones count as sent.
+        """
         sent: list[bytes] = []
         for place, line in enumerate(lines):
             if line.startswith((FORGET, LEAVES)):
@@ -94,7 +97,8 @@ class RelayParts:
         self.number += 1
         self.settle()
         self._write(border)
-        self.is_shared = self._divider.is_full(self._limits)  # Too much goes on from part to part: the trace will be full.
+        # Too much goes on from part to part: the trace will be full.
+        self.is_shared = self._divider.is_full(self._limits)
         return self._next_port(), [report.request.encode() for report in border.reports]
 
     def _receivable(self) -> set[str]:
@@ -104,7 +108,9 @@ class RelayParts:
         return set(known).difference(outside[:-MOST_OUTSIDE])
 
     def _joinable(self) -> set[str]:
-        return set([task for task in self._divider.ended if task not in self._left and task not in self._joined][-MOST_ENDED:])
+        return set(
+            [task for task in self._divider.ended if task not in self._left and task not in self._joined][-MOST_ENDED:]
+        )
 
     def _write(self, border: Border) -> None:
         with open(self._journal, "a", encoding="utf-8") as journal:
@@ -115,7 +121,7 @@ class RelayParts:
 
 def _row(event: int, part: int, report: Report) -> str:
     told = {
-        "event": event, "part": part, "task": report.task, "thing": None, "kind": report.kind, "file": None, "line": 0, "label": GOES_ON,
-        "of": report.name,
+        "event": event, "part": part, "task": report.task, "thing": None, "kind": report.kind, "file": None, "line": 0,
+        "label": GOES_ON, "of": report.name,
     }
     return json.dumps(told, separators=(",", ":")) + "\n"

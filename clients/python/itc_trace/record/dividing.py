@@ -1,8 +1,8 @@
 """Divides a long run into parts, each in a tenant of its own.
 
-What is reported is said of the whole run. In a new part everything that may still give order begins anew, at its *position*: an event
-that stands for the last event of a task, the sending of a message or the end of a task in the part before. `docs/long-runs.md` has
-the law by which the order across parts follows from the order within each.
+What is reported is said of the whole run. In a new part everything that may still give order begins anew, at its
+*position*: an event that stands for the last event of a task, the sending of a message or the end of a task in the part
+before. `docs/long-runs.md` has the law by which the order across parts follows from the order within each.
 """
 
 from __future__ import annotations
@@ -44,7 +44,8 @@ class Limits(NamedTuple):
 LEAVE = Limits(MOST_EVENTS - 2048, MOST_TASKS - 64, MOST_MESSAGES - 2048)
 """A part is left once it has so many. What is left is for what one more note may report."""
 MOST_NEW_TASKS = 640
-"""A part is also left once so many tasks were started in it: tasks that nobody joins make each stamp as long as they are many."""
+"""A part is also left once so many tasks were started in it:
+tasks that nobody joins make each stamp as long as they are many."""
 
 
 class Border(NamedTuple):
@@ -111,7 +112,8 @@ class Divider:
         return self.tasks - self.tasks_before >= MOST_NEW_TASKS
 
     def divide(self, may_be_received: Callable[[str], bool], may_be_joined: Callable[[str], bool]) -> Border:
-        """Begins a new part: with each live task, each message that may be received, and each ended task that may be joined."""
+        """Begins a new part: with each live task, each message that may be received,
+        and each ended task that may be joined."""
         sent: dict[str, list[_Sent]] = defaultdict(list)
         for one in self._sent.values():
             if may_be_received(one.message):
@@ -129,7 +131,8 @@ class Divider:
         return border
 
     def _go_on(self, border: Border, task: str, sent: list[_Sent], last: int | None, ended: int | None) -> None:
-        """Sends the task's messages once more, each at the position where it was sent, and goes on at its last event or ends."""
+        """Sends the task's messages once more, each at the position where it was sent,
+        and goes on at its last event or ends."""
         for one in sorted(sent):
             self._begin(border, Report("send", task, one.message), one.event)
         if last is not None:

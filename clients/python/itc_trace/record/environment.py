@@ -43,7 +43,10 @@ def reporting(environment: Mapping[str, str] = os.environ) -> Reporting | None:
 
 
 def fresh_journal(path: str) -> str:
-    """A file that was not there, which is made. A process that is started again does not overwrite its first journal."""
+    """A file that was not there, which is made.
+
+    A process that is started again does not overwrite its first journal.
+    """
     for number in itertools.count(1):
         name = path if number == 1 else f"{path}.{number}"
         try:

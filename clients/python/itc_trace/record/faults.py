@@ -31,7 +31,8 @@ def nobody_listens(port: int) -> str:
 def refusal(reply: str, tenant: str, port: int) -> str:
     """Why the collector does not take a session or a report, and what to do."""
     if not REPLY.match(reply):
-        return f"what listens at port {port} is no collector, as it answers {reply[:MOST_SHOWN]!r}: name the port of one"
+        shown = reply[:MOST_SHOWN]
+        return f"what listens at port {port} is no collector, as it answers {shown!r}: name the port of one"
     code = int(reply[:3])
     advice = _advice(code, tenant, port)
     return f"{reply}: {advice}" if advice else f"tenant {tenant} at port {port}: {reply}"
@@ -49,11 +50,14 @@ def _advice(code: int, tenant: str, port: int) -> str:
         return f"the collector at port {port} has no room for another session: start it with more --workers"
     if code == TASK_EXISTS:
         return (
-            f"tenant {tenant} at port {port} keeps the trace of another run with the same names: name another by --tenant, "
-            "name each process by --process, or start a fresh server"
+            f"tenant {tenant} at port {port} keeps the trace of another run with the same names: "
+            "name another by --tenant, name each process by --process, or start a fresh server"
         )
     if code in FULL:
-        return f"the trace of tenant {tenant} at port {port} has no room left: name another by --tenant, or start a fresh server"
+        return (
+            f"the trace of tenant {tenant} at port {port} has no room left: "
+            "name another by --tenant, or start a fresh server"
+        )
     return ""
 
 

@@ -1,6 +1,7 @@
 """Child processes that are traced. Each reports for itself, as a task that its parent starts and joins.
 
-The children of a process are followed if it was begun by `run` or `system`, and if all that orders it with them is followed, too.
+The children of a process are followed if it was begun by `run` or `system`, and if all that orders it with them is
+followed, too.
 """
 
 from __future__ import annotations
@@ -81,7 +82,8 @@ class Ways(NamedTuple):
     begin: Callable[[ChildProcess], None]
     """Begins to trace in a forked process that is a child."""
     unpickled: Callable[[ChildProcess], object]
-    """Gives what begins to trace where it is unpickled: in the child, before that has imported a module of the program."""
+    """Gives what begins to trace where it is unpickled: in the child,
+    before that has imported a module of the program."""
     program_of: Callable[[Any, str], str | None]
     """The program or module of a watched folder that a command runs in a folder, if it runs one by Python."""
 
@@ -110,7 +112,10 @@ _own = threading.local()
 def follow(
     traced: Traced, folders: list[str], packages: list[str] | None, ways: Ways, names: str | None = None
 ) -> None:
-    """From here on the children of this process are traced. The names that it shares with its parent are there already."""
+    """From here on the children of this process are traced.
+
+    The names that it shares with its parent are there already.
+    """
     global _following
     shared = _following.names
     if shared is not None:
@@ -121,12 +126,20 @@ def follow(
 
 
 def is_not_followed(what: str) -> None:
-    """The program has made what orders processes, or what they share. Children that are started from now on are not traced."""
+    """The program has made what orders processes, or what they share.
+
+    Children that are started from now on are not traced.
+    """
     traced = _following.traced
     if traced is not None and not _following.is_unfollowed and place_of_start(2) != NOWHERE:
         _following.is_unfollowed = True
         if traced.is_child or _following.has_children:
-            traced.tell(Unseen(Cause.CHILD, f"what processes do to each other was not all seen: {what} was used at {place_of_start(2)}"))
+            traced.tell(
+                Unseen(
+                    Cause.CHILD,
+                    f"what processes do to each other was not all seen: {what} was used at {place_of_start(2)}",
+                )
+            )
 
 
 def is_there() -> bool:
@@ -163,7 +176,8 @@ def end() -> None:
 
 def is_on() -> bool:
     """Whether a child that is started now is traced."""
-    return _following.traced is not None and state.note is not None and not _following.is_unfollowed and not _shares_memory()
+    is_traced = _following.traced is not None and state.note is not None
+    return is_traced and not _following.is_unfollowed and not _shares_memory()
 
 
 def _shares_memory() -> bool:
@@ -228,7 +242,8 @@ def is_of_library(frame: FrameType | None) -> bool:
     """Whether it is code that starts processes for the program, or carries something between them."""
     if frame is None:
         return False
-    return str(frame.f_globals.get("__name__")).partition(".")[0] in STARTING or frame.f_code.co_filename.startswith(OWN_FOLDER)
+    package = str(frame.f_globals.get("__name__")).partition(".")[0]
+    return package in STARTING or frame.f_code.co_filename.startswith(OWN_FOLDER)
 
 
 @contextlib.contextmanager

@@ -27,8 +27,9 @@ MOST_NAMED = 4096
 class Row(NamedTuple):
     """What the journal says of one event, or of one of the touches that an event stands for.
 
-    A thing is what was touched, and None of any other event. Its name is what a person calls it; two things with the same group
-    are of the same kind. `held` are the locks that the task held, and `lock` is that of a message which hands a lock over.
+    A thing is what was touched, and None of any other event. Its name is what a person calls it; two things with the
+    same group are of the same kind. `held` are the locks that the task held, and `lock` is that of a message which
+    hands a lock over.
     """
 
     event: int
@@ -50,7 +51,10 @@ class Row(NamedTuple):
     of: str = ""
     """The task or the message that the report names. It is told of runs that may be divided into parts."""
     time: float = 0.0
-    """When the event was, in seconds since 1970 by the clock of its process. One row of the event tells it, if any does."""
+    """When the event was, in seconds since 1970 by the clock of its process.
+
+    One row of the event tells it, if any does.
+    """
 
     @property
     def is_touch(self) -> bool:
@@ -148,7 +152,10 @@ class Count:
             self.of_children += read.lines
 
     def missing(self, unseen: list[Unseen]) -> list[Unseen]:
-        """What is not seen of the run besides. Without an end the journal breaks off, if nothing else says why no more was told."""
+        """What is not seen of the run besides.
+
+        Without an end the journal breaks off, if nothing else says why no more was told.
+        """
         if self.end is None:
             return [] if any(one.cause not in GOING_ON for one in unseen) else [BREAKS_OFF]
         if self.end.lines is None:
@@ -184,7 +191,9 @@ class Children:
     def unseen(self) -> list[Unseen]:
         """Those whose end nobody has told of."""
         left = [how for tag, how in self._begun.items() if tag not in self._ended]
-        return [Unseen(Cause.CHILD, f"a child process was not traced to its end: it was started by {how}") for how in left]
+        return [
+            Unseen(Cause.CHILD, f"a child process was not traced to its end: it was started by {how}") for how in left
+        ]
 
 
 BORDER = '{"border":'
@@ -201,7 +210,9 @@ def read_line(line: str) -> Read | None:
         if "border" in read:
             return border_of(read)
         if "child" in read:
-            return ChildTold(str(read["child"]), str(read["begun"]) if "begun" in read else None, int(read.get("lines", 0)))
+            return ChildTold(
+                str(read["child"]), str(read["begun"]) if "begun" in read else None, int(read.get("lines", 0)),
+            )
         if "unseen" in read:
             return Unseen(Cause(read["unseen"]), str(read["text"]))
         if "passed_over" in read:
@@ -291,7 +302,8 @@ class TouchTexts:
         told = self._named.get(key)
         if told is None:
             named = f'"thing":{json.dumps(self._name(thing))},"kind":"{kind}",{self._places.text(code, instruction)}'
-            words = f'"label":{json.dumps(label or f"{kind} {thing}")},"function":{json.dumps(code.co_qualname if code else "")}'
+            function = code.co_qualname if code else ""
+            words = f'"label":{json.dumps(label or f"{kind} {thing}")},"function":{json.dumps(function)}'
             if len(self._named) >= MOST_NAMED:
                 self._named.clear()
             told = self._named[key] = f"{named},{words}"

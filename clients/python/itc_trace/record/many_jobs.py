@@ -1,4 +1,5 @@
-"""Jobs of pools that are no tasks of their own: whether two of them may race, which nobody sees if one thread ran both."""
+"""Jobs of pools that are no tasks of their own: whether two of them may race,
+which nobody sees if one thread ran both."""
 
 from __future__ import annotations
 
@@ -55,7 +56,8 @@ class ManyJobs:
 
     def _forget(self) -> None:
         """Forgets what no later job can touch."""
-        self._things = {key: one for key, one in self._things.items() if not self._may_race and not getattr(one.thing, "is_gone", False)}
+        kept = {} if self._may_race else self._things
+        self._things = {key: one for key, one in kept.items() if not getattr(one.thing, "is_gone", False)}
 
     def has_new_suspicion(self) -> bool:
         """Whether two jobs may race. It says so once."""

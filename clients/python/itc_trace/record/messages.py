@@ -38,15 +38,25 @@ class Sending:
         return Sending(message, waiter, tracer, where)
 
     def name(self) -> str | None:
-        """It waits for the collector. None if that does not answer: then nobody comes after the message, and that is told."""
+        """It waits for the collector.
+
+        None if that does not answer: then nobody comes after the message, and that is told.
+        """
         if self._waiter.wait(ANSWER_WAIT):
             return self._message
-        self._tracer.miss(Unseen(Cause.COLLECTOR, f"{self._words()} was not followed: the collector did not answer within {ANSWER_WAIT:g} s"))
+        self._tracer.miss(
+            Unseen(
+                Cause.COLLECTOR,
+                f"{self._words()} was not followed: the collector did not answer within {ANSWER_WAIT:g} s",
+            )
+        )
         return None
 
     def _words(self) -> str:
         code, instruction = self._where
-        return "a message" if code is None else f"the message of {name_of_file(code.co_filename)}:{line_of(code, instruction)}"
+        if code is None:
+            return "a message"
+        return f"the message of {name_of_file(code.co_filename)}:{line_of(code, instruction)}"
 
 
 def incoming_at(message: str | None, frame: FrameType | None) -> None:

@@ -43,7 +43,12 @@ def not_followed() -> list[Unseen]:
     if not are_replaced():
         return []
     library = str(getattr(threading.get_ident, "__module__", "another library")).partition(".")[0]
-    return [Unseen(Cause.MODULE, f"{library} has put tasks in the place of threads, and what these do to each other was not seen")]
+    return [
+        Unseen(
+            Cause.MODULE,
+            f"{library} has put tasks in the place of threads, and what these do to each other was not seen",
+        )
+    ]
 
 
 def current() -> Line:
@@ -69,7 +74,10 @@ def joining(line: Line) -> Line:
 
 
 def _enclose(line: Line, other: Line) -> None:
-    """The line comes after the other one. What it has held since it started that one encloses all that the other one did."""
+    """The line comes after the other one.
+
+    What it has held since it started that one encloses all that the other one did.
+    """
     for lock in other.lent:
         if lock in line.held:
             lock.encloses_tasks = True
@@ -92,7 +100,10 @@ def line_of_now() -> Line:
 
 
 def _adopt_task(task: Any) -> Line | None:
-    """Gives a task a line that was made before tracing began, or by other means than asyncio's own. None where it takes none."""
+    """Gives a task a line that was made before tracing began, or by other means than asyncio's own.
+
+    None where it takes none.
+    """
     line = Line(state.tracer, coroutine_name(task))
     try:
         line.watch(task)
@@ -172,7 +183,10 @@ def failed(fault: Exception) -> None:
 
 
 def without_own_frame(fault: BaseException) -> None:
-    """Leaves the frame that has caught a fault out of its traceback. Whoever calls it raises the fault again, as it came."""
+    """Leaves the frame that has caught a fault out of its traceback.
+
+    Whoever calls it raises the fault again, as it came.
+    """
     trace = fault.__traceback__
     if trace is not None:
         fault.__traceback__ = trace.tb_next
@@ -193,7 +207,8 @@ def lost(fault: Exception) -> None:
 def mark(what: What, depth: int = 2) -> Token | None:
     """A token for the place where the current task is now, for others to take. None where tracing is off.
 
-    A task that has done nothing since its last token, and comes to the same line for the same, is still at the place of that one.
+    A task that has done nothing since its last token, and comes to the same line for the same, is still at the place of
+    that one.
     """
     note = state.note
     if note is None:
@@ -233,7 +248,10 @@ def take_at(token: Token | None, frame: FrameType | None) -> None:
 
 
 def _taker(token: Token) -> Line | None:
-    """The current task. None if it comes after the place of the token already, as its own task, or as the last one that has taken it."""
+    """The current task.
+
+    None if it comes after the place of the token already, as its own task, or as the last one that has taken it.
+    """
     if state.note is None or token.line.tracer is not state.tracer:
         return None
     line = line_of_now()

@@ -43,7 +43,8 @@ class OrderOfTasks:
     """Reports what orders tasks. A release becomes a message once somebody may still take it and its task goes on."""
 
     def __init__(
-        self, reporter: Reporter, reports: Reports, names: Names, parts: Parts | None, give_up: Callable[[Cause, str], object]
+        self, reporter: Reporter, reports: Reports, names: Names, parts: Parts | None,
+        give_up: Callable[[Cause, str], object]
     ) -> None:
         self._reporter = reporter
         self._reports = reports
@@ -214,7 +215,10 @@ class OrderOfTasks:
         return report
 
     def finish(self, line: Line, ends: bool, is_awaited: bool) -> None:
-        """The task does nothing more. A thread ends at once, where several wait for it with a message for all of them."""
+        """The task does nothing more.
+
+        A thread ends at once, where several wait for it with a message for all of them.
+        """
         self._is_done(line)
         if not ends:
             if line.is_gone:
@@ -264,14 +268,17 @@ class OrderOfTasks:
 
     def _take_ended(self, line: Line, child: Line, code: CodeType | None, instruction: int, label: str) -> None:
         if child.is_forgotten:
-            self._give_up(Cause.FULL, f"{child.name} was waited for long after its end, when its part of the trace had been left")
+            self._give_up(
+                Cause.FULL, f"{child.name} was waited for long after its end, when its part of the trace had been left",
+            )
         elif child.joined_by is None:
             self._join_now(line, child, code, instruction, label)
         else:
             self._take_late(line, child, code, instruction)
 
     def _take_late(self, line: Line, child: Line, code: CodeType | None, instruction: int) -> None:
-        """Another task has joined this one already: the line comes after the first message that the joiner sent since."""
+        """Another task has joined this one already:
+        the line comes after the first message that the joiner sent since."""
         joiner = child.joined_by
         if joiner is None or joiner is line:
             return
@@ -316,7 +323,9 @@ class OrderOfTasks:
             self._join_now(line, keeper, code, instruction, f"join {keeper.name}")
 
     def send_outside(self, line: Line, message: str, waiter: Waiter, code: CodeType | None, instruction: int) -> None:
-        self._reports.answer_to(waiter, self._reports.report(line, "send", message, code, instruction, "send to another process"))
+        self._reports.answer_to(
+            waiter, self._reports.report(line, "send", message, code, instruction, "send to another process"),
+        )
         self._sent(line, message, None)
         if self._parts is not None:
             self._parts.sent_outside(message)
@@ -327,8 +336,12 @@ class OrderOfTasks:
         report.may_be_refused = True
 
     def keep_ended(self) -> None:
-        """Has a task of its own take the ends of those that the end of the program waits for, in place of all of them."""
-        ended = [line for line in take_awaited(lambda line: line.has_ended) if not self._knows(self._reporter.main, line, max(line.count, 1))]
+        """Has a task of its own take the ends of those that the end of the program waits for,
+        in place of all of them."""
+        ended = [
+            line for line in take_awaited(lambda line: line.has_ended)
+            if not self._knows(self._reporter.main, line, max(line.count, 1))
+        ]
         if ended and self._keeper is None:
             self._keeper = Line(self._reporter, KEEPER)
             self.spawn(self._reporter.main, self._keeper, None, 0)

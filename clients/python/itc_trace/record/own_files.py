@@ -1,5 +1,5 @@
-"""The descriptors of the package in the program's process. The program's own have the numbers that they would have untraced, and a
-program that closes all of its files closes none of these.
+"""The descriptors of the package in the program's process. The program's own have the numbers that they would have
+untraced, and a program that closes all of its files closes none of these.
 """
 
 from __future__ import annotations
@@ -36,7 +36,10 @@ _own: dict[int, _Kept] = {}
 
 
 def keep(file: int, move: Callable[[int], object] | None = None) -> int:
-    """Gives a descriptor one of the last numbers. If the program puts another file there, `move` is told of a new number."""
+    """Gives a descriptor one of the last numbers.
+
+    If the program puts another file there, `move` is told of a new number.
+    """
     kept = _with_great_number(file)
     if kept != file:
         _close(file)

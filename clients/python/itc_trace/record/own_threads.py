@@ -27,7 +27,10 @@ def count_of_own() -> int:
 
 
 def start_thread(run: Callable[[], object]) -> None:
-    """Starts a thread that blocks all signals. One that all threads of the program block stays pending, as it would untraced."""
+    """Starts a thread that blocks all signals.
+
+    One that all threads of the program block stays pending, as it would untraced.
+    """
     counted = object()
 
     def run_counted() -> None:
@@ -51,7 +54,8 @@ def start_thread(run: Callable[[], object]) -> None:
 
 
 def with_signals(begin: Callable[[], Process]) -> Process:
-    """Begins a process that takes all signals, whichever thread begins it: a process inherits what its thread blocks."""
+    """Begins a process that takes all signals, whichever thread begins it:
+    a process inherits what its thread blocks."""
     if _set_mask is None:
         return begin()
     before = _set_mask(signal.SIG_SETMASK, ())

@@ -1,4 +1,5 @@
-"""What the package waits, locks and connects by, as it is before a program or a library puts something else in its place."""
+"""What the package waits, locks and connects by,
+as it is before a program or a library puts something else in its place."""
 
 from __future__ import annotations
 
@@ -32,7 +33,10 @@ def connect(host: str, port: int) -> socket.socket:
 
 
 def of_file(file: int, family: int = -1, kind: int = -1, protocol: int = -1) -> socket.socket:
-    """The socket of a descriptor, else a new one. A program may have set a limit of time for all sockets, which is not for these."""
+    """The socket of a descriptor, else a new one.
+
+    A program may have set a limit of time for all sockets, which is not for these.
+    """
     one = _Socket(family, kind, protocol) if file < 0 else _Socket(fileno=file)
     one.settimeout(None)
     return one

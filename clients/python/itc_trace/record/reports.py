@@ -18,7 +18,10 @@ from .waiting import Waiter
 class Outstanding:
     """A report that is on its way."""
 
-    __slots__ = ("text", "task", "kind", "name", "code", "instruction", "label", "lock", "time", "touches", "waiter", "may_be_refused")
+    __slots__ = (
+        "text", "task", "kind", "name", "code", "instruction", "label", "lock", "time", "touches", "waiter",
+        "may_be_refused",
+    )
 
     def __init__(self, text: str, task: str, kind: str, name: str, code: CodeType | None, instruction: int, label: str,
                  lock: LockOrAsking | None = None, time: float = 0.0) -> None:

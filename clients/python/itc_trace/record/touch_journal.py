@@ -15,7 +15,9 @@ from .touch_rows import TouchRows
 MOST_UNWRITTEN = 256
 """Once so many events of touches are not in the journal whole, it is brought up to date."""
 MANY_JOBS = Unseen(
-    Cause.FULL, f"more than {MOST_TASKS // 2} jobs were given to pools, and a race between two later ones is not seen if one thread ran both"
+    Cause.FULL,
+    f"more than {MOST_TASKS // 2} jobs were given to pools, "
+    "and a race between two later ones is not seen if one thread ran both"
 )
 
 
@@ -35,7 +37,10 @@ class TouchJournal:
         """How many notes were looked at."""
         self._things_gone: list[int] = []
         self._things_gone_before = 0
-        """Things that are no more, and how many notes were taken by then. They are forgotten once these are looked at."""
+        """Things that are no more, and how many notes were taken by then.
+
+        They are forgotten once these are looked at.
+        """
 
     @property
     def is_long(self) -> bool:
@@ -67,7 +72,10 @@ class TouchJournal:
             self._events.append(event)
 
     def end_event(self, line: Line) -> None:
-        """Before any other event of the line. What a stretch that goes on had touched by now is on both sides of the event."""
+        """Before any other event of the line.
+
+        What a stretch that goes on had touched by now is on both sides of the event.
+        """
         ended, line.touches = line.touches, None
         assert ended is not None
         with self.writing:

@@ -18,7 +18,10 @@ def part_text(part: int) -> str:
 
 
 def time_text(time: float) -> str:
-    """How a row tells when its event was, in seconds since 1970 by the clock of its process. Without a time it does not tell."""
+    """How a row tells when its event was, in seconds since 1970 by the clock of its process.
+
+    Without a time it does not tell.
+    """
     return f'"time":{time:.6f},' if time else ""
 
 
@@ -46,7 +49,10 @@ class TouchRows:
         self.jobs = ManyJobs()
 
     def rows(self, event: TouchEvent, is_last: bool = False) -> str:
-        """The rows that are new since the last time. An event that has none of its own is told by one row, when nothing more comes."""
+        """The rows that are new since the last time.
+
+        An event that has none of its own is told by one row, when nothing more comes.
+        """
         touches = list(event.touches.values())[event.looked_at:]
         event.looked_at += len(touches)
         rows: list[str] = []

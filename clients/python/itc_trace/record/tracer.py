@@ -38,7 +38,10 @@ NOTES_AT_ONCE = 1024
 MOST_WAITING = 200_000
 FEW_WAITING = 50_000
 REST = 0.02
-"""In seconds, between two looks for notes. What is noted meanwhile is reported together. Whoever waits for an answer ends the rest."""
+"""In seconds, between two looks for notes. What is noted meanwhile is reported together.
+
+Whoever waits for an answer ends the rest.
+"""
 END_WAIT = 60.0
 GONE_COLLECTOR = "the collector is gone"
 CLOSED_CONNECTION = "the program has closed the connection to the collector"
@@ -47,7 +50,10 @@ _now = time.time
 """As it is before any program is traced."""
 
 NOT_MINE = {405, 407, 408, 409}
-"""What a message of another process may be refused for: it was never sent, or this task has it. A process was killed, or joined before."""
+"""What a message of another process may be refused for: it was never sent, or this task has it.
+
+A process was killed, or joined before.
+"""
 
 
 def _say(text: str) -> None:
@@ -72,7 +78,10 @@ class Tracer:
 
     def __init__(self, port: int, tenant: str, journal: JournalFile, process: str | None = None, host: str = HOST,
                  shaking: Pauses | None = None, parts: Parts | None = None, child: ChildProcess | None = None) -> None:
-        """With parts, a trace that is nearly full goes on at another collector. A child process has its task already."""
+        """With parts, a trace that is nearly full goes on at another collector.
+
+        A child process has its task already.
+        """
         self.notes: deque[tuple[float, Note]] = deque()
         """Each with the time at which it was taken."""
         self.next_job: Callable[[], int] = itertools.count(1).__next__
@@ -107,8 +116,9 @@ class Tracer:
         self._reports = Reports(self.connection, self._touches, parts)
         order = self._order = OrderOfTasks(self, self._reports, names, parts, self._give_up)
         self._handlers: list[Callable[..., object]] = [
-            order.mark, order.take, order.take_end, order.spawn, order.finish, order.join, self._touch, self._touch_late,
-            order.gone, order.send_outside, order.receive_outside, self._stop_reporting, self._begin_child, order.leave_loop,
+            order.mark, order.take, order.take_end, order.spawn, order.finish, order.join, self._touch,
+            self._touch_late, order.gone, order.send_outside, order.receive_outside, self._stop_reporting,
+            self._begin_child, order.leave_loop,
         ]
 
     # Beginning
@@ -170,7 +180,10 @@ class Tracer:
     # Ending
 
     def stop(self, ends: bool = False) -> None:
-        """Takes no more notes, and waits until all that were taken are reported and answered. The main task may end with it."""
+        """Takes no more notes, and waits until all that were taken are reported and answered.
+
+        The main task may end with it.
+        """
         with self._switch:
             if state.tracer is self:
                 state.note = None
@@ -188,7 +201,9 @@ class Tracer:
         self._touches.write(is_last=True)
         if not self._reports.is_over:
             written = self._journal.lines
-            self._journal_row(end_row(written) if self._child is None else child_ended_row(self._child.tag, written + 1))
+            self._journal_row(
+                end_row(written) if self._child is None else child_ended_row(self._child.tag, written + 1)
+            )
 
     def _await(self, waiter: Waiter) -> None:
         """Waits for an answer, as long as something is reported or answered meanwhile."""
@@ -400,7 +415,10 @@ class Tracer:
             self._reports.put(*report, None, 0, GOES_ON, parts.lock_of(report))
         self._touches.shorten()
         if parts.is_full:
-            self._give_up(Cause.FULL, "the trace is full: too much that may still give order goes on from one part of it to the next")
+            self._give_up(
+                Cause.FULL,
+                "the trace is full: too much that may still give order goes on from one part of it to the next",
+            )
 
     def _await_answers(self) -> None:
         """Waits until all that was reported is answered."""
@@ -494,7 +512,8 @@ class Tracer:
         if not self._events_before:
             return ""
         return (
-            f": {self._events_before} of its events were there before: name another tenant by --tenant, or start a fresh server"
+            f": {self._events_before} of its events were there before: "
+            "name another tenant by --tenant, or start a fresh server"
         )
 
     def _row(self, event: int, report: Outstanding) -> str:
@@ -504,6 +523,6 @@ class Tracer:
         if self.part:
             part, of = part_text(self.part), f',"of":"{report.name}"' if report.name else ""
         return (
-            f'{{"event":{event},{part}{time_text(report.time)}"task":"{report.task}","thing":null,"kind":"{report.kind}",{place},'
-            f'"label":{text_of(report.label)}{lock}{of}}}\n'
+            f'{{"event":{event},{part}{time_text(report.time)}"task":"{report.task}","thing":null,'
+            f'"kind":"{report.kind}",{place},"label":{text_of(report.label)}{lock}{of}}}\n'
         )

@@ -13,7 +13,8 @@ from ..model.lines import Line, Token
 from ..model.lock_identity import LockOrAsking
 
 MOST_ENDED = 1200
-"""So many ended tasks that may be waited for are taken into the next part, those that ended last, however small it is to be."""
+"""So many ended tasks that may be waited for are taken into the next part, those that ended last,
+however small it is to be."""
 MOST_OUTSIDE = 1024
 """So many messages that were handed out by name are taken along, those that were sent last."""
 
@@ -43,7 +44,9 @@ class _Message:
 class Parts:
     """The parts of a run. Each has a collector of its own, whose port is asked for."""
 
-    def __init__(self, next_port: Callable[[], int], limits: Limits = LEAVE, shared_port: Callable[[], int] | None = None) -> None:
+    def __init__(
+        self, next_port: Callable[[], int], limits: Limits = LEAVE, shared_port: Callable[[], int] | None = None,
+    ) -> None:
         self.next_port = next_port
         self._shared_port = shared_port
         self.is_shared = False
@@ -101,12 +104,16 @@ class Parts:
         return border
 
     def _limits_behind(self, beginning: int) -> Limits:
-        """A part that begins with much, as where many threads wait for a processor, is left later than was asked for."""
+        """A part that begins with much, as where many threads wait for a processor,
+        is left later than was asked for."""
         asked = self._asked_for
         return asked._replace(events=min(max(asked.events, beginning + asked.events // 2), LEAVE.events))
 
     def _joinable(self, may_be_asked_for: Callable[[Line], bool]) -> set[str]:
-        """The ended tasks that are taken along. Those whose own object is there come before those that are only held."""
+        """The ended tasks that are taken along.
+
+        Those whose own object is there come before those that are only held.
+        """
         ended = [task for task in self.divider.ended if task in self._lines]
         asked_for = [task for task in ended if may_be_asked_for(self._lines[task])]
         there = set(asked_for)

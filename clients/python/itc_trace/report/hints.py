@@ -8,7 +8,9 @@ from collections.abc import Iterator
 
 from ..analyse.races import Races
 
-OF_SOCKETS = frozenset(("accept", "recv", "recv_into", "recvfrom", "send", "sendall", "sendto", "sock_recv", "sock_sendall"))
+OF_SOCKETS = frozenset(
+    ("accept", "recv", "recv_into", "recvfrom", "send", "sendall", "sendto", "sock_recv", "sock_sendall")
+)
 """Methods by which programs tell each other that something was done."""
 
 
@@ -16,18 +18,23 @@ def hints(found: Races) -> Iterator[str]:
     """In words for a person, a line each."""
     sockets = [place for file in _files(found) if os.path.isfile(file) for place in _first_use_of_sockets(file)]
     if sockets:
-        yield f"the socket at {', '.join(sockets)} gives no order: if its message does, tell so by itc_trace.outgoing() and incoming()"
+        named = ", ".join(sockets)
+        told = "if its message does, tell so by itc_trace.outgoing() and incoming()"
+        yield f"the socket at {named} gives no order: {told}"
 
 
 def missing_sources(found: Races) -> Iterator[str]:
     """Why lines have no source, where races are listed that were kept."""
     missing = [file for file in _files(found) if not os.path.isfile(file)]
     if missing:
-        yield f"no line of {', '.join(missing)} is shown, as it is not here: list the races in the folder of the run to see them"
+        named = ", ".join(missing)
+        yield f"no line of {named} is shown, as it is not here: list the races in the folder of the run to see them"
 
 
 def _files(found: Races) -> list[str]:
-    return list(dict.fromkeys(file for race in [*found.races, *found.possible] for file in map(_file_of, race.sides) if file))
+    return list(
+        dict.fromkeys(file for race in [*found.races, *found.possible] for file in map(_file_of, race.sides) if file)
+    )
 
 
 def _file_of(side: object) -> str:
@@ -47,5 +54,8 @@ def _first_use_of_sockets(file: str) -> list[str]:
         isinstance(node, ast.Import) and any(name.name == "socket" for name in node.names)
         or isinstance(node, ast.ImportFrom) and node.module == "socket" for node in nodes
     )
-    lines = [node.lineno for node in nodes if isinstance(node, ast.Call) and isinstance(node.func, ast.Attribute) and node.func.attr in OF_SOCKETS]
+    lines = [
+        node.lineno for node in nodes
+        if isinstance(node, ast.Call) and isinstance(node.func, ast.Attribute) and node.func.attr in OF_SOCKETS
+    ]
     return [f"{file}:{min(lines)}"] if is_importing and lines else []

@@ -56,7 +56,10 @@ class Merged:
 
     def examples(self) -> Races:
         """The example of each race."""
-        return Races([often.example for often in self._races.values()], [often.example for often in self._only_possible.values()])
+        return Races(
+            [often.example for often in self._races.values()],
+            [often.example for often in self._only_possible.values()],
+        )
 
     def text(self, said_beside: Iterable[str] = ()) -> str:
         lines = [f"itc_trace: incomplete: {reasons(self.unseen)}"] if self.unseen else []
@@ -70,7 +73,8 @@ class Merged:
         count = len(self._races)
         found = "no race" if count == 0 else "1 race" if count == 1 else f"{count} races"
         possible = f"; {len(self._only_possible)} possible" if self._only_possible else ""
-        return f"{found} in {'what was seen of ' if self.unseen else ''}{_runs(self.runs)}{possible}{listed(self.passed_over)}"
+        seen = "what was seen of " if self.unseen else ""
+        return f"{found} in {seen}{_runs(self.runs)}{possible}{listed(self.passed_over)}"
 
 
 def _runs(count: int) -> str:

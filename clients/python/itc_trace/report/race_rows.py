@@ -15,7 +15,8 @@ MOST_LETTERS = 160
 
 
 def race_rows(races: Races) -> str:
-    """A line that says how many races there are and what was not seen, and then one for each, those that are possible behind the others."""
+    """A line that says how many races there are and what was not seen, and then one for each,
+    those that are possible behind the others."""
     head = {"races": len(races.races), "possible": len(races.possible), "unseen": [one.text for one in races.unseen]}
     rows = [head, *(_told(race) for race in [*races.races, *races.possible])]
     return "".join(f"{json.dumps(row, separators=(',', ':'))}\n" for row in rows)
@@ -32,8 +33,8 @@ def _told(race: Race) -> dict[str, Any]:
 def _side(row: Row, side: Side) -> dict[str, Any]:
     begin, text = _source(row)
     return {
-        "event": row.event, "task": row.task, "kind": side.kind, "file": row.file or "?", "line": row.line, "function": side.function,
-        "begin": begin, "text": text, **({"part": row.part} if row.part > 1 else {}),
+        "event": row.event, "task": row.task, "kind": side.kind, "file": row.file or "?", "line": row.line,
+        "function": side.function, "begin": begin, "text": text, **({"part": row.part} if row.part > 1 else {}),
     }
 
 

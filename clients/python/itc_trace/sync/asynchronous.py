@@ -1,7 +1,7 @@
 """Traces `asyncio`: each task is a task of the trace, and what asyncio promises puts tasks in order.
 
-Tasks of one loop take turns, but in which order is nobody's promise: that a task runs between two awaits of another is no
-order. Callbacks of a loop belong to the line of the loop's thread.
+Tasks of one loop take turns, but in which order is nobody's promise: that a task runs between two awaits of another is
+no order. Callbacks of a loop belong to the line of the loop's thread.
 """
 
 from __future__ import annotations
@@ -483,7 +483,8 @@ def _line_of_step(callback: Any) -> Line | None:
 
 
 def _run_forever(original: Any) -> Any:
-    """Behind the run of a loop its thread goes on after all that the loop's tasks did by then, and they after what it does in between."""
+    """Behind the run of a loop its thread goes on after all that the loop's tasks did by then,
+    and they after what it does in between."""
 
     def run_forever(self: Any) -> Any:
         token = mark(BEGINS) if state.note is not None and _running_loop() is None else None
@@ -509,7 +510,8 @@ _step_kinds: dict[int, type] = {}
 
 
 def _is_the_programs(callback: Any) -> bool:
-    """Whether it is no step by which asyncio itself goes on: a function of the program, or a method of an object that it has."""
+    """Whether it is no step by which asyncio itself goes on: a function of the program,
+    or a method of an object that it has."""
     while type(callback) is functools.partial:
         callback = callback.func
     kind = type(callback)
@@ -532,7 +534,8 @@ def _is_outside(function: Any) -> bool:
 
 
 def _after_caller(callback: Any, args: tuple[Any, ...]) -> Any:
-    """The callback, called after whoever asked for it, and after whoever added it to the future that it is called with."""
+    """The callback, called after whoever asked for it,
+    and after whoever added it to the future that it is called with."""
     if state.note is None or not callable(callback) or not _is_the_programs(callback):
         return callback
     token = mark(CALL, 2)

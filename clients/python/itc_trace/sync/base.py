@@ -36,7 +36,8 @@ class Patches:
         """Puts the value in the module, and wherever the program has imported the old one by its name."""
         old = getattr(module, name)
         self.put(module, name, value)
-        if type(value) in (FunctionType, Builtin) and vars(sys.modules.get(value.__module__, module)).get(value.__qualname__) is not value:
+        found_in = sys.modules.get(value.__module__, module) if type(value) in (FunctionType, Builtin) else None
+        if found_in is not None and vars(found_in).get(value.__qualname__) is not value:
             value.__module__ = module.__name__  # There it is found by whoever unpickles it.
         for other in list(sys.modules.values()):
             names = getattr(other, "__dict__", None)
@@ -88,11 +89,15 @@ Builtin.__module__ = BuiltinFunctionType.__module__
 
 WHOLE = 8
 WITHOUT_COLUMNS = 0x80 | 13 << 3
-"""An entry of a table of lines is of so many units at most. The kind of one that stays in its line, and knows no columns."""
+"""An entry of a table of lines is of so many units at most.
+
+The kind of one that stays in its line, and knows no columns.
+"""
 
 
 def _stand_in_file(original: FunctionType, made: FunctionType) -> None:
-    """All of the function stands at the first line of the other one: so a traceback and an inspection lead to the library."""
+    """All of the function stands at the first line of the other one:
+    so a traceback and an inspection lead to the library."""
     code, units = made.__code__, len(made.__code__.co_code) // 2
     sizes = [WHOLE] * (units // WHOLE) + [units % WHOLE] * bool(units % WHOLE)
     lines = b"".join(bytes((WITHOUT_COLUMNS | size - 1, 0)) for size in sizes)

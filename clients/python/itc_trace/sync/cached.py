@@ -37,7 +37,8 @@ class _Computed:
 
 
 class _Computing:
-    """Stands for a property while the library computes its value: nobody else reads the value before its place is known."""
+    """Stands for a property while the library computes its value:
+    nobody else reads the value before its place is known."""
 
     __slots__ = ("_itc_property",)
 

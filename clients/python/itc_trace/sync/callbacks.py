@@ -1,4 +1,5 @@
-"""Tells of methods of containers that a watched program hands to an `ExitStack` or to `weakref.finalize`, where these call them."""
+"""Tells of methods of containers that a watched program hands to an `ExitStack` or to `weakref.finalize`,
+where these call them."""
 
 from __future__ import annotations
 

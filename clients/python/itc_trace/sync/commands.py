@@ -1,4 +1,5 @@
-"""Traces the programs of its own folder that a program runs by `subprocess`: each is a task that the program starts and joins."""
+"""Traces the programs of its own folder that a program runs by `subprocess`:
+each is a task that the program starts and joins."""
 
 from __future__ import annotations
 
@@ -48,7 +49,8 @@ def _begin(original: Any) -> Any:
 
 def _begun(args: Any, named: dict[str, Any]) -> following.Begun | None:
     """What is begun for the command, if it is one of Python that can be traced."""
-    if isinstance(args, (str, bytes, os.PathLike)) or named.get("shell") or named.get("executable") is not None or not following.is_on():
+    is_by_shell = isinstance(args, (str, bytes, os.PathLike)) or named.get("shell")
+    if is_by_shell or named.get("executable") is not None or not following.is_on():
         return None
     try:
         place = _place_of_program(args)
@@ -67,17 +69,21 @@ def _place_of_program(words: Sequence[Any]) -> int | None:
     place = 1
     while place < len(words) and os.fsdecode(words[place]).startswith("-") and words[place] != "-m":
         flag = os.fsdecode(words[place])
-        if flag in ("-", "-c") or not flag.startswith("--") and _WITHOUT_VARIABLES & set(flag) and flag not in FLAGS_WITH_A_WORD:
+        if flag in ("-", "-c") or _leaves_out_variables(flag):
             return None
         place += 2 if flag in FLAGS_WITH_A_WORD else 1
     return place if place < len(words) else None
 
 
+def _leaves_out_variables(flag: str) -> bool:
+    return not flag.startswith("--") and bool(_WITHOUT_VARIABLES & set(flag)) and flag not in FLAGS_WITH_A_WORD
+
+
 def _traced(words: Sequence[Any], process: following.ChildProcess) -> list[Any]:
     place = _place_of_program(words)
     configuration = {
-        "port": process.port, "tenant": process.tenant, "journal": process.journal, "process": None, "host": process.host,
-        "watched": process.packages, "told": os.devnull, "seed": None, "child": process,
+        "port": process.port, "tenant": process.tenant, "journal": process.journal, "process": None,
+        "host": process.host, "watched": process.packages, "told": os.devnull, "seed": None, "child": process,
     }
     return [*words[:place], "-m", "itc_trace.cli.launch", json.dumps(configuration), *words[place:]]
 

@@ -1,4 +1,5 @@
-"""A program that closes all of its files, or puts another file at a number, does so with its own: those of the package stay open."""
+"""A program that closes all of its files, or puts another file at a number, does so with its own:
+those of the package stay open."""
 
 from __future__ import annotations
 

@@ -1,4 +1,5 @@
-"""Traces the end of the program: what runs in `atexit` comes after each thread that was waited for, and after its registration."""
+"""Traces the end of the program: what runs in `atexit` comes after each thread that was waited for,
+and after its registration."""
 
 from __future__ import annotations
 

@@ -1,4 +1,5 @@
-"""Has Python warn of a fork in a process of several threads by the program's threads alone: those of this package are not meant."""
+"""Has Python warn of a fork in a process of several threads by the program's threads alone:
+those of this package are not meant."""
 
 from __future__ import annotations
 
@@ -31,7 +32,8 @@ def forked(fork: Callable[[], Any], name: str = "fork") -> Any:
     if not WARNS:
         return fork()
     filters: Any = warnings.filters
-    filters.insert(0, _IGNORED)  # What was shown before is not shown again, since nobody is told that the filters are others.
+    # What was shown before is not shown again, since nobody is told that the filters are others.
+    filters.insert(0, _IGNORED)
     try:
         told = fork()
     finally:

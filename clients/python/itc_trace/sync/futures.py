@@ -1,7 +1,7 @@
 """Traces `concurrent.futures`: a job comes after its submission, and whoever takes a result after the job.
 
-Each job of a pool is a task of its own, whichever thread runs it: a pool promises no order between its jobs. Where one thread
-runs all of them, or where tasks become scarce, a job belongs to the line of the pool's thread.
+Each job of a pool is a task of its own, whichever thread runs it: a pool promises no order between its jobs. Where one
+thread runs all of them, or where tasks become scarce, a job belongs to the line of the pool's thread.
 """
 
 from __future__ import annotations
@@ -73,9 +73,11 @@ def take_any(future: Any, depth: int = 2) -> None:
 
 
 def _settle(future: Any, token: Token | None, are_waiting: tuple[str, ...], settle: Callable[[], Any]) -> Any:
-    """Gives the future its result, if it is in one of these states, and its place with it. Whoever comes too late gives no place.
+    """Gives the future its result, if it is in one of these states, and its place with it. Whoever comes too late gives
+    no place.
 
-    Nobody sees the one without the other, as nobody else has the future meanwhile. Its callbacks are called behind that.
+    Nobody sees the one without the other, as nobody else has the future meanwhile. Its callbacks are called behind
+    that.
     """
     with future._condition:
         if future._state in are_waiting:

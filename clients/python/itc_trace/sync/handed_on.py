@@ -25,9 +25,10 @@ OF_LIBRARY = frozenset((types.FunctionType, types.MethodType, types.BuiltinFunct
 HANDED = frozenset((*NAMED, *GETTERS, *OF_LIBRARY, functools.partial, type))
 """Types of what may stand for a method of a container, or for a function of the library that looks at one."""
 OPERATORS = {
-    **{name: f"__{name}__" for name in "setitem getitem delitem contains iadd imul ior iand isub ixor eq ne lt le gt ge add mul sub xor".split()},
-    "concat": "__add__", "iconcat": "__iadd__", "countOf": "count", "indexOf": "index", "or_": "__or__", "and_": "__and__",
-    "truth": "__len__", "not_": "__len__", "length_hint": "__len__",
+    **{name: f"__{name}__" for name in "setitem getitem delitem contains iadd imul ior iand isub ixor".split()},
+    **{name: f"__{name}__" for name in "eq ne lt le gt ge add mul sub xor".split()},
+    "concat": "__add__", "iconcat": "__iadd__", "countOf": "count", "indexOf": "index", "or_": "__or__",
+    "and_": "__and__", "truth": "__len__", "not_": "__len__", "length_hint": "__len__",
 }
 """Functions of `operator` that do what a method of their first argument does."""
 CLASSES = (list, tuple, set, frozenset, dict, str)
@@ -41,7 +42,10 @@ Place = tuple[CodeType, int]
 
 
 class Method(NamedTuple):
-    """A method of what may be a container, and the words that it is called with. A function has the name of its module before its own."""
+    """A method of what may be a container, and the words that it is called with.
+
+    A function has the name of its module before its own.
+    """
 
     container: Any
     name: str
@@ -56,7 +60,10 @@ class Watcher(NamedTuple):
     names: frozenset[str]
     """Those of functions of the language are among them, as `builtins.setattr`."""
     arguments: Callable[[str], slice | None]
-    """Which arguments a function of the library looks at or changes, by its name with that of its module. None, if it does so to none."""
+    """Which arguments a function of the library looks at or changes, by its name with that of its module.
+
+    None, if it does so to none.
+    """
 
 
 _watcher: Watcher | None = None
@@ -119,7 +126,8 @@ def _arguments_of(function: Any) -> slice | None:
 
 def _runs_another(function: Any) -> bool:
     """Whether it runs what it is given in a context, as the jobs of `asyncio.to_thread` do."""
-    return type(function) is types.BuiltinMethodType and type(function.__self__) is Context and function.__name__ == "run"
+    is_of_context = type(function) is types.BuiltinMethodType and type(function.__self__) is Context
+    return is_of_context and function.__name__ == "run"
 
 
 def watched_place(code: CodeType | None, instruction: int) -> Place | None:

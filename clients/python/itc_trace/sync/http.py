@@ -1,7 +1,8 @@
 """Traces requests and responses of HTTP.
 
-Between processes each is a message, whose name is in a header that others do not mind. A request to another machine has the header only
-if this process reports beside others. If the process answers itself, its handler finds what is asked by the same name.
+Between processes each is a message, whose name is in a header that others do not mind. A request to another machine has
+the header only if this process reports beside others. If the process answers itself, its handler finds what is asked by
+the same name.
 """
 
 from __future__ import annotations
@@ -30,7 +31,8 @@ _askings: dict[tuple[str, int], Asking] = {}
 
 
 class Exchange:
-    """A request of this process that nobody has answered yet, or its handler in this process, and what the handler has sent."""
+    """A request of this process that nobody has answered yet, or its handler in this process,
+    and what the handler has sent."""
 
     __slots__ = ("asked", "head", "last")
 
@@ -107,7 +109,9 @@ def _ask(connection: Any, frame: FrameType | None) -> None:
 def _asking_at(frame: FrameType | None) -> Asking:
     while frame is not None and is_internal(frame):
         frame = frame.f_back
-    where = ("?", 0) if frame is None else (name_of_file(frame.f_code.co_filename), line_of(frame.f_code, frame.f_lasti))
+    where = ("?", 0) if frame is None else (
+        name_of_file(frame.f_code.co_filename), line_of(frame.f_code, frame.f_lasti),
+    )
     if where not in _askings:
         _askings[where] = Asking.request("{}:{}".format(*where))
     return _askings[where]

@@ -1,7 +1,7 @@
 """Traces the import lock: whoever imports a module comes after whoever executed it.
 
-The file is named so that Python passes its frames over, as those of `importlib._bootstrap`, where a warning in the module
-is to show the line that imports it.
+The file is named so that Python passes its frames over, as those of `importlib._bootstrap`, where a warning in the
+module is to show the line that imports it.
 """
 
 from __future__ import annotations
@@ -80,7 +80,8 @@ def _import_module(original: Any) -> Any:
 
 
 def _take_all(name: str, parts: Any) -> None:
-    """From now on the current task comes after the module was executed, and its packages, and its parts that are modules."""
+    """From now on the current task comes after the module was executed, and its packages,
+    and its parts that are modules."""
     package, _, _ = name.rpartition(".")
     if package:
         _take_all(package, ())

@@ -42,7 +42,9 @@ class _Finder:
         return spec
 
 
-def _then(execute: Callable[[ModuleType], None], waiting: list[Callable[[ModuleType], None]]) -> Callable[[ModuleType], None]:
+def _then(
+    execute: Callable[[ModuleType], None], waiting: list[Callable[[ModuleType], None]],
+) -> Callable[[ModuleType], None]:
     def exec_module(module: ModuleType) -> None:
         execute(module)
         for put in waiting:

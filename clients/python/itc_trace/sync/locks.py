@@ -173,13 +173,16 @@ class TracedRLock(_PlainRLock, metaclass=_LikeRLock):  # type: ignore[misc]
         return told.replace(" RLock object", " _thread.RLock object", 1) if type(self) is TracedRLock else told
 
     def __reduce_ex__(self, protocol: Any) -> Any:
-        raise TypeError(f"cannot pickle '{'_thread.' if type(self) is TracedRLock else ''}{type(self).__name__}' object")
+        raise TypeError(
+            f"cannot pickle '{'_thread.' if type(self) is TracedRLock else ''}{type(self).__name__}' object"
+        )
 
 
 for _kind in (_LikeLock, _LikeRLock):
     name_as(_kind, "type", "builtins")
 name_as(TracedLock, "lock", "_thread")
-name_as(TracedRLock, "RLock", "_thread")  # Programs look whether it is the one that a signal handler may acquire, and it is.
+# Programs look whether it is the one that a signal handler may acquire, and it is.
+name_as(TracedRLock, "RLock", "_thread")
 
 
 def allocate_lock() -> Any:
@@ -216,7 +219,8 @@ def traced_rlock(frame: Any, cls: Any = TracedRLock, *words: Any, **named: Any) 
 def is_of_condition(lock: Any, maker: FrameType | None = None) -> None:
     """The lock, where it is a traced one, guards what those look at who wait at a condition.
 
-    If nobody has waited yet, the file that makes the condition says whether anybody will. Without that it is a lock as any other.
+    If nobody has waited yet, the file that makes the condition says whether anybody will. Without that it is a lock as
+    any other.
     """
     identity = getattr(lock, "_itc_identity", None)
     if identity is not None and (maker is None or _may_wait(maker.f_code.co_filename)):
@@ -259,9 +263,10 @@ def gave(lock: Any) -> None:
 
 
 def _left_again(lock: Any, line: Line, section: Section) -> bool:
-    """Whether this is the end of a section that was entered again, and in which nothing has happened that is not in its stretch."""
+    """Whether a section ends that was entered again, and in which nothing has happened that is not in its stretch."""
     identity, held = lock._itc_identity, line.held
-    if not section.is_entered_again or section.token.what is not identity or not held or held[-1] is not identity or identity.signal:
+    is_entered_again = section.is_entered_again and section.token.what is identity
+    if not is_entered_again or not held or held[-1] is not identity or identity.signal:
         return False
     section.is_entered_again = False
     lock._itc_holder = None

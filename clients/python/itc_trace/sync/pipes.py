@@ -1,6 +1,7 @@
 """Traces what goes between processes by `Queue`, `SimpleQueue` and `Pipe` of `multiprocessing`.
 
-An item is a message. Its name travels behind the item's pickle, which ends by itself: whoever does not know of it is not disturbed.
+An item is a message. Its name travels behind the item's pickle, which ends by itself: whoever does not know of it is
+not disturbed.
 """
 
 from __future__ import annotations

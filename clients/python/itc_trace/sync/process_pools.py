@@ -1,7 +1,8 @@
 """Traces `ProcessPoolExecutor`: each job is a task of its own in the process that runs it, after who submitted it.
 
-A pool promises no order between its jobs. So neither the process that runs two of them nor the thread that gives results back
-orders anything: a job comes after its submission and after the making of the pool, and whoever takes a result after the job.
+A pool promises no order between its jobs. So neither the process that runs two of them nor the thread that gives
+results back orders anything: a job comes after its submission and after the making of the pool, and whoever takes a
+result after the job.
 """
 
 from __future__ import annotations
@@ -108,7 +109,8 @@ class Job:
 
 def _name_of(function: Any) -> str:
     while hasattr(function, "func") and hasattr(function, "args"):
-        function = function.args[0] if function.args else function.func  # A job of `map` calls the function that it is given.
+        # A job of `map` calls the function that it is given.
+        function = function.args[0] if function.args else function.func
     return str(getattr(function, "__name__", "job"))
 
 

@@ -19,7 +19,10 @@ from .later import forget_all, once_imported
 from .locks import gave, took
 from .shared_locks import has_taken, is_giving, slot_of
 
-_MAKERS = ("multiprocessing.context", "multiprocessing.synchronize", "multiprocessing.sharedctypes", "itc_trace.sync.process_signals")
+_MAKERS = (
+    "multiprocessing.context", "multiprocessing.synchronize", "multiprocessing.sharedctypes",
+    "itc_trace.sync.process_signals",
+)
 """Modules that make locks for the program. Others of `multiprocessing` make them for themselves, and give no order."""
 MOST_PERMITS = 65536
 LOCKS = ("Lock", "RLock")
@@ -132,14 +135,21 @@ def _begin(original: Any) -> Any:
             following.is_not_followed(name)
         if frame is None or value > MOST_PERMITS:
             return
-        traced: _Lock | _Semaphore = _Lock(self._semlock, name, frame) if name in LOCKS else _Semaphore(self._semlock, value)
+        traced: _Lock | _Semaphore
+        if name in LOCKS:
+            traced = _Lock(self._semlock, name, frame)
+        else:
+            traced = _Semaphore(self._semlock, value)
         self._itc_traced, self.acquire, self.release = traced, traced.acquire, traced.release
 
     return __init__
 
 
 def _set_state(original: Any) -> Any:
-    """In a process that was started anew: a lock that it was given. What orders by anything else has kept the process from being traced."""
+    """In a process that was started anew: a lock that it was given.
+
+    What orders by anything else has kept the process from being traced.
+    """
 
     def __setstate__(self: Any, told: Any) -> None:
         original(self, told)

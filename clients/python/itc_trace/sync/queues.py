@@ -23,7 +23,8 @@ _own_steps: set[Any] = set()
 _PlainSimpleQueue: Any = queue.SimpleQueue
 _STACKS = queue.LifoQueue, asyncio.LifoQueue
 MOST_PLACES = 16
-"""Who puts into a queue of more places comes after nobody: such a queue bounds memory, and to tell it would take an event an item."""
+"""Who puts into a queue of more places comes after nobody: such a queue bounds memory,
+and to tell it would take an event an item."""
 
 
 _CONDITIONS = frozenset({"not_empty", "not_full", "all_tasks_done"})
@@ -59,11 +60,16 @@ def _begin(original: Any) -> Any:
 def _waits_by_itself(kind: type) -> bool:
     """Whether a method of the program's own class may wait at the conditions of the queue, or notify those who wait."""
     own = [function for one in kind.__mro__ if one.__module__ != "queue" for function in vars(one).values()]
-    return any(not _CONDITIONS.isdisjoint(function.__code__.co_names) for function in own if type(function) is FunctionType)
+    return any(
+        not _CONDITIONS.isdisjoint(function.__code__.co_names) for function in own if type(function) is FunctionType
+    )
 
 
 class _Mutex(TracedLock):
-    """The lock of a queue, as the program has it. What the library does while it holds the lock gives no order by that."""
+    """The lock of a queue, as the program has it.
+
+    What the library does while it holds the lock gives no order by that.
+    """
 
     __slots__ = ()
 
@@ -102,7 +108,10 @@ def _trace_lock(one: Any, frame: Any) -> None:
 
 
 class Items:
-    """The tokens of what lies in a queue, by the identity of the items. A thing that lies there several times has several."""
+    """The tokens of what lies in a queue, by the identity of the items.
+
+    A thing that lies there several times has several.
+    """
 
     def __init__(self, is_stack: bool) -> None:
         self._tokens: dict[int, Token | deque[Token | None] | None] = {}
@@ -168,7 +177,10 @@ def room_of(one: Any, size: int) -> Room:
 
 
 def _put_item(one: Any, item: Any, put: Any) -> None:
-    """The library puts the item, while nobody else has the queue. Else two threads that put one thing might be taken for each other."""
+    """The library puts the item, while nobody else has the queue.
+
+    Else two threads that put one thing might be taken for each other.
+    """
     if 0 < one.maxsize <= MOST_PLACES:
         room_of(one, one._qsize()).use()
     items = one.__dict__.get("_itc_items") or items_of(one)

@@ -1,4 +1,5 @@
-"""Perturbs the schedule of a program by a seed: its threads take turns more often, and pause before what they do to each other."""
+"""Perturbs the schedule of a program by a seed: its threads take turns more often,
+and pause before what they do to each other."""
 
 from __future__ import annotations
 
@@ -52,7 +53,8 @@ class Shaking:
 
     def _paused(self, original: Any, always: bool = False) -> Any:
         def paused(*words: Any, **named: Any) -> Any:
-            if always or not is_internal(sys._getframe(1)):  # Else a lock of the library or of this package may be held.
+            # Else a lock of the library or of this package may be held.
+            if always or not is_internal(sys._getframe(1)):
                 self.pause()
             return original(*words, **named)
 

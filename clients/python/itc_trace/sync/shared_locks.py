@@ -1,4 +1,5 @@
-"""The order that a lock of `multiprocessing` gives between processes: whoever acquires it comes after its last release."""
+"""The order that a lock of `multiprocessing` gives between processes:
+whoever acquires it comes after its last release."""
 
 from __future__ import annotations
 
@@ -12,7 +13,10 @@ _numbers = itertools.count(1)
 
 
 def slot_of(name: str | None) -> int | None:
-    """The place of a lock among those that processes share, by its name in the system. One without a name goes to forked children."""
+    """The place of a lock among those that processes share, by its name in the system.
+
+    One without a name goes to forked children.
+    """
     names, tracer = following.shared_names(), state.tracer
     if names is None or tracer is None:
         return None
@@ -20,7 +24,10 @@ def slot_of(name: str | None) -> int | None:
 
 
 def has_taken(slot: int | None) -> bool:
-    """The current task has acquired the lock. Whether another process has released it: the order of threads is known already."""
+    """The current task has acquired the lock.
+
+    Whether another process has released it: the order of threads is known already.
+    """
     names, tracer = following.shared_names(), state.tracer
     if slot is None or names is None or tracer is None or not following.has_others():
         return False

@@ -31,7 +31,9 @@ def put(patches: Patches) -> None:
     for name in ("wait", "waitpid", "wait3", "wait4"):
         patches.wrap(os, name, _wait)
     once_imported("multiprocessing.process", lambda module: _put_processes(patches, module))
-    once_imported("multiprocessing.spawn", lambda module: patches.wrap(module, "get_preparation_data", _get_preparation_data))
+    once_imported(
+        "multiprocessing.spawn", lambda module: patches.wrap(module, "get_preparation_data", _get_preparation_data),
+    )
 
 
 def _put_processes(patches: Patches, module: ModuleType) -> None:

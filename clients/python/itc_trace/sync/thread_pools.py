@@ -1,7 +1,7 @@
 """Traces the thread pool of `multiprocessing`: each of its jobs is a task of its own, whichever of its threads runs it.
 
-Two threads of the pool hand all jobs and all results on. Which one comes first there is luck, so these threads give no order. A job
-comes after its own submission, and whoever takes a result after the jobs that gave it.
+Two threads of the pool hand all jobs and all results on. Which one comes first there is luck, so these threads give no
+order. A job comes after its own submission, and whoever takes a result after the jobs that gave it.
 """
 
 from __future__ import annotations
@@ -15,7 +15,9 @@ from types import FrameType, ModuleType
 from typing import Any
 
 from .handed_on import HANDED, called, handed_at, watched_place
-from ..model.lines import CALLED, FINISH, MARK, RESULT, SPAWN, SUBMIT, TAKE_END, WORKER, LateJob, Line, Token, What, state
+from ..model.lines import (
+    CALLED, FINISH, MARK, RESULT, SPAWN, SUBMIT, TAKE_END, WORKER, LateJob, Line, Token, What, state,
+)
 from ..record.noting import current, enter, joining, line_of_now, local, mark, take
 from ..model.frames import frame_at, place
 from .base import Patches, like
@@ -92,7 +94,10 @@ def _join(original: Any) -> Any:
 
 
 def _take_jobs(jobs: Iterable[Line | Token | None]) -> None:
-    """From now on the current task comes after these jobs. One that is no task of its own is known by the place of its end."""
+    """From now on the current task comes after these jobs.
+
+    One that is no task of its own is known by the place of its end.
+    """
     where = _place()
     for job in list(jobs):
         note = state.note
@@ -108,7 +113,9 @@ def _take_jobs(jobs: Iterable[Line | Token | None]) -> None:
 class _Job:
     """A job that was given to a pool: the result that it is for, and the task that it is, if it is one of its own."""
 
-    def __init__(self, awaited: _Awaited, part: int, line: Line | None, number: int, comes_after_initializer: bool) -> None:
+    def __init__(
+        self, awaited: _Awaited, part: int, line: Line | None, number: int, comes_after_initializer: bool,
+    ) -> None:
         self._awaited = awaited
         self._part = part
         self._line = line
@@ -144,7 +151,10 @@ class _Job:
 
 
 class _Jobs:
-    """The queue from which the threads of a pool take its jobs. A job begins where it is put, and runs from where it is taken."""
+    """The queue from which the threads of a pool take its jobs.
+
+    A job begins where it is put, and runs from where it is taken.
+    """
 
     def __init__(self, pool: weakref.ref[Any], maps: tuple[Any, ...]) -> None:
         self._queue = plain_simple_queue()
@@ -192,7 +202,10 @@ class _Jobs:
         return _Job(awaited, job[1], line, 0, has_initializer)
 
     def _parent(self, pool: Any, awaited: _Awaited) -> Line:
-        """The task that starts the job. That is the thread here if it has run code of the program for it, as to make an argument."""
+        """The task that starts the job.
+
+        That is the thread here if it has run code of the program for it, as to make an argument.
+        """
         own: Line | None = pool.__dict__.get("_itc_line")
         return current() if awaited.is_by_steps or own is None or own.tracer is not state.tracer else own
 
@@ -250,7 +263,9 @@ def _begin_result(original: Any) -> Any:
         if not _is_of_threads(pool):
             return original(self, pool, callback, error_callback)
         awaited = self._itc_awaited = _Awaited()
-        original(self, pool, *(None if one is None else _called_back(one, awaited) for one in (callback, error_callback)))
+        original(
+            self, pool, *(None if one is None else _called_back(one, awaited) for one in (callback, error_callback))
+        )
         self._event._itc_is_silent = True
 
     return __init__

@@ -74,11 +74,13 @@ def _begin_thread(original: Any) -> Any:
 
 
 def _tell_of_target(thread: Any) -> None:
-    """Tells of a target that is a method of a container, unless a `run` of the program stands before it and calls no other one."""
+    """Tells of a target that is a method of a container,
+    unless a `run` of the program stands before it and calls no other one."""
     handed = thread.__dict__.get("_itc_handed")
-    if handed is None or type(thread).run is not threading.Thread.run and "run" not in type(thread).run.__code__.co_names:
-        return
-    called(thread._target, tuple(thread._args), handed)
+    run = type(thread).run
+    calls_target = run is threading.Thread.run or "run" in run.__code__.co_names
+    if handed is not None and calls_target:
+        called(thread._target, tuple(thread._args), handed)
 
 
 def _begin_timer(original: Any) -> Any:
@@ -164,9 +166,15 @@ def _join(original: Any) -> Any:
 
 
 def _has_seen_end(thread: Any) -> bool:
-    """Whether `join` has seen the thread's end. If it has waited for too short a time, the thread may end right behind it."""
+    """Whether `join` has seen the thread's end.
+
+    If it has waited for too short a time, the thread may end right behind it.
+    """
     is_stopped: bool | None = thread.__dict__.get("_is_stopped")
-    return not threading.Thread.is_alive.__wrapped__(thread) if is_stopped is None else is_stopped  # type: ignore[attr-defined]
+    if is_stopped is not None:
+        return is_stopped
+    is_alive: Any = threading.Thread.is_alive
+    return not is_alive.__wrapped__(thread)
 
 
 def _is_alive(original: Any) -> Any:
@@ -385,7 +393,8 @@ def _value(self: Any) -> Any:
 
 
 def _set_value(self: Any, value: Any) -> None:
-    """The library counts here, while nobody else has the semaphore: so the permits go from hand to hand in the order of its counting."""
+    """The library counts here, while nobody else has the semaphore:
+    so the permits go from hand to hand in the order of its counting."""
     own = self.__dict__
     permits = own.get("_itc_permits")
     if permits is not None:

@@ -1,4 +1,5 @@
-"""Leaves what stands in the place of the library out of tracebacks that are shown: a program would not see it untraced."""
+"""Leaves what stands in the place of the library out of tracebacks that are shown:
+a program would not see it untraced."""
 
 from __future__ import annotations
 

@@ -2,21 +2,14 @@
 
 from __future__ import annotations
 
+from collections.abc import Callable
+from types import ModuleType
 from typing import Any
 
 from ..record import following
 from .base import Patches
 from .later import once_imported
 from .values import is_making
-
-_MAKING = (
-    ("multiprocessing.managers", "BaseManager", "__init__"),
-    ("multiprocessing.managers", "BaseProxy", "__init__"),
-    ("multiprocessing.pool", "Pool", "__init__"),
-    ("multiprocessing.shared_memory", "SharedMemory", "__init__"),
-)
-"""The modules, classes and methods by which a program makes such things, or gets them from another process."""
-
 
 OF_POOL = "_SafeQueue"
 """The queue of a `ProcessPoolExecutor`, whose jobs have an order of their own."""
@@ -26,14 +19,12 @@ MOST_PLACES = 16
 
 
 def put(patches: Patches) -> None:
-    once_imported("multiprocessing.heap", lambda module: patches.wrap(vars(module)["BufferWrapper"], "__init__", _tells_of_memory))
-    once_imported("multiprocessing.queues", lambda module: patches.wrap(vars(module)["Queue"], "__init__", _tells_of_queue))
-    for module, kind, method in _MAKING:
-        once_imported(module, lambda found, kind=kind, method=method: _put(patches, vars(found)[kind], method))  # type: ignore[misc]
+    for module, kind, tells in _MAKING:
+        once_imported(module, _telling(patches, kind, tells))
 
 
-def _put(patches: Patches, kind: Any, method: str) -> None:
-    patches.wrap(kind, method, _tells)
+def _telling(patches: Patches, kind: str, tells: Callable[[Any], Any]) -> Callable[[ModuleType], None]:
+    return lambda module: patches.wrap(vars(module)[kind], "__init__", tells)
 
 
 def _tells(original: Any) -> Any:
@@ -63,3 +54,14 @@ def _tells_of_queue(original: Any) -> Any:
         original(self, maxsize, **named)
 
     return __init__
+
+
+_MAKING = (
+    ("multiprocessing.heap", "BufferWrapper", _tells_of_memory),
+    ("multiprocessing.queues", "Queue", _tells_of_queue),
+    ("multiprocessing.managers", "BaseManager", _tells),
+    ("multiprocessing.managers", "BaseProxy", _tells),
+    ("multiprocessing.pool", "Pool", _tells),
+    ("multiprocessing.shared_memory", "SharedMemory", _tells),
+)
+"""The modules and classes by which a program makes such things, or gets them from another process, and what tells."""

@@ -1,4 +1,5 @@
-"""Traces numbers that processes share, made by `Value` and `RawValue` of `multiprocessing`: each is a thing across processes."""
+"""Traces numbers that processes share, made by `Value` and `RawValue` of `multiprocessing`:
+each is a thing across processes."""
 
 from __future__ import annotations
 
@@ -95,7 +96,8 @@ def _noted(plain: Any) -> Any:
     made = _noted_types.get(plain)
     if made is None:
         names = {
-            "value": property(_read, _write), "_itc_plain": plain, "__module__": plain.__module__, "__qualname__": plain.__qualname__,
+            "value": property(_read, _write), "_itc_plain": plain, "__module__": plain.__module__,
+            "__qualname__": plain.__qualname__,
             "__repr__": _as_text if plain.__base__ is _Simple else plain.__repr__,
         }
         made = _noted_types[plain] = type(plain.__name__, (plain,), names)
@@ -125,6 +127,8 @@ def _touch(value: Any, kind: str) -> None:
 def _user() -> FrameType | None:
     """The frame of the program. What the library makes of a text has no module."""
     frame = following.frame_of_start(2)
-    while frame is not None and (following.is_of_library(frame) or frame.f_code.co_filename == "<string>" and "__name__" not in frame.f_globals):
+    while frame is not None and (
+        following.is_of_library(frame) or frame.f_code.co_filename == "<string>" and "__name__" not in frame.f_globals
+    ):
         frame = frame.f_back
     return frame

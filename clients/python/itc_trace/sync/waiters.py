@@ -10,7 +10,10 @@ from ..record.noting import current
 
 
 class Waiters(deque[Any]):
-    """What a condition keeps of those who wait, a lock or a future for each. Whoever uses it holds the condition's lock."""
+    """What a condition keeps of those who wait, a lock or a future for each.
+
+    Whoever uses it holds the condition's lock.
+    """
 
     def __init__(self) -> None:
         super().__init__()

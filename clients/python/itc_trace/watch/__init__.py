@@ -23,7 +23,10 @@ from .loaded import Prepare, folder_of_main, rewrite_loaded
 from .named import tell_missing
 from .unwatched import files_without_hooks, touches_lost
 
-__all__ = ["Prepare", "begin", "code_of", "end", "program_of", "selection", "tell_missing", "unwatched", "watch", "watch_loaded", "watch_main", "watch_path_runs"]
+__all__ = [
+    "Prepare", "begin", "code_of", "end", "program_of", "selection", "tell_missing", "unwatched", "watch",
+    "watch_loaded", "watch_main", "watch_path_runs",
+]
 
 MAIN_OF_CHILD = "__mp_main__"
 """The name of the program's main module in a process that `multiprocessing` has started anew."""
@@ -68,7 +71,9 @@ def _is_traced_as_a_whole(name: str) -> bool:
     """Whether what the module promises is traced already, and not how it keeps that."""
     is_so = name.partition(".")[0] in INTERNAL
     if is_so and sys.__stderr__ is not None:
-        print(f"itc_trace: {name} is not watched: what it promises is traced as a whole", file=sys.__stderr__, flush=True)
+        print(
+            f"itc_trace: {name} is not watched: what it promises is traced as a whole", file=sys.__stderr__, flush=True,
+        )
     return is_so
 
 
@@ -93,7 +98,10 @@ def _with_hooks(source: bytes, program: str, name: str, plain: CodeType) -> Code
 
 
 def watch_path_runs() -> None:
-    """What `runpy` runs by its path has hooks, if it is watched. A child of `multiprocessing` so imports the program's main file."""
+    """What `runpy` runs by its path has hooks, if it is watched.
+
+    A child of `multiprocessing` so imports the program's main file.
+    """
     plain = runpy._get_code_from_file  # type: ignore[attr-defined]
 
     def get_code(*words: Any) -> Any:
@@ -109,7 +117,8 @@ def watch_path_runs() -> None:
 
 
 def begin() -> None:
-    """Notes touches as soon as there is a second task: whatever comes before it starts, comes before all that it does."""
+    """Notes touches as soon as there is a second task: whatever comes before it starts,
+    comes before all that it does."""
     global _plain_line_begin
     tracer = state.tracer
     if _finder is None or tracer is None:

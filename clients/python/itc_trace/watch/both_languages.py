@@ -3,7 +3,10 @@
 from __future__ import annotations
 
 NO_TOUCH, OF_FIELD, OF_SHAPE, OF_DICT, OF_LIST, OTHER, IF_OWN, OWN_OR_OF_CLASS, OF_STEPS, DEEP, LEFT = range(11)
-"""What a place is to a type. What is DEEP has more inside that is looked at. What is LEFT is left to Python, whoever refers to it."""
+"""What a place is to a type. What is DEEP has more inside that is looked at.
+
+What is LEFT is left to Python, whoever refers to it.
+"""
 
 MOST_HELD = 20_000
 LOOKED_THROUGH = 2
@@ -16,4 +19,6 @@ MOST_BEGUN = 10_000
 
 def header() -> str:
     """The numbers as a header of C."""
-    return "".join(f"#define {name} {value}\n" for name, value in globals().items() if name.isupper() and type(value) is int)
+    return "".join(
+        f"#define {name} {value}\n" for name, value in globals().items() if name.isupper() and type(value) is int
+    )

@@ -79,7 +79,9 @@ def _is_python(file: str) -> bool:
             first = source.readline(MOST_OF_A_LINE)
     except OSError:
         return False
-    return first.startswith(b"#!") and any(_PYTHON.match(os.path.basename(os.fsdecode(word))) for word in first[2:].split())
+    return first.startswith(b"#!") and any(
+        _PYTHON.match(os.path.basename(os.fsdecode(word))) for word in first[2:].split()
+    )
 
 
 def _watched_file(word: str, folder: str, selection: Selection) -> str | None:

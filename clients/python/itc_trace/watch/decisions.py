@@ -1,6 +1,7 @@
 """What an attribute of a type is: a field of the object or of the class, or nothing that is touched.
 
-It is decided once for each place and type. Nothing here runs code of the program: types are looked at by the language's own means.
+It is decided once for each place and type. Nothing here runs code of the program: types are looked at by the language's
+own means.
 """
 
 from __future__ import annotations
@@ -13,7 +14,10 @@ import threading
 import types
 import weakref
 from array import array
-from builtins import any, dict, enumerate, filter, frozenset, id, int, issubclass, iter, list, map, next, reversed, set, str, tuple, type, zip
+from builtins import (
+    any, dict, enumerate, filter, frozenset, id, int, issubclass, iter, list, map, next, reversed, set, str, tuple, type,
+    zip,
+)
 from collections import OrderedDict, deque
 from collections.abc import Iterable
 from typing import Any
@@ -28,13 +32,16 @@ WATCHED: set[str] = set()
 """The names of the modules that were rewritten."""
 
 def ids_of(kinds: Iterable[type]) -> frozenset[int]:
-    """The identities of types of the library. A type itself is no key: its class may be the program's, with a hash of its own."""
+    """The identities of types of the library.
+
+    A type itself is no key: its class may be the program's, with a hash of its own.
+    """
     return frozenset(map(id, kinds))
 
 
 PLAIN = ids_of({
-    str, int, float, bool, complex, bytes, tuple, frozenset, range, slice, type(None), type(...), type(NotImplemented), types.FunctionType,
-    types.BuiltinFunctionType, types.MethodType, super, types.CodeType,
+    str, int, float, bool, complex, bytes, tuple, frozenset, range, slice, type(None), type(...), type(NotImplemented),
+    types.FunctionType, types.BuiltinFunctionType, types.MethodType, super, types.CodeType,
 })
 """Types whose values cannot change, or are no thing that tasks share by their elements."""
 
@@ -48,12 +55,13 @@ _METHODS_OF = {"r": "__getitem__", "w": "__setitem__", "d": "__delitem__", "c": 
 """What is called for each way to touch an element."""
 
 _BY_KEYS: tuple[type, ...] = (
-    type({}.keys()), type(OrderedDict().keys()), type(iter({})), type(iter(OrderedDict())), type(reversed({})), types.MappingProxyType,
+    type({}.keys()), type(OrderedDict().keys()), type(iter({})), type(iter(OrderedDict())), type(reversed({})),
+    types.MappingProxyType,
 )
 _BY_ELEMENTS: tuple[type, ...] = (
-    type({}.values()), type({}.items()), type(OrderedDict().values()), type(OrderedDict().items()), type(iter({}.values())),
-    type(iter({}.items())), type(reversed({}.values())), type(reversed({}.items())), type(iter([])), type(reversed([])),
-    type(iter(set())), type(iter(deque())), type(reversed(deque())), type(iter(bytearray())), type(iter(array("b"))),
+    type({}.values()), type({}.items()), type(OrderedDict().values()), type(OrderedDict().items()),
+    type(iter({}.values())), type(iter({}.items())), type(reversed({}.values())), type(reversed({}.items())),
+    type(iter([])), type(reversed([])), type(iter(set())), type(iter(deque())), type(reversed(deque())), type(iter(bytearray())), type(iter(array("b"))),
 )
 BY_ELEMENTS = ids_of(_BY_ELEMENTS)
 """Views and iterators that look at the elements of a container, and not at the keys of a dictionary alone."""
@@ -62,22 +70,28 @@ VIEWS = ids_of((*_BY_KEYS, *_BY_ELEMENTS))
 
 _TABLES: tuple[dict[Any, Any], ...] = ({}, OrderedDict())
 _UNCHANGED = ids_of((
-    *(type(view) for table in _TABLES for view in (table.keys(), table.values(), table.items())), types.MappingProxyType,
+    *(type(view) for table in _TABLES for view in (table.keys(), table.values(), table.items())),
+    types.MappingProxyType,
 ))
 """Those of them that no look changes."""
 _OF_VALUES = ids_of((
-    type(iter(())), type(iter("")), type(iter("\u20ac")), type(iter(b"")), type(iter(range(0))), type(iter(range(1 << 70))), type(iter(int, 0)),
-    reversed,
+    type(iter(())), type(iter("")), type(iter("\u20ac")), type(iter(b"")), type(iter(range(0))),
+    type(iter(range(1 << 70))), type(iter(int, 0)), reversed,
 ))
 ROWS_OF_ITERATORS = ids_of((zip, map, itertools.zip_longest))
 """Types whose objects have the iterators behind them in a tuple."""
 COMPOSED = ROWS_OF_ITERATORS | ids_of((
-    enumerate, filter, itertools.accumulate, itertools.chain, itertools.combinations, itertools.combinations_with_replacement, itertools.compress,
-    itertools.cycle, itertools.dropwhile, itertools.filterfalse, itertools.groupby, itertools.islice, itertools.pairwise, itertools.permutations,
+    enumerate, filter, itertools.accumulate, itertools.chain, itertools.combinations,
+    itertools.combinations_with_replacement, itertools.compress,
+    itertools.cycle, itertools.dropwhile, itertools.filterfalse, itertools.groupby, itertools.islice,
+    itertools.pairwise, itertools.permutations,
     itertools.product, itertools.starmap, itertools.takewhile, type(itertools.tee(())[0]), type(_csv.reader(())),
     *(getattr(itertools, name) for name in ("_grouper", "batched") if hasattr(itertools, name)),
 ))
-"""Iterators that go on with others. One that gives each call a value of its own, whoever comes first, is none: `count` and `repeat`."""
+"""Iterators that go on with others.
+
+One that gives each call a value of its own, whoever comes first, is none: `count` and `repeat`.
+"""
 FILES = ids_of((io.TextIOWrapper,))
 """Files of text, which go on by lines. Those of bytes have a lock of their own."""
 STEPPED = (VIEWS - _UNCHANGED) | _OF_VALUES | COMPOSED | FILES | ids_of((types.GeneratorType,))
@@ -89,7 +103,10 @@ _NOTHING: Any = types.MappingProxyType({})
 
 
 def _mro_of(kind: type) -> Any:
-    """The classes by whose order the type finds its attributes. One that the interpreter has not made ready has only itself."""
+    """The classes by whose order the type finds its attributes.
+
+    One that the interpreter has not made ready has only itself.
+    """
     return _kept_mro_of(kind) or (kind, object)
 
 
@@ -138,7 +155,10 @@ def name_of(kind: type) -> str:
 
 def is_of_the_package(kind: type) -> bool:
     """Whether it is a stand-in or a lock of this package, which notes by itself."""
-    return any(str(_vars_of(one).get("__module__", "")).startswith("itc_trace.") or "_itc_name" in _vars_of(one) for one in _mro_of(kind))
+    return any(
+        str(_vars_of(one).get("__module__", "")).startswith("itc_trace.") or "_itc_name" in _vars_of(one)
+        for one in _mro_of(kind)
+    )
 
 
 def family_of(kind: type) -> int | None:
@@ -174,8 +194,12 @@ def has_own_method(kind: type, name: str) -> bool:
     if name not in known:
         _remember(kind)
         owner = class_with(kind, name)
-        known[name] = owner is not None and type(_vars_of(owner)[name]) is types.FunctionType and id(owner) not in _EXACT
+        known[name] = owner is not None and id(owner) not in _EXACT and _is_function(owner, name)
     return known[name]
+
+
+def _is_function(owner: type, name: str) -> bool:
+    return type(_vars_of(owner)[name]) is types.FunctionType
 
 
 def is_watched_class(kind: type) -> bool:
@@ -199,7 +223,7 @@ def has_watched_method(kind: type, name: str) -> bool:
     if key not in known:
         _remember(kind)
         owner = class_with(kind, name)
-        is_function = owner is not None and type(_vars_of(owner)[name]) is types.FunctionType and not is_made(kind, name)
+        is_function = owner is not None and _is_function(owner, name) and not is_made(kind, name)
         known[key] = is_function and _vars_of(owner).get("__module__") in WATCHED
     return known[key]
 
@@ -213,11 +237,16 @@ def is_made(kind: type, name: str) -> bool:
     inside = method.__dict__.get("__wrapped__") if method.__globals__.get("__name__") == "reprlib" else None
     if type(inside) is types.FunctionType:
         method = inside  # Since Python 3.13 `dataclass` has its text kept from going round in circles so.
-    return method.__code__.co_filename.endswith("<string>") or method.__globals__.get("__name__") in ("dataclasses", "collections")
+    return method.__code__.co_filename.endswith("<string>") or method.__globals__.get("__name__") in (
+        "dataclasses", "collections",
+    )
 
 
 def without_own(kind: type, ways: str) -> str:
-    """Of the ways in which an element is touched those that no method of the program stands before. Such a method has hooks itself."""
+    """Of the ways in which an element is touched those that no method of the program stands before.
+
+    Such a method has hooks itself.
+    """
     if id(kind) in _EXACT:
         return ways
     return "".join([one for one in ways if not has_watched_method(kind, _METHODS_OF[one])])
@@ -267,7 +296,10 @@ def value_of_field(one: Any, name: str) -> Any:
 
 
 def value_of_element(one: Any, key: Any) -> Any:
-    """What stands in an element of one of the library's own containers. None if nothing does, or if that is not plain to see."""
+    """What stands in an element of one of the library's own containers.
+
+    None if nothing does, or if that is not plain to see.
+    """
     if family_of(type(one)) == DICT and id(type(one)) in _EXACT and (type(key) is str or type(key) is int):
         return dict.get(one, key)
     if (type(one) is list or type(one) is tuple) and type(key) is int:
@@ -298,7 +330,9 @@ def decision(kind: type, access: Access, site: int) -> int:
     of_access = access.name, DELETED if access.words == DELETED else access.kinds
     found = known.get(of_access)
     if found is None:
-        found = known[of_access] = SKIP if _is_by_own_method(kind, of_access[1]) else _decide(kind, access.name, access.kinds or "r")
+        found = known[of_access] = SKIP if _is_by_own_method(kind, of_access[1]) else _decide(
+            kind, access.name, access.kinds or "r",
+        )
     if found == SKIP and access.what != "named":
         SKIPPED[site].add(id(kind))
     return found
@@ -309,7 +343,10 @@ _METHOD_OF_FIELDS = {"": "__getattribute__", "r": "__getattribute__", "w": "__se
 
 
 def _is_by_own_method(kind: type, way: str) -> bool:
-    """Whether a method of a watched class does so for its objects. It has hooks there. Classes and modules are seen from outside."""
+    """Whether a method of a watched class does so for its objects. It has hooks there.
+
+    Classes and modules are seen from outside.
+    """
     return not issubclass(kind, (type, types.ModuleType)) and has_watched_method(kind, _METHOD_OF_FIELDS.get(way, ""))
 
 
@@ -352,11 +389,14 @@ _KEYS_AS_ATTRIBUTES = (("r", "__getattr__", ("__getitem__", "get")), ("w", "__se
 
 def _is_of_dictionary(kind: type, name: str, methods: tuple[str, ...]) -> bool:
     owner = class_with(kind, name)
-    return owner is not None and owner is not object and any([_vars_of(owner)[name] is vars(dict)[method] for method in methods])
+    return owner is not None and owner is not object and any(
+        [_vars_of(owner)[name] is vars(dict)[method] for method in methods]
+    )
 
 
 def _decide_of_class(kind: type, value: Any, kinds: str) -> int:
-    """The class has something of that name: a descriptor is code or a slot, anything else a value that objects may hide."""
+    """The class has something of that name: a descriptor is code or a slot,
+    anything else a value that objects may hide."""
     if type(value) is types.MemberDescriptorType:
         return FIELD
     if type(value) is functools.cached_property:

@@ -1,4 +1,5 @@
-"""Calls what recurses deeper than the program may: the language's own compiler takes deeper sources than code in Python does."""
+"""Calls what recurses deeper than the program may:
+the language's own compiler takes deeper sources than code in Python does."""
 
 from __future__ import annotations
 
@@ -10,7 +11,10 @@ from typing import TypeVar
 from ..record import plain
 
 LIMIT = 60_000
-"""Of the language's own recursion. Sources that it compiles at all are nested at most 3 times its usual limit of 1000."""
+"""Of the language's own recursion.
+
+Sources that it compiles at all are nested at most 3 times its usual limit of 1000.
+"""
 STACK = 1 << 29
 """Bytes that the compiler may take of the machine's stack for so many levels. They are taken as they are used."""
 

@@ -1,4 +1,5 @@
-"""Notes what a method of a container does that the program has handed on, and a function that looks at what it is given."""
+"""Notes what a method of a container does that the program has handed on,
+and a function that looks at what it is given."""
 
 from __future__ import annotations
 
@@ -20,7 +21,10 @@ _FIELDS = {**{f"{_OF_BUILTINS}{name}": kinds for name, kinds in OF_ATTRIBUTES.it
 _WHOLE = {f"{_OF_BUILTINS}{name}": kinds for name, kinds in READERS.items() if name not in STEPPERS}
 
 _sites: dict[tuple[int, int, str], tuple[int, object]] = {}
-"""The sites of places, by code, instruction and method. A code is kept, else another one might come to stand at its place."""
+"""The sites of places, by code, instruction and method.
+
+A code is kept, else another one might come to stand at its place.
+"""
 
 
 def _touch(method: Method, place: Place) -> None:
@@ -33,7 +37,8 @@ def _touch(method: Method, place: Place) -> None:
     elif name in _FIELDS:
         _touch_field(method, _site_of(place, name, "field", _FIELDS[name]))
     elif name in _WHOLE:
-        hooks.hook_before_whole(method.container, _site_of(place, name, "whole", _WHOLE[name], SHOWING.get(name.removeprefix(_OF_BUILTINS), "")))
+        depth = SHOWING.get(name.removeprefix(_OF_BUILTINS), "")
+        hooks.hook_before_whole(method.container, _site_of(place, name, "whole", _WHOLE[name], depth))
     elif name in METHODS:
         site = _site_of(place, name, "base", "", name)
         if name in KEYED and words:

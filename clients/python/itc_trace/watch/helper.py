@@ -1,4 +1,5 @@
-"""The hooks in C, if there is a compiler: built once for each user and source, and left out silently if that does not work."""
+"""The hooks in C, if there is a compiler: built once for each user and source,
+and left out silently if that does not work."""
 
 from __future__ import annotations
 
@@ -26,9 +27,13 @@ KNOWN_VERSIONS = frozenset({(3, 11), (3, 12), (3, 13)})
 
 
 def _is_known() -> bool:
-    """Whether this Python has the objects that the helper knows. One for debugging has others, and one without a global lock."""
+    """Whether this Python has the objects that the helper knows.
+
+    One for debugging has others, and one without a global lock.
+    """
     is_usual = not hasattr(sys, "gettotalrefcount") and not sysconfig.get_config_var("Py_GIL_DISABLED")
-    return sys.implementation.name == "cpython" and sys.version_info[:2] in KNOWN_VERSIONS and is_usual and os.name == "posix"
+    is_known_version = sys.implementation.name == "cpython" and sys.version_info[:2] in KNOWN_VERSIONS
+    return is_known_version and is_usual and os.name == "posix"
 
 
 def user_folder() -> str:
@@ -47,7 +52,9 @@ def _built() -> str | None:
     with open(SOURCE, "rb") as source:
         text = source.read()
     told = f"{sys.version}{sysconfig.get_config_var('SOABI')}{header()}".encode()
-    name = os.path.join(user_folder(), f"quick-{sysconfig.get_config_var('SOABI')}-{hashlib.sha256(text + told).hexdigest()[:24]}")
+    name = os.path.join(
+        user_folder(), f"quick-{sysconfig.get_config_var('SOABI')}-{hashlib.sha256(text + told).hexdigest()[:24]}",
+    )
     if not os.path.exists(f"{name}.so") and not os.path.exists(f"{name}.failed"):
         _build(name)
     return f"{name}.so" if os.path.exists(f"{name}.so") else None

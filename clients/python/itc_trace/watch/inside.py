@@ -1,4 +1,5 @@
-"""The containers inside of those that the library has written in Python, as `UserDict`: what is done to one is done to the other."""
+"""The containers inside of those that the library has written in Python, as `UserDict`:
+what is done to one is done to the other."""
 
 from __future__ import annotations
 
@@ -6,7 +7,8 @@ import csv
 import io
 import weakref
 from builtins import (
-    any, bool, bytes, dict, enumerate, float, frozenset, getattr, id, int, issubclass, len, list, min, next, range, set, str, tuple, type,
+    any, bool, bytes, dict, enumerate, float, frozenset, getattr, id, int, issubclass, len, list, min, next, range, set,
+    str, tuple, type,
 )
 from collections import deque
 from collections.abc import Iterator
@@ -18,7 +20,8 @@ from types import BuiltinMethodType, MemberDescriptorType, SimpleNamespace
 from typing import Any, NamedTuple
 
 from .decisions import (
-    COMPOSED, ROWS_OF_ITERATORS, STEPPED, VIEWS, class_with, family_of, field_inside, fields_of, has_watched_method, ids_of, is_made, is_watched_class, mro_of, name_of, value_of_field, vars_of,
+    COMPOSED, ROWS_OF_ITERATORS, STEPPED, VIEWS, class_with, family_of, field_inside, fields_of, has_watched_method,
+    ids_of, is_made, is_watched_class, mro_of, name_of, value_of_field, vars_of,
 )
 from .kinds import (
     COMPARED, CONTENT, DECLARED, MAPS, OF_ELEMENTS, ORDERED, REFERRED, SHOWN, STATE, WRITER, WRITTEN, WRITTEN_TO,
@@ -66,7 +69,8 @@ _SHARING = id(type(next(one for one in get_referents(tee(())[0]) if type(one) is
 
 
 class Behind(NamedTuple):
-    """What a step of an iterator goes on with: iterators that others reach, too, and containers, each with the type of its iterator."""
+    """What a step of an iterator goes on with: iterators that others reach, too, and containers,
+    each with the type of its iterator."""
 
     iterators: list[Any]
     containers: list[tuple[Any, type]]
@@ -97,7 +101,9 @@ def _iterators_in(one: Any) -> list[Any]:
     if id(type(one)) in ROWS_OF_ITERATORS:
         parts = [part for row in parts[:1] if type(row) is tuple for part in row]
     kinds = {id(type(part)) for part in parts}
-    return [] if kinds & OWN_STEPS else [part for part in parts if id(type(part)) in STEPPED or id(type(part)) == _SHARING]
+    return [] if kinds & OWN_STEPS else [
+        part for part in parts if id(type(part)) in STEPPED or id(type(part)) == _SHARING
+    ]
 
 
 def _references_of_inner() -> int:
@@ -121,15 +127,24 @@ _TEXT_METHODS = ("__str__", "__format__")
 
 
 _OWN_METHODS = {
-    SHOWN: ("__repr__",), WRITTEN: ("__repr__",), COMPARED: ("__eq__",), ORDERED: ("__eq__", "__lt__"), STATE: _STATE_METHODS,
+    SHOWN: ("__repr__",), WRITTEN: ("__repr__",), COMPARED: ("__eq__",), ORDERED: ("__eq__", "__lt__"),
+    STATE: _STATE_METHODS,
 }
-"""The methods by which what is inside of something else is looked at. If a class of the program has one, it has hooks itself."""
-_BY_ADDRESS = ids_of((weakref.WeakValueDictionary, weakref.WeakKeyDictionary, csv.DictWriter, type(csv.writer(io.StringIO()))))
+"""The methods by which what is inside of something else is looked at.
+
+If a class of the program has one, it has hooks itself.
+"""
+_BY_ADDRESS = ids_of(
+    (weakref.WeakValueDictionary, weakref.WeakKeyDictionary, csv.DictWriter, type(csv.writer(io.StringIO())))
+)
 """Types whose text has nothing of what is inside."""
 
 
 def nested_in(one: Any, name: str, depth: str) -> Iterator[tuple[Any, str]]:
-    """What something has inside, each once and with a name, and no more than so many. For a look at elements it is those alone."""
+    """What something has inside, each once and with a name, and no more than so many.
+
+    For a look at elements it is those alone.
+    """
     seen, todo = {id(one)}, deque([(one, name, False)])
     while todo and len(seen) < MOST_NESTED:
         for part, called in _parts_inside(*todo.popleft(), depth):
@@ -149,7 +164,10 @@ def _parts_inside(one: Any, name: str, is_inside: bool, depth: str) -> Iterator[
         yield from ((part, of_elements) for part in _elements_of(one))
     elif field_inside(kind):
         for part in inside_of(one) if depth not in (SHOWN, WRITTEN) or id(kind) not in _BY_ADDRESS else ():
-            yield from ((inner, of_elements) for inner in _elements_of(part)) if depth in OF_ELEMENTS else [(part, name)]
+            if depth in OF_ELEMENTS:
+                yield from ((inner, of_elements) for inner in _elements_of(part))
+            else:
+                yield part, name
     elif depth not in OF_ELEMENTS:
         fields = fields_looked_at(one, depth, is_inside)
         yield from ((value_of_field(one, field), f"{name_of(kind)}.{field}") for field in fields)
@@ -172,12 +190,16 @@ def _elements_of(one: Any) -> list[Any]:
     return [] if base is None else list(base.__iter__(one))
 
 
-_MADE_FOR = {SHOWN: ("__repr__", "repr"), WRITTEN: ("__repr__", "repr"), COMPARED: ("__eq__", "compare"), ORDERED: ("__lt__", "compare")}
+_MADE_FOR = {
+    SHOWN: ("__repr__", "repr"), WRITTEN: ("__repr__", "repr"), COMPARED: ("__eq__", "compare"),
+    ORDERED: ("__lt__", "compare"),
+}
 """The method that `dataclass` makes for such a look, and what it asks each field for."""
 
 
 def fields_looked_at(one: Any, depth: str, is_inside: bool) -> list[str]:
-    """The fields of an object of the program that a function looks at by itself, and by no method of a class that is watched.
+    """The fields of an object of the program that a function looks at by itself, and by no method of a class that is
+    watched.
 
     What is inside of a container is compared for being equal first, and its text there is that for a programmer.
     """
@@ -194,11 +216,16 @@ def fields_looked_at(one: Any, depth: str, is_inside: bool) -> list[str]:
         return [] if is_own else [name for name in (*fields_of(one), *_slots_of(kind)) if type(name) is str]
     method, asked = _MADE_FOR[COMPARED if is_inside and depth == ORDERED else depth]
     has_own_text = depth == SHOWN and not is_inside and any([has_watched_method(kind, name) for name in _TEXT_METHODS])
-    return [] if has_own_text or not is_made(kind, method) else [name for name, field in fields.items() if getattr(field, asked)]
+    if has_own_text or not is_made(kind, method):
+        return []
+    return [name for name, field in fields.items() if getattr(field, asked)]
 
 
 def _slots_of(kind: type) -> list[str]:
-    return [name for base in mro_of(kind) for name, value in list(vars_of(base).items()) if type(value) is MemberDescriptorType]
+    return [
+        name for base in mro_of(kind) for name, value in list(vars_of(base).items())
+        if type(value) is MemberDescriptorType
+    ]
 
 
 def _declared_fields(kind: type) -> dict[str, Any]:

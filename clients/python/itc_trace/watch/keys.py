@@ -1,4 +1,5 @@
-"""What keys of dictionaries and sets are known by: keys that are equal are one key, as far as no code of the program has to say so."""
+"""What keys of dictionaries and sets are known by: keys that are equal are one key,
+as far as no code of the program has to say so."""
 
 from __future__ import annotations
 
@@ -15,7 +16,8 @@ from .decisions import class_with, ids_of, is_made, is_of, name_of, value_of_fie
 SIMPLE = ids_of((str, int, bytes, float, bool, type(None)))
 MOST_PARTS = 8
 LIBRARY = {
-    "datetime": ("date", "datetime", "time", "timedelta", "timezone"), "decimal": ("Decimal",), "fractions": ("Fraction",), "uuid": ("UUID",),
+    "datetime": ("date", "datetime", "time", "timedelta", "timezone"), "decimal": ("Decimal",),
+    "fractions": ("Fraction",), "uuid": ("UUID",),
     "pathlib": ("PurePosixPath", "PureWindowsPath", "PosixPath", "WindowsPath"), "builtins": ("complex", "range"),
     "ipaddress": ("IPv4Address", "IPv6Address", "IPv4Network", "IPv6Network"),
 }
@@ -69,7 +71,10 @@ def _is_named_tuple(kind: type) -> bool:
 
 
 def tell_of_unknown(key: Any, site: int) -> None:
-    """A key that is known by its identity alone may be equal to another one, and nobody knows. The last line says so."""
+    """A key that is known by its identity alone may be equal to another one, and nobody knows.
+
+    The last line says so.
+    """
     kind = type(key)
     owner = class_with(kind, "__eq__")
     if owner is not object and owner is not None and not is_of(kind, type):

@@ -1,7 +1,8 @@
-"""What is known of the library's containers, of their methods, and of functions that look at them: one table of each, in the journal's words.
+"""What is known of the library's containers, of their methods, and of functions that look at them: one table of each,
+in the journal's words.
 
-The hooks in both languages and the rewriting read what they need from what is gathered at the end. A new kind, method or function is one
-row here.
+The hooks in both languages and the rewriting read what they need from what is gathered at the end. A new kind, method
+or function is one row here.
 """
 
 from __future__ import annotations
@@ -28,8 +29,8 @@ TYPES: dict[int, tuple[type, ...]] = {
 }
 """The types of each kind. A class below one of these is of the same kind.
 
-A buffer is a text or bytes in memory. What is written stands at its end mostly, and who reads moves its position. Rows come by a writer
-of `csv`.
+A buffer is a text or bytes in memory. What is written stands at its end mostly, and who reads moves its position. Rows
+come by a writer of `csv`.
 """
 
 MAPS, VARIABLES, WRITER, REFERRED, WRITTEN_TO = "maps", "_data", "writer", "referred", "written to"
@@ -45,15 +46,18 @@ WITH_ONE_INSIDE: tuple[tuple[type, str], ...] = (
     (csv.DictWriter, WRITER),
     (type(_csv.writer(io.StringIO())), WRITTEN_TO),
 )
-"""Containers that are written in Python, and the field in which each has its elements. A writer of rows has what it writes to."""
+"""Containers that are written in Python, and the field in which each has its elements.
+
+A writer of rows has what it writes to.
+"""
 
 # How deep something is looked at
 
-SHOWN, WRITTEN, COMPARED, ORDERED, DECLARED, STATE, FIELDS = "shown written compared ordered declared state fields".split()
-EACH, TRUTH, CONTENT = "each", "truth", "content"
-"""How deep a function looks at what it is given: at all that its text has, or its text for a programmer, at what is compared for being
-equal or greater, at all fields that its class declares, at all of its state, at its own fields, at each element, at whether each has
-elements, or at all that containers have inside, and at no field of an object."""
+SHOWN, WRITTEN, COMPARED, ORDERED = "shown", "written", "compared", "ordered"
+DECLARED, STATE, FIELDS, EACH, TRUTH, CONTENT = "declared", "state", "fields", "each", "truth", "content"
+"""How deep a function looks at what it is given: at all that its text has, or its text for a programmer, at what is
+compared for being equal or greater, at all fields that its class declares, at all of its state, at its own fields, at
+each element, at whether each has elements, or at all that containers have inside, and at no field of an object."""
 OF_ELEMENTS = frozenset((EACH, TRUTH))
 BY_FIELDS = frozenset((SHOWN, WRITTEN, COMPARED, ORDERED, DECLARED, STATE, FIELDS))
 DEEP = (BY_FIELDS - {FIELDS}) | OF_ELEMENTS | {CONTENT}
@@ -61,15 +65,18 @@ DEEP = (BY_FIELDS - {FIELDS}) | OF_ELEMENTS | {CONTENT}
 # What methods do
 
 ITSELF, KEY, GIVEN = "itself", "key", "given"
-"""What a method touches: the container as a whole, the element whose key is its first argument, or the containers that it is given."""
+"""What a method touches: the container as a whole, the element whose key is its first argument,
+or the containers that it is given."""
 LATE, IN_PLACE = "late", "in place"
 """When: after all arguments are there, or where an assignment as `+=` calls it."""
 
 
 class Methods(NamedTuple):
-    """What methods of some kinds do. With no kind it is any that has them, unless a class of the program has them itself.
+    """What methods of some kinds do. With no kind it is any that has them, unless a class of the program has them
+    itself.
 
-    An element is read, written, deleted, read and written if it is not there, or compared with one after another: r, w, d, rw or c.
+    An element is read, written, deleted, read and written if it is not there, or compared with one after another: r, w,
+    d, rw or c.
     """
 
     kinds: tuple[int, ...]
@@ -82,8 +89,8 @@ class Methods(NamedTuple):
 
 _OF_ALL = "__eq__ __ne__ __lt__ __le__ __gt__ __ge__ __repr__ __str__ __format__ copy __copy__"
 _OF_BYTES = (
-    "find rfind rindex startswith endswith decode hex split rsplit splitlines partition rpartition strip lstrip rstrip replace "
-    "translate upper lower title capitalize swapcase center ljust rjust zfill expandtabs removeprefix removesuffix "
+    "find rfind rindex startswith endswith decode hex split rsplit splitlines partition rpartition strip lstrip rstrip "
+    "replace translate upper lower title capitalize swapcase center ljust rjust zfill expandtabs removeprefix removesuffix "
     "isalnum isalpha isascii isdigit islower isspace istitle isupper"
 )
 _METHODS = (
@@ -113,8 +120,10 @@ _METHODS = (
     Methods((DICT,), "pop __delitem__", KEY, "d"),
     Methods((DICT,), "setdefault", KEY, "rw"),
 
-    Methods((SET,), f"{_OF_ALL} __iter__ __or__ __and__ __sub__ __xor__ __ror__ __rand__ __rsub__ __rxor__", ITSELF, ITERATION),
-    Methods((SET,), "union intersection difference symmetric_difference issubset issuperset isdisjoint", ITSELF, ITERATION),
+    Methods((SET,), f"{_OF_ALL} __iter__", ITSELF, ITERATION),
+    Methods((SET,), "__or__ __and__ __sub__ __xor__ __ror__ __rand__ __rsub__ __rxor__", ITSELF, ITERATION),
+    Methods((SET,), "union intersection difference symmetric_difference", ITSELF, ITERATION),
+    Methods((SET,), "issubset issuperset isdisjoint", ITSELF, ITERATION),
     Methods((SET,), "update", ITSELF, ADDITION, when=LATE),
     Methods((SET,), "__ior__", ITSELF, ADDITION),
     Methods((SET,), "pop", ITSELF, REMOVAL),
@@ -135,7 +144,8 @@ _METHODS = (
     Methods((BUFFER,), "write writelines writerow writerows writeheader", ITSELF, ADDITION),
     Methods((BUFFER,), "getvalue getbuffer", ITSELF, ITERATION),
     Methods((BUFFER,), "tell", ITSELF, LENGTH),
-    Methods((BUFFER,), "read read1 readline readlines readinto __iter__ __next__ __contains__ seek truncate", ITSELF, REWRITE),
+    Methods((BUFFER,), "read read1 readline readlines readinto __iter__ __next__ __contains__", ITSELF, REWRITE),
+    Methods((BUFFER,), "seek truncate", ITSELF, REWRITE),
 
     Methods((), "__iadd__", ITSELF, ADDITION, when=IN_PLACE),
     Methods((), "__imul__ __ior__ __iand__ __ixor__ __isub__", ITSELF, REWRITE, when=IN_PLACE),
@@ -156,8 +166,8 @@ _METHODS = (
 ALL = "*"
 """All functions of a module for which no other row says more."""
 FIRST, SECOND, FIRST_BY_SECOND, STEPS, LATER = "first", "second", "first by second", "steps", "later"
-"""Which argument a function touches: the first one, the second one, the first one after a look at the second one, what it is given with
-each step of what it gives, or what it is given, but only later."""
+"""Which argument a function touches: the first one, the second one, the first one after a look at the second one, what
+it is given with each step of what it gives, or what it is given, but only later."""
 
 
 class Functions(NamedTuple):
@@ -203,7 +213,9 @@ _FUNCTIONS = (
     Functions("html", ALL, ITERATION),
     Functions("io", "BytesIO", ITERATION),
     Functions("itertools", ALL, ITERATION),
-    Functions("itertools", "chain islice cycle accumulate compress dropwhile filterfalse groupby", ITERATION, argument=STEPS),
+    Functions(
+        "itertools", "chain islice cycle accumulate compress dropwhile filterfalse groupby", ITERATION, argument=STEPS,
+    ),
     Functions("itertools", "pairwise starmap takewhile zip_longest batched", ITERATION, argument=STEPS),
     Functions("itertools.chain", "from_iterable", ITERATION, EACH),
     Functions("json", ALL, ITERATION),
@@ -253,7 +265,8 @@ WHOLE: dict[int, dict[str, str]] = {
 }
 """What each method does to the shape of a container."""
 KEYED: dict[str, dict[int, str]] = {
-    name: {kind: row.words for row, same in _methods(KEY) if same == name for kind in row.kinds} for _, name in _methods(KEY)
+    name: {kind: row.words for row, same in _methods(KEY) if same == name for kind in row.kinds}
+    for _, name in _methods(KEY)
 }
 """Methods whose first argument is a key, and what each kind does to the element."""
 CONSUMING = {name: row.words for row, name in _methods(GIVEN)}
@@ -263,7 +276,8 @@ DEPTHS_OF_METHODS = {name: row.inside for row, name in _methods(GIVEN) if row.in
 LATE_METHODS = frozenset(name for touched in (ITSELF, KEY) for _, name in _methods(touched, LATE))
 """Those that change a container after all of their arguments are there."""
 IN_PLACE_METHODS: dict[str, tuple[str, ...]] = {
-    words: tuple(name for row, name in _methods(ITSELF, IN_PLACE) if row.words == words) for words in (ADDITION, REWRITE)
+    words: tuple(name for row, name in _methods(ITSELF, IN_PLACE) if row.words == words)
+    for words in (ADDITION, REWRITE)
 }
 """Those that an assignment as `+=` calls, by what it does to a container."""
 
@@ -275,7 +289,9 @@ METHODS = frozenset(name for names in WHOLE.values() for name in names) | frozen
 
 READERS = {name: row.words for row in _FUNCTIONS if row.module == BUILTINS for name in row.names.split()}
 """Functions of the language that look at what they are given."""
-SHOWING = {name: row.inside for row in _FUNCTIONS if row.module == BUILTINS and row.inside for name in row.names.split()}
+SHOWING = {
+    name: row.inside for row in _FUNCTIONS if row.module == BUILTINS and row.inside for name in row.names.split()
+}
 """Those that show what is inside, too, and how."""
 STEPPERS = frozenset(
     name for row in _FUNCTIONS if row.module == BUILTINS and row.argument == STEPS for name in row.names.split()

@@ -1,7 +1,8 @@
 """Keeps in short what one task alone touches, and works out what it comes to once a second task reaches the same owner.
 
-What one task alone touches is nobody's race. So a hook keeps a mark, and what the touch depends on that may be another one later. Things,
-kinds and keys are made of that when the owner is shared, or never. From then on each touch of the owner is noted as it comes.
+What one task alone touches is nobody's race. So a hook keeps a mark, and what the touch depends on that may be another
+one later. Things, kinds and keys are made of that when the owner is shared, or never. From then on each touch of the
+owner is noted as it comes.
 """
 
 from __future__ import annotations
@@ -26,7 +27,10 @@ Touches = dict[Any, Touched]
 
 READ_ONLY = "r"
 ADDED, FOUND = "added", "found"
-"""What `setdefault` does to a key. The two are told apart from a write and a read, since it looks and adds at once: two of them do not race."""
+"""What `setdefault` does to a key.
+
+The two are told apart from a write and a read, since it looks and adds at once: two of them do not race.
+"""
 LOOKING = frozenset(("r", "rw", "c", ADDED, FOUND))
 CHANGING = frozenset(("w", "rw", "d", ADDED))
 _OF_ELEMENTS = {"r": READ, ADDED: ADDITION, FOUND: LOOKUP}
@@ -52,7 +56,9 @@ def plain_field(owner: Owner, told: Touches, line: Line | None, site: int) -> To
     return by_kinds(owner.base + site, thing, access.kinds or READ_ONLY, site)
 
 
-def named_field(owner: Owner, told: Touches, line: Line | None, mark: Any, class_name: str, name: str, kinds: str, site: int) -> Touches:
+def named_field(
+    owner: Owner, told: Touches, line: Line | None, mark: Any, class_name: str, name: str, kinds: str, site: int,
+) -> Touches:
     return by_kinds((owner.base, mark), field_of(owner, class_name, name, told, line), kinds, site)
 
 
@@ -68,7 +74,9 @@ def cell(owner: Owner, told: Touches, line: Line | None, site: int) -> Touches:
     return by_kinds(owner.base + site, owner.things[access.name], access.kinds, site)
 
 
-def index_of_deque(owner: Owner, told: Touches, line: Line | None, key: int, place: int, kinds: str, site: int) -> Touches:
+def index_of_deque(
+    owner: Owner, told: Touches, line: Line | None, key: int, place: int, kinds: str, site: int,
+) -> Touches:
     """An index of a deque, which grows and shrinks at both ends: what stands there depends on the length."""
     touches = index(owner, told, line, key, place, kinds, site)
     if kinds != "w":
@@ -92,7 +100,9 @@ def index(owner: Owner, told: Touches, line: Line | None, key: int, place: int, 
     return touches
 
 
-def key(owner: Owner, told: Touches, line: Line | None, mark: Any, name: Any, kinds: str, change: str, site: int) -> Touches:
+def key(
+    owner: Owner, told: Touches, line: Line | None, mark: Any, name: Any, kinds: str, change: str, site: int,
+) -> Touches:
     """A key of a dictionary or a set, by its mark and its name. `change` is what becomes of the shape."""
     whole, of_all, element = owner.base + site, shape_of(owner, told, line), element_of(owner, mark, name, told, line)
     touches: Touches = {}
@@ -131,7 +141,10 @@ def _worked_out(owner: Owner, mark: Any, late: Late, told: Touches, line: Line |
 
 
 def saw(owner: Owner, mark: Any, late: Late = None, is_repeated: bool = False) -> None:
-    """Keeps a touch, by a mark that is the same for the same touch. What is repeated comes to the same in any stretch."""
+    """Keeps a touch, by a mark that is the same for the same touch.
+
+    What is repeated comes to the same in any stretch.
+    """
     note = state.note
     if note is None:
         if state.witness is not None:
@@ -237,7 +250,8 @@ def touches_of(owner: Owner, marks: Iterable[tuple[Any, Late]], line: Line | Non
 
 
 _shortening = allocate_lock()
-"""Whoever puts other stretches in the place of the first ones of a history has it, so that nobody else does so meanwhile."""
+"""Whoever puts other stretches in the place of the first ones of a history has it,
+so that nobody else does so meanwhile."""
 if hasattr(os, "register_at_fork"):
     os.register_at_fork(after_in_child=_shortening._at_fork_reinit)  # type: ignore[attr-defined]
 
@@ -257,7 +271,9 @@ def _taken_together(history: list[Any]) -> list[Any]:
     kept: dict[Any, Any] = {}
     for place, seen in enumerate(history):
         stretch = seen.stretch
-        first = kept.setdefault((stretch.events, stretch.held, stretch.loop, stretch.turn) if stretch.events else place, seen)
+        first = kept.setdefault(
+            (stretch.events, stretch.held, stretch.loop, stretch.turn) if stretch.events else place, seen,
+        )
         if first is not seen:
             _add_marks(first, seen)
     return list(kept.values())

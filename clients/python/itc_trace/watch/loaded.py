@@ -87,7 +87,8 @@ def _all_codes(code: CodeType) -> Iterator[CodeType]:
 def _replace(function: FunctionType, codes: dict[Mark, CodeType]) -> None:
     """Gives a function its code with hooks. One that is not told apart from another is left as it is."""
     made = codes.get(mark_of(function.__code__))
-    if made is not None and made.co_argcount == function.__code__.co_argcount and made.co_varnames == function.__code__.co_varnames:
+    plain = function.__code__
+    if made is not None and made.co_argcount == plain.co_argcount and made.co_varnames == plain.co_varnames:
         function.__code__ = made
 
 

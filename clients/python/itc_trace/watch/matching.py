@@ -1,4 +1,7 @@
-"""Follows the patterns of a `match` statement with its subject, and notes what they look at. No code of the program is run."""
+"""Follows the patterns of a `match` statement with its subject, and notes what they look at.
+
+No code of the program is run.
+"""
 
 from __future__ import annotations
 
@@ -130,7 +133,8 @@ class Matching:
         answers = [YES if is_one else MAYBE]
         names = _names_by_place(wanted if is_class else kind)
         if pattern.by_place and names is None:
-            answers += [self._look(one, value if is_one and _flags_of(wanted) & ITSELF else NOT_KNOWN) for one in pattern.by_place]
+            seen = value if is_one and _flags_of(wanted) & ITSELF else NOT_KNOWN
+            answers += [self._look(one, seen) for one in pattern.by_place]
         for name, one in zip(names or (), pattern.by_place):
             self._touching.field(value, pattern.site, Access("named", "r", name, "", ""))
             answers.append(self._look(one, _inside(value, name)))
@@ -150,8 +154,8 @@ class Matching:
 
 
 _LOOKS: dict[type, Callable[[Matching, Any, Any], int]] = {
-    Same: Matching._same, Named: Matching._named, Either: Matching._either, InRow: Matching._in_row, ByKey: Matching._by_key,
-    OfClass: Matching._of_class,
+    Same: Matching._same, Named: Matching._named, Either: Matching._either, InRow: Matching._in_row,
+    ByKey: Matching._by_key, OfClass: Matching._of_class,
 }
 
 

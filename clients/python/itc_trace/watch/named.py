@@ -1,4 +1,5 @@
-"""The packages that were named to be watched, of which nothing was: they are not there, were not imported, or have no source."""
+"""The packages that were named to be watched, of which nothing was: they are not there, were not imported,
+or have no source."""
 
 from __future__ import annotations
 
@@ -14,7 +15,10 @@ _told: set[str] = set()
 
 
 def tell_missing(packages: Sequence[str], folder: str) -> None:
-    """Says at once which of them a program of this folder would not find. It may find them later, by a path that it sets."""
+    """Says at once which of them a program of this folder would not find.
+
+    It may find them later, by a path that it sets.
+    """
     sys.path.insert(0, folder)
     try:
         for name in packages:

@@ -1,4 +1,7 @@
-"""What the patterns of a `match` statement look at, in their order. It is worked out for a subject when the statement is reached."""
+"""What the patterns of a `match` statement look at, in their order.
+
+It is worked out for a subject when the statement is reached.
+"""
 
 from __future__ import annotations
 
@@ -83,7 +86,10 @@ def looks(pattern: Any) -> bool:
 class Patterns:
     """Makes the patterns of a module's statements from its syntax tree."""
 
-    def __init__(self, learned: Learned, site: Callable[..., int], text: Callable[[Any], str], is_of_module: Callable[[str], bool]) -> None:
+    def __init__(
+        self, learned: Learned, site: Callable[..., int], text: Callable[[Any], str],
+        is_of_module: Callable[[str], bool],
+    ) -> None:
         self._learned = learned
         self._site = site
         self._text_of = text
@@ -125,7 +131,8 @@ class Patterns:
         star: Any = node.patterns[place] if stars else None
         before, after = node.patterns[:place], node.patterns[place + 1:]
         return InRow(
-            tuple(map(self._made, before)), tuple(map(self._made, after)), bool(stars), star is not None and star.name is not None,
+            tuple(map(self._made, before)), tuple(map(self._made, after)), bool(stars),
+            star is not None and star.name is not None,
             self._whole(node, LENGTH), self._whole(node, ITERATION), self._site(node, "element", "r", "", self._text),
         )
 
@@ -136,9 +143,12 @@ class Patterns:
 
     def _make_MatchClass(self, node: ast.MatchClass) -> Any:
         by_name = tuple(
-            (name, self._site(one, "field", "r", name), self._made(one)) for name, one in zip(node.kwd_attrs, node.kwd_patterns)
+            (name, self._site(one, "field", "r", name), self._made(one))
+            for name, one in zip(node.kwd_attrs, node.kwd_patterns)
         )
-        return OfClass(self._names(node.cls), tuple(map(self._made, node.patterns)), by_name, self._site(node, "field", "r"))
+        return OfClass(
+            self._names(node.cls), tuple(map(self._made, node.patterns)), by_name, self._site(node, "field", "r"),
+        )
 
     def _whole(self, node: ast.pattern, kind: str) -> int:
         return self._site(node, "whole", kind, "", self._text)

@@ -25,7 +25,8 @@ class Access:
         self.text = text
         self.module = module
         self.words = words
-        """What else is known of the place: which fields a method is given, what becomes of what is inside, or whether it is made there."""
+        """What else is known of the place: which fields a method is given, what becomes of what is inside,
+        or whether it is made there."""
         self.decided: dict[int, int] = {}
 
 
@@ -80,7 +81,10 @@ def new_site(file: str, line: int, function: str, access: Access) -> int:
 
 
 def new_sites(file: str, module: str, lines: list[int], functions: list[str], rows: list[AccessRow]) -> int:
-    """The number of the first one of a module's sites. The others follow it. Threads that import modules may want some at a time."""
+    """The number of the first one of a module's sites. The others follow it.
+
+    Threads that import modules may want some at a time.
+    """
     with _numbering:
         first = len(SITES)
         ACCESSES.extend(first, module, rows)

@@ -1,4 +1,5 @@
-"""Puts what a rewriting has found where hooks look for it, and has the code with hooks know its places by their numbers."""
+"""Puts what a rewriting has found where hooks look for it,
+and has the code with hooks know its places by their numbers."""
 
 from __future__ import annotations
 
@@ -26,9 +27,11 @@ def placed(code: CodeType, found: Found, file: str, module: str) -> CodeType:
 
 
 def _moved(code: CodeType, first: int, last: int, shift: int) -> CodeType:
-    """The code, with each number of a place as it is in this process: those from the first one to before the last one are moved."""
+    """The code, with each number of a place as it is in this process:
+    those from the first one to before the last one are moved."""
     return code.replace(co_consts=tuple([
-        (one + shift if first <= one < last else one) if type(one) is int else _moved(one, first, last, shift) if type(one) is CodeType else one
+        (one + shift if first <= one < last else one) if type(one) is int else _moved(one, first, last, shift)
+        if type(one) is CodeType else one
         for one in code.co_consts
     ]))
 

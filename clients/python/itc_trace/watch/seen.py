@@ -8,7 +8,10 @@ from ..model.lines import Stretch
 from .helper import quick
 
 Late = tuple[Any, ...] | None
-"""What a touch comes to, to be worked out late: a function of `late` and what it is given. None stands for a plain field."""
+"""What a touch comes to, to be worked out late: a function of `late` and what it is given.
+
+None stands for a plain field.
+"""
 
 
 class PureSeen(dict[Any, Late]):

@@ -1,4 +1,5 @@
-"""What a text shows of each thing that it is formatted with, as `"{0.name} {rows[3]}"`: fields and elements of it, or all."""
+"""What a text shows of each thing that it is formatted with, as `"{0.name} {rows[3]}"`: fields and elements of it,
+or all."""
 
 from __future__ import annotations
 

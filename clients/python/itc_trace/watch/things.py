@@ -1,7 +1,7 @@
 """What tasks touch: fields, variables, cells, elements and shapes, each with a name that a person knows.
 
-An object is known by its identity while it is there. What can be referred to weakly leaves as soon as the program lets go of it.
-What cannot, as a list or a dict, is held from its first touch among several tasks until nobody else holds it.
+An object is known by its identity while it is there. What can be referred to weakly leaves as soon as the program lets
+go of it. What cannot, as a list or a dict, is held from its first touch among several tasks until nobody else holds it.
 """
 
 from __future__ import annotations
@@ -101,8 +101,8 @@ class OwnerFields:
     """What is known of an owner. The helper in C has the same."""
 
     __slots__ = (
-        "base", "class_name", "maker", "site", "seen", "history", "is_sharing", "is_shared", "things", "recipes", "reference",
-        "_name", "_made", "_making",
+        "base", "class_name", "maker", "site", "seen", "history", "is_sharing", "is_shared", "things", "recipes",
+        "reference", "_name", "_made", "_making",
     )
 
     def __init__(self, base: int, class_name: str, name: str, making: Made | None) -> None:
@@ -136,7 +136,8 @@ else:
 class Owner(Fields):
     """An object, a class, a module or a cell, with the things of it that were touched.
 
-    As long as one task alone has touched it, `history` has what it has seen in each stretch, and there are no things of it.
+    As long as one task alone has touched it, `history` has what it has seen in each stretch, and there are no things of
+    it.
     """
 
     __slots__ = ()
@@ -279,7 +280,8 @@ def _with_article(kind: str) -> str:
     return f"{'an' if kind[:1] in 'AEIOUaeiou' else 'a'} {kind}"
 
 
-# The things of an owner. `told` takes the makings, if the task of the line that touches a thing first has made the owner.
+# The things of an owner. `told` takes the makings, if the task of the line that touches a thing first has made the
+# owner.
 
 
 def _added(owner: Owner, mark: Any, made: Any, told: dict[Any, Touched], line: Line | None) -> Any:
@@ -301,7 +303,8 @@ _PRIVATE = re.compile(r"_([^\W_]\w*?)(__\w*[^\W_]_?)")
 
 
 def _field_named(owner: Owner, class_name: str, name: str) -> str:
-    """The name of a field as the program has it: that of a function is called by the function, and `_Shop__left` is `__left`."""
+    """The name of a field as the program has it: that of a function is called by the function,
+    and `_Shop__left` is `__left`."""
     one = owner.reference() if class_name == FunctionType.__name__ and owner.reference is not None else None
     if type(one) is FunctionType:
         return f"{one.__qualname__.rpartition('<locals>.')[2]}.{name}"
@@ -322,7 +325,10 @@ def shape_of(owner: Owner, told: dict[Any, Touched], line: Line | None) -> Thing
 
 
 def mark_of(key: Any, value: Any) -> tuple[Any, Any]:
-    """What a key is known by, and what is told of it. If its hash is the program's own code, its identity is its mark."""
+    """What a key is known by, and what is told of it.
+
+    If its hash is the program's own code, its identity is its mark.
+    """
     if value is key:
         return (key,), key
     told = KeyOfType(f"a {name_of(type(key))}")

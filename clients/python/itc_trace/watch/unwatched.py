@@ -17,14 +17,27 @@ def files_without_hooks(selection: Selection) -> list[Unseen]:
     files = {one.__code__.co_filename for one in gc.get_objects() if type(one) is FunctionType} - FILES
     own = _own_folders({os.path.dirname(file) for file in files}, selection)
     known = {os.path.realpath(file) for file in FILES}
-    left = {file for file in files if _is_source(file) and os.path.dirname(file) in own and os.path.realpath(file) not in known}
-    return [Unseen(Cause.MODULE, f"{os.path.basename(file)} was not watched, as it was not imported from a source file") for file in sorted(left)]
+    left = {
+        file for file in files
+        if _is_source(file) and os.path.dirname(file) in own and os.path.realpath(file) not in known
+    }
+    return [
+        Unseen(Cause.MODULE, f"{os.path.basename(file)} was not watched, as it was not imported from a source file")
+        for file in sorted(left)
+    ]
+
+
+def _touches(count: int) -> str:
+    return "1 touch" if count == 1 else f"{count} touches"
 
 
 def touches_lost() -> list[Unseen]:
     """The touches that hooks have failed to note, by place. Tracing went on behind them."""
     return [
-        Unseen(Cause.TRACER, f"{count} touch{'' if count == 1 else 'es'} could not be noted{_told_at(code, instruction)}: {fault} in a hook")
+        Unseen(
+            Cause.TRACER,
+            f"{_touches(count)} could not be noted{_told_at(code, instruction)}: {fault} in a hook",
+        )
         for (code, instruction, fault), count in list(LOST.items())
     ]
 
@@ -39,6 +52,9 @@ def _is_source(file: str) -> bool:
 
 
 def _own_folders(folders: set[str], selection: Selection) -> set[str]:
-    """Those whose modules are watched. There are far fewer of them than files, and to look at one takes some calls of the system."""
+    """Those whose modules are watched.
+
+    There are far fewer of them than files, and to look at one takes some calls of the system.
+    """
     others = (folder for folder in folders if not (folder + os.sep).startswith(LIBRARY_FOLDERS))
     return {folder for folder in others if selection.has_file("", os.path.join(folder, "module.py"))}
