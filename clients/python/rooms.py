@@ -1,6 +1,7 @@
 """The map of the package: which folder is for what, and which folders and modules its imports lead to.
 
-A folder depends on those above it alone, by imports of any kind: those of a module, those within functions, and those for types.
+A folder depends on those above it alone, by imports of any kind: those of a module, those within functions, and those
+for types.
 
 Usage: rooms.py [--write]. It prints the map, or writes it into CONTRIBUTING.md.
 """
@@ -44,13 +45,17 @@ def _name(path: Path) -> str:
 def imports() -> list[Import]:
     """All imports of the package's modules by each other."""
     known = modules()
-    return sorted({Import(name, one, line) for name, path in known.items() for one, line in _imported_by(name, path, known) if one != name})
+    found = ((name, one, line) for name, path in known.items() for one, line in _imported_by(name, path, known))
+    return sorted({Import(name, one, line) for name, one, line in found if one != name})
 
 
 def _imported_by(name: str, path: Path, known: dict[str, Path]) -> Iterator[tuple[str, int]]:
     for node in ast.walk(ast.parse(path.read_text(encoding="utf-8"))):
         if isinstance(node, ast.Import):
-            yield from ((one.name.partition(".")[2], node.lineno) for one in node.names if one.name.partition(".")[0] == PACKAGE.name)
+            yield from (
+                (one.name.partition(".")[2], node.lineno) for one in node.names
+                if one.name.partition(".")[0] == PACKAGE.name
+            )
         elif isinstance(node, ast.ImportFrom):
             base = _base(node, name.split(".") if path.name == "__init__.py" else name.split(".")[:-1])
             if base is not None:
@@ -63,7 +68,8 @@ def _base(node: ast.ImportFrom, package: list[str]) -> str | None:
     """The module that names are imported from. None if it is not of the package."""
     words = node.module.split(".") if node.module else []
     if node.level:
-        return ".".join([one for one in package if one][: len([one for one in package if one]) - node.level + 1] + words)
+        folders = [one for one in package if one]
+        return ".".join(folders[: len(folders) - node.level + 1] + words)
     return ".".join(words[1:]) if words[:1] == [PACKAGE.name] else None
 
 
@@ -81,7 +87,10 @@ def back_edges() -> list[Import]:
 
 
 def cycles() -> list[list[str]]:
-    """The groups of modules that import each other, by whichever way (Tarjan 1972). A package's own module counts as one."""
+    """The groups of modules that import each other, by whichever way (Tarjan 1972).
+
+    A package's own module counts as one.
+    """
     after: dict[str, list[str]] = {name: [] for name in modules()}
     for one in imports():
         after.setdefault(one.module, []).append(one.imported)
@@ -113,14 +122,16 @@ def cycles() -> list[list[str]]:
 
 
 def drawn() -> str:
-    """The map as a table: what each folder is for, by the first words of its own module, and which folders it imports from."""
+    """The map as a table: what each folder is for, by the first words of its own module,
+    and which folders it imports from."""
     rows = ["| Folder | What is in it | It imports from |", "|---|---|---|"]
     known = imports()
     for folder in FOLDERS:
         text = ast.get_docstring(ast.parse((PACKAGE / folder / "__init__.py").read_text(encoding="utf-8"))) or ""
         below = {one.imported.partition(".")[0] for one in known if one.module.partition(".")[0] == folder} - {folder}
         named = ", ".join(f"`{one}`" for one in sorted(below, key=lambda one: (height(one), one)))
-        rows.append(f"| `{folder}` | {text.partition(chr(10))[0]} | {named or 'nothing'} |")
+        told = " ".join(text.partition("\n\n")[0].split())
+        rows.append(f"| `{folder}` | {told} | {named or 'nothing'} |")
     return "\n".join(rows) + "\n"
 
 

@@ -1,7 +1,8 @@
 /* The hooks of watched modules, and what they look at for most touches, in C.
 
-   They do what the hooks of hooks.py do, which they stand in for: these say why. What is rare is left to them, too. Whatever is asked of
-   a type is asked once for each place, and kept for as long as the type stays as it is. No code of the program is run. */
+   They do what the hooks of hooks.py do, which they stand in for: these say why. What is rare is left to them, too.
+   Whatever is asked of a type is asked once for each place, and kept for as long as the type stays as it is. No code of
+   the program is run. */
 
 #define PY_SSIZE_T_CLEAN
 #include <Python.h>
@@ -14,7 +15,8 @@
 #error "It is for Python 3.11 to 3.13 with a global lock: others have other objects."
 #endif
 
-/* A type has a version while nothing of it or of its bases is changed. Since Python 3.13 no flag says so beside the number. */
+/* A type has a version while nothing of it or of its bases is changed. Since Python 3.13 no flag says so beside the
+   number. */
 #if PY_VERSION_HEX >= 0x030D0000
 #define HAS_VERSION(type) ((type)->tp_version_tag != 0)
 #else
@@ -42,7 +44,8 @@ static struct {
     PyObject *lost;           /* What is told of a touch that could not be noted. */
     PyObject *fields_of;      /* Whose fields some dictionaries have. */
     PyObject *followed;       /* Types whose objects need not be held: they may be seen to go. */
-    PyObject *field, *whole, *nested, *method, *steps, *keyed, *variable, *cell, *went_on;  /* What is done for the rest. */
+    /* What is done for the rest. */
+    PyObject *field, *whole, *nested, *method, *steps, *keyed, *variable, *cell, *went_on;
     long long begun_more;     /* How many references more the beginning of a constructor counts. */
 } given;
 
@@ -133,8 +136,8 @@ static int owner_traverse(Owner *self, visitproc visit, void *arg)
 static int owner_clear(Owner *self)
 {
     PyObject **fields[] = {
-        &self->base, &self->class_name, &self->maker, &self->site, &self->seen, &self->history, &self->things, &self->recipes,
-        &self->reference, &self->name, &self->made, &self->making,
+        &self->base, &self->class_name, &self->maker, &self->site, &self->seen, &self->history, &self->things,
+        &self->recipes, &self->reference, &self->name, &self->made, &self->making,
     };
     for (size_t place = 0; place < sizeof fields / sizeof *fields; place++)
         Py_CLEAR(*fields[place]);
@@ -348,7 +351,8 @@ static int make_room_for_held(void)
 
 static int leave_owner(Owner *owner)
 {
-    PyObject *left = owner->things == NULL ? Py_NewRef(Py_None) : PyObject_CallMethodNoArgs((PyObject *)owner, text_leave);
+    PyObject *left = owner->things == NULL ? Py_NewRef(Py_None)
+                                           : PyObject_CallMethodNoArgs((PyObject *)owner, text_leave);
     Py_XDECREF(left);
     return left == NULL ? -1 : 0;
 }
@@ -382,8 +386,9 @@ static int hold(PyObject *one)
     return 0;
 }
 
-/* What tells by how its type frees it that it is gone, and so is not held. The types are those that the Python part has named. Lists, dicts
-   and faults that are nested deeply go one after another. The interpreter does so too, but only where the type has not been changed. */
+/* What tells by how its type frees it that it is gone, and so is not held. The types are those that the Python part has
+   named. Lists, dicts and faults that are nested deeply go one after another. The interpreter does so too, but only
+   where the type has not been changed. */
 
 #define MOST_FOLLOWED 256
 
@@ -471,7 +476,8 @@ static destructor freed_as(PyTypeObject *type)
     return type == &PyList_Type ? freed_list : type == &PyDict_Type ? freed_dict : freed_object;
 }
 
-/* Whether objects of a type tell that they are gone. A class of the program is freed by the first of its bases that is none. */
+/* Whether objects of a type tell that they are gone. A class of the program is freed by the first of its bases that is
+   none. */
 static int is_followed(PyTypeObject *type)
 {
     destructor of_classes = ((PyTypeObject *)given.owner_type)->tp_dealloc;
@@ -568,8 +574,8 @@ static PyTypeObject OwnersType = {
 
 static long long next_base = 1LL << 32;
 
-/* Fills an owner in. A weak reference tells when its object is gone, and before a finalizer of garbage runs, which any thread may do. The
-   type tells of an object without weak references, if it is followed. Else the object is held. */
+/* Fills an owner in. A weak reference tells when its object is gone, and before a finalizer of garbage runs, which any
+   thread may do. The type tells of an object without weak references, if it is followed. Else the object is held. */
 static Owner *new_owner(PyObject *one, PyObject *name)
 {
     PyTypeObject *type = Py_TYPE(one);
@@ -589,7 +595,8 @@ static Owner *new_owner(PyObject *one, PyObject *name)
     made = PyDict_GetItemWithError(given.made, key);
     if (made == NULL && PyErr_Occurred())
         goto fail;
-    if (made != NULL && PyTuple_Check(made) && PyTuple_GET_SIZE(made) == 4 && PyUnicode_Compare(PyTuple_GET_ITEM(made, 0), owner->class_name) == 0) {
+    if (made != NULL && PyTuple_Check(made) && PyTuple_GET_SIZE(made) == 4
+        && PyUnicode_Compare(PyTuple_GET_ITEM(made, 0), owner->class_name) == 0) {
         owner->making = Py_NewRef(made);
         if (PyTuple_GET_ITEM(made, 1) == Py_None) {
             Py_SETREF(owner->site, Py_NewRef(PyTuple_GET_ITEM(made, 2)));
@@ -680,7 +687,8 @@ static Decision decisions[MOST_DECISIONS];
 
 static inline size_t slot_of_decision(PyTypeObject *type, long site)
 {
-    return (size_t)((((uintptr_t)type >> 4) * 0x9E3779B97F4A7C15u + (uint64_t)site * 0xC2B2AE3D27D4EB4Fu) >> 40) & (MOST_DECISIONS - 1);
+    uint64_t mixed = ((uintptr_t)type >> 4) * 0x9E3779B97F4A7C15u + (uint64_t)site * 0xC2B2AE3D27D4EB4Fu;
+    return (size_t)(mixed >> 40) & (MOST_DECISIONS - 1);
 }
 
 static void clear_decision(Decision *known)
@@ -737,7 +745,7 @@ static inline Decision *decision_of(PyTypeObject *type, PyObject *site, const ch
     return decide(type, site, known, hook);
 }
 
-/* Whether the object itself has the field: 0 or 1, and -1 if the Python part has to find out. No descriptor is called. */
+/* Whether the object itself has the field: 0 or 1, and -1 if the Python part has to find out. No descriptor runs. */
 static int has_own(PyObject *one, PyObject *field)
 {
     PyObject *of_class = _PyType_Lookup(Py_TYPE(one), field);
@@ -809,7 +817,8 @@ static int note_of_shared(Owner *owner, PyObject *stretch, PyObject *mark, PyObj
     }
     if (PyErr_Occurred())
         return -1;
-    PyObject *noted = PyObject_CallFunctionObjArgs(given.note_shared, owner, stretch, mark, late, is_repeated ? Py_True : Py_False, NULL);
+    PyObject *repeated = is_repeated ? Py_True : Py_False;
+    PyObject *noted = PyObject_CallFunctionObjArgs(given.note_shared, owner, stretch, mark, late, repeated, NULL);
     Py_XDECREF(noted);
     return noted == NULL ? -1 : 0;
 }
@@ -898,14 +907,16 @@ static int see_as(PyObject *one, PyObject *mark, PyObject *late, PyObject *name,
 
 static PyObject *see(PyObject *one, PyObject *site, Decision *decision, PyObject *back)
 {
-    PyObject *late = Py_NewRef(decision->late), *name = Py_NewRef(decision->name);  /* What comes next may decide anew. */
+    /* What comes next may decide anew. */
+    PyObject *late = Py_NewRef(decision->late), *name = Py_NewRef(decision->name);
     int result = see_as(one, site, late, name, 1);
     Py_DECREF(late);
     Py_DECREF(name);
     return end_hook(back, result);
 }
 
-/* The owner of an object, which it has no more once its finalizer runs: any thread may do that, and nobody else has the object. */
+/* The owner of an object, which it has no more once its finalizer runs: any thread may do that, and nobody else has the
+   object. */
 static Owner *owner_in_use(PyObject *one)
 {
     Owner *owner = find_owner(one);
@@ -927,7 +938,8 @@ static PyObject *touch_field(PyObject *one, PyObject *site, Py_ssize_t limit, co
     if (owner == NULL ? Py_REFCNT(one) <= limit : is_seen(owner, site))
         return Py_NewRef(one);
     if (what == IF_OWN || what == OWN_OR_OF_CLASS) {
-        PyObject *field = Py_NewRef(decision->field);  /* A look into an object's own fields may have it decided anew. */
+        /* A look into an object's own fields may have it decided anew. */
+        PyObject *field = Py_NewRef(decision->field);
         int is_own = has_own(one, field);
         Py_DECREF(field);
         if (is_own == 0 && what == IF_OWN)
@@ -967,9 +979,11 @@ static PyObject *touch_whole(PyObject *one, PyObject *site, Py_ssize_t limit)
         return Py_NewRef(one);
     Owner *owner = find_owner(one);
     if (decision->what == LEFT || has_fields(one))
-        return owner != NULL && is_seen(owner, site) ? Py_NewRef(one) : left_to_whole(one, site, owner == NULL && Py_REFCNT(one) <= limit);
+        return owner != NULL && is_seen(owner, site)
+            ? Py_NewRef(one) : left_to_whole(one, site, owner == NULL && Py_REFCNT(one) <= limit);
     if (owner == NULL && Py_REFCNT(one) <= limit)
-        return decision->what == DEEP ? ended(one, PyObject_CallFunctionObjArgs(given.nested, one, site, NULL)) : Py_NewRef(one);
+        return decision->what == DEEP
+            ? ended(one, PyObject_CallFunctionObjArgs(given.nested, one, site, NULL)) : Py_NewRef(one);
     if (owner != NULL && is_seen(owner, site))
         return Py_NewRef(one);
     if (decision->what == OF_SHAPE)
@@ -1020,21 +1034,23 @@ static PyObject *touch_steps(PyObject *one, PyObject *site, Py_ssize_t limit)
 
 static int is_simple(PyObject *key)
 {
-    return PyUnicode_CheckExact(key) || PyLong_CheckExact(key) || PyBytes_CheckExact(key) || PyFloat_CheckExact(key) || PyBool_Check(key)
-        || key == Py_None;
+    return PyUnicode_CheckExact(key) || PyLong_CheckExact(key) || PyBytes_CheckExact(key) || PyFloat_CheckExact(key)
+        || PyBool_Check(key) || key == Py_None;
 }
 
 /* What a key of a plain dictionary comes to. */
 static PyObject *late_of_key(PyObject *one, PyObject *key, PyObject *site, PyObject *made, int *is_repeated)
 {
-    PyObject *make = PyTuple_GET_ITEM(made, 0), *kinds = PyTuple_GET_ITEM(made, 1), *if_there = PyTuple_GET_ITEM(made, 2);
+    PyObject *make = PyTuple_GET_ITEM(made, 0), *kinds = PyTuple_GET_ITEM(made, 1);
+    PyObject *if_there = PyTuple_GET_ITEM(made, 2);
     PyObject *kinds_there = PyTuple_GET_ITEM(made, 3), *if_not = PyTuple_GET_ITEM(made, 4);
     int is_there = PyDict_Contains(one, key);
     if (is_there < 0)
         return NULL;
     *is_repeated = is_there && if_there != if_not;
     PyObject *mark = PyTuple_Pack(1, key);
-    PyObject *late = mark == NULL ? NULL : PyTuple_Pack(6, make, mark, key, is_there ? kinds_there : kinds, is_there ? if_there : if_not, site);
+    PyObject *told = is_there ? kinds_there : kinds, *recipe = is_there ? if_there : if_not;
+    PyObject *late = mark == NULL ? NULL : PyTuple_Pack(6, make, mark, key, told, recipe, site);
     Py_XDECREF(mark);
     return late;
 }
@@ -1049,7 +1065,8 @@ static int saw_key(PyObject *one, PyObject *key, PyObject *site, PyObject *mark,
 {
     int is_repeated = 1;
     PyObject *made = Py_NewRef(decision->late), *name = Py_NewRef(decision->name);
-    PyObject *late = decision->what == OF_DICT ? late_of_key(one, key, site, made, &is_repeated) : late_of_index(key, site, made);
+    PyObject *late = decision->what == OF_DICT
+        ? late_of_key(one, key, site, made, &is_repeated) : late_of_index(key, site, made);
     int result = late == NULL ? -1 : see_as(one, mark, late, name, is_repeated);
     Py_XDECREF(late);
     Py_DECREF(made);
@@ -1080,7 +1097,8 @@ static PyObject *touch_keyed(PyObject *one, PyObject *key, PyObject *site, Py_ss
     if (is_simple(key) && (what != OF_LIST || PyLong_CheckExact(key))) {
         if ((mark = PyTuple_Pack(2, site, key)) == NULL)
             return end_hook(back, -1);
-        decision = decision_of(Py_TYPE(one), site, "before_element");  /* What was made just now may have had it decided anew. */
+        /* What was made just now may have had it decided anew. */
+        decision = decision_of(Py_TYPE(one), site, "before_element");
         if (decision == NULL)
             result = -1;
         else if (owner != NULL && (owner = find_owner(one)) != NULL && is_seen(owner, mark))
@@ -1158,7 +1176,8 @@ static Py_ssize_t begun_of(PyObject *one, PyObject *constructor)
     return references;
 }
 
-HOOK(before_attribute_of_new, 3, touch_field(words[0], words[1], find_owner(words[0]) == NULL ? begun_of(words[0], words[2]) : ANYBODY, "before_attribute"))
+HOOK(before_attribute_of_new, 3, touch_field(
+    words[0], words[1], find_owner(words[0]) == NULL ? begun_of(words[0], words[2]) : ANYBODY, "before_attribute"))
 
 static PyObject *touch_variable(PyObject *site)
 {
@@ -1225,7 +1244,8 @@ static int is_constructor(PyCodeObject *code)
 /* Keeps how many references there are when a constructor begins. Nothing is kept where it is called by its name. */
 static int keep_begun(PyObject *one, PyObject *constructor, PyCodeObject *caller)
 {
-    PyObject *key = PyLong_FromVoidPtr(one), *both = key == NULL ? NULL : PyTuple_Pack(2, key, constructor), *references = NULL;
+    PyObject *key = PyLong_FromVoidPtr(one), *references = NULL;
+    PyObject *both = key == NULL ? NULL : PyTuple_Pack(2, key, constructor);
     int result = -1;
     if (both == NULL)
         goto end;
@@ -1284,7 +1304,8 @@ static PyObject *hook_after_letting_go(PyObject *self, PyObject *ignored)
     return end_hook(Py_None, let_go_of_some(LOOKED_THROUGH_AT_ONCE));
 }
 
-/* Goes on as another iterator does, and looks at a container before each step of it. Who takes it apart, as a copy does, gets that one. */
+/* Goes on as another iterator does, and looks at a container before each step of it. Who takes it apart, as a copy
+   does, gets that one. */
 
 typedef struct {
     PyObject_HEAD
@@ -1388,11 +1409,13 @@ static PyObject *steps_through(PyObject *one, PyObject *site, Decision *decision
 
 /* A hook in Python, with the same room. What calls it asks for no level of the recursion either. */
 
+typedef PyObject *(*QuickHook)(PyObject *, PyObject *const *, Py_ssize_t);
+
 typedef struct {
     PyObject_HEAD
     vectorcallfunc vectorcall;
     PyObject *function;
-    PyObject *(*quick)(PyObject *, PyObject *const *, Py_ssize_t);
+    QuickHook quick;
 } Hook;
 
 static PyObject *hook_called(PyObject *self, PyObject *const *words, size_t count, PyObject *named)
@@ -1417,7 +1440,7 @@ static PyObject *hook_new(PyTypeObject *type, PyObject *words, PyObject *named)
     hook->vectorcall = hook_called;
     hook->function = Py_NewRef(function);
     if (PyCFunction_CheckExact(function) && PyCFunction_GetFlags(function) == METH_FASTCALL)
-        hook->quick = (PyObject *(*)(PyObject *, PyObject *const *, Py_ssize_t))(void (*)(void))PyCFunction_GetFunction(function);
+        hook->quick = (QuickHook)(void (*)(void))PyCFunction_GetFunction(function);
     return (PyObject *)hook;
 }
 
@@ -1443,15 +1466,16 @@ static PyTypeObject HookType = {
 static PyObject *setup(PyObject *self, PyObject *words, PyObject *named)
 {
     static char *names[] = {
-        "stretches", "state", "made", "begun", "begun_more", "never", "owner_type", "made_type", "maker", "begin_stretch", "share",
-        "shorten", "saw", "note_shared", "what_of", "lost", "fields_of", "followed", "field", "whole", "nested", "method", "steps", "keyed", "variable", "cell",
-        "went_on", "iter", NULL,
+        "stretches", "state", "made", "begun", "begun_more", "never", "owner_type", "made_type", "maker",
+        "begin_stretch", "share", "shorten", "saw", "note_shared", "what_of", "lost", "fields_of", "followed", "field",
+        "whole", "nested", "method", "steps", "keyed", "variable", "cell", "went_on", "iter", NULL,
     };
     PyObject **objects[] = {
-        &given.stretches, &given.state, &given.made, &given.begun, NULL, &given.never, &given.owner_type, &given.made_type,
-        &given.maker, &given.begin_stretch, &given.share, &given.shorten, &given.saw, &given.note_shared, &given.what_of, &given.lost,
-        &given.fields_of, &given.followed, &given.field, &given.whole, &given.nested, &given.method, &given.steps, &given.keyed, &given.variable, &given.cell,
-        &given.went_on, &given.iter,
+        &given.stretches, &given.state, &given.made, &given.begun, NULL, &given.never, &given.owner_type,
+        &given.made_type, &given.maker, &given.begin_stretch, &given.share, &given.shorten, &given.saw,
+        &given.note_shared, &given.what_of, &given.lost, &given.fields_of, &given.followed, &given.field, &given.whole,
+        &given.nested, &given.method, &given.steps, &given.keyed, &given.variable, &given.cell, &given.went_on,
+        &given.iter,
     };
     for (size_t place = 0; names[place] != NULL; place++) {
         PyObject *found = named == NULL ? NULL : PyDict_GetItemString(named, names[place]);
@@ -1479,12 +1503,21 @@ static PyObject *references(PyObject *self, PyObject *const *words, Py_ssize_t c
 #define FAST(name, function) {name, (PyCFunction)(void (*)(void))function, METH_FASTCALL, NULL}
 
 static PyMethodDef methods[] = {
-    FAST("hook_before_attribute", hook_before_attribute), FAST("hook_before_attribute_local", hook_before_attribute_local), FAST("hook_before_called_attribute", hook_before_attribute), FAST("hook_before_called_attribute_local", hook_before_attribute_local),
-    FAST("hook_before_attribute_of_new", hook_before_attribute_of_new), FAST("hook_before_whole", hook_before_whole), FAST("hook_before_whole_local", hook_before_whole_local), FAST("hook_before_method", hook_before_method),
-    FAST("hook_before_method_local", hook_before_method_local), FAST("hook_before_loop", hook_before_loop), FAST("hook_before_loop_local", hook_before_loop_local), FAST("hook_before_element", hook_before_element),
-    FAST("hook_before_element_local", hook_before_element_local), FAST("hook_before_key", hook_before_key), FAST("hook_before_key_local", hook_before_key_local), FAST("hook_before_kept_key", hook_before_kept_key), FAST("hook_after_call", hook_second), FAST("hook_at_cell", hook_at_cell),
-    FAST("hook_at_variable", hook_at_variable), FAST("hook_after_making", hook_after_making), FAST("hook_at_constructor", hook_at_constructor), {"hook_after_letting_go", hook_after_letting_go, METH_NOARGS, NULL},
-    FAST("hook_after_binding", hook_first), FAST("first", hook_first), FAST("second", hook_second), FAST("nothing", hook_none), FAST("references", references),
+    FAST("hook_before_attribute", hook_before_attribute),
+    FAST("hook_before_attribute_local", hook_before_attribute_local),
+    FAST("hook_before_called_attribute", hook_before_attribute),
+    FAST("hook_before_called_attribute_local", hook_before_attribute_local),
+    FAST("hook_before_attribute_of_new", hook_before_attribute_of_new), FAST("hook_before_whole", hook_before_whole),
+    FAST("hook_before_whole_local", hook_before_whole_local), FAST("hook_before_method", hook_before_method),
+    FAST("hook_before_method_local", hook_before_method_local), FAST("hook_before_loop", hook_before_loop),
+    FAST("hook_before_loop_local", hook_before_loop_local), FAST("hook_before_element", hook_before_element),
+    FAST("hook_before_element_local", hook_before_element_local), FAST("hook_before_key", hook_before_key),
+    FAST("hook_before_key_local", hook_before_key_local), FAST("hook_before_kept_key", hook_before_kept_key),
+    FAST("hook_after_call", hook_second), FAST("hook_at_cell", hook_at_cell),
+    FAST("hook_at_variable", hook_at_variable), FAST("hook_after_making", hook_after_making),
+    FAST("hook_at_constructor", hook_at_constructor),
+    {"hook_after_letting_go", hook_after_letting_go, METH_NOARGS, NULL}, FAST("hook_after_binding", hook_first),
+    FAST("first", hook_first), FAST("second", hook_second), FAST("nothing", hook_none), FAST("references", references),
     FAST("owner_of", owner_of),
     {"setup", (PyCFunction)(void (*)(void))setup, METH_VARARGS | METH_KEYWORDS, NULL},
     {"forget", forget, METH_NOARGS, NULL},
@@ -1510,7 +1543,8 @@ static int fill_module(PyObject *made)
     no_words = PyTuple_New(0);
     if (text_note == NULL || text_line == NULL || text_leave == NULL || text_constructor == NULL || no_words == NULL)
         return -1;
-    if (add_type(made, "Seen", &SeenType) < 0 || add_type(made, "OwnerFields", &OwnerType) < 0 || add_type(made, "Owners", &OwnersType) < 0
+    if (add_type(made, "Seen", &SeenType) < 0 || add_type(made, "OwnerFields", &OwnerType) < 0
+        || add_type(made, "Owners", &OwnersType) < 0
         || add_type(made, "Step", &StepType) < 0 || add_type(made, "Hook", &HookType) < 0)
         return -1;
     PyObject *owners = PyObject_New(PyObject, &OwnersType);
