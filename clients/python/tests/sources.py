@@ -1,4 +1,5 @@
-"""What the sources of the package do that few places may: reach into others, catch all faults, and pass over a rule of types."""
+"""What the sources of the package do that few places may: reach into others, catch all faults,
+and pass over a rule of types."""
 
 from __future__ import annotations
 
@@ -10,7 +11,8 @@ from pathlib import Path
 PUBLIC = frozenset({"_fields", "_getframe", "_replace"})
 """Names that the library's own pages tell of, although they begin with an underscore."""
 TELLING = frozenset({"lost", "failed", "tell_unwatched", "_give_up"})
-"""Functions that are given a fault and tell of it: a touch is counted as lost, tracing ends, or a module is named as not watched."""
+"""Functions that are given a fault and tell of it: a touch is counted as lost, tracing ends,
+or a module is named as not watched."""
 
 
 def is_own(name: str) -> bool:
@@ -27,8 +29,9 @@ def reached_into(name: str, path: Path, known: dict[str, Path]) -> Iterator[str]
             modules |= {one.asname or one.name for one in node.names if f"{base}.{one.name}".strip(".") in known}
             yield from (f"{path.name}:{node.lineno} imports {one.name}" for one in node.names if is_own(one.name))
     for node in ast.walk(tree):
-        if isinstance(node, ast.Attribute) and isinstance(node.value, ast.Name) and node.value.id in modules and is_own(node.attr):
-            yield f"{path.name}:{node.lineno} uses {node.value.id}.{node.attr}"
+        owner = node.value if isinstance(node, ast.Attribute) and is_own(node.attr) else None
+        if isinstance(owner, ast.Name) and owner.id in modules:
+            yield f"{path.name}:{owner.lineno} uses {ast.unparse(node)}"
 
 
 def _base_of(node: ast.ImportFrom, name: str, path: Path) -> str:
@@ -38,7 +41,8 @@ def _base_of(node: ast.ImportFrom, name: str, path: Path) -> str:
 
 
 def names_of_others(path: Path) -> set[str]:
-    """The names with an underscore that a module uses, and neither has itself nor marks objects of the library by, as `_itc_line`."""
+    """The names with an underscore that a module uses, and neither has itself nor marks objects of the library by,
+    as `_itc_line`."""
     nodes = list(ast.walk(ast.parse(path.read_text(encoding="utf-8"))))
     used = {one.attr for one in nodes if isinstance(one, ast.Attribute)}
     used |= {alias.name for one in nodes if isinstance(one, ast.ImportFrom) and not one.level for alias in one.names}
@@ -56,7 +60,9 @@ def _defined(nodes: list[ast.AST]) -> set[str]:
         elif isinstance(one, ast.Assign) and ast.unparse(one.targets[0]) == "__slots__":
             names |= set(ast.literal_eval(one.value))
         if isinstance(one, ast.ClassDef):
-            names |= {part.attr for part in ast.walk(one) if isinstance(part, ast.Attribute) and _is_stored_in_self(part)}
+            names |= {
+                part.attr for part in ast.walk(one) if isinstance(part, ast.Attribute) and _is_stored_in_self(part)
+            }
     return names
 
 
@@ -93,7 +99,7 @@ def _tells(statement: ast.stmt, fault: str | None) -> bool:
     call = statement.value if isinstance(statement, ast.Expr) else None
     if not isinstance(call, ast.Call):
         return False
-    name = call.func.attr if isinstance(call.func, ast.Attribute) else call.func.id if isinstance(call.func, ast.Name) else ""
+    name = ast.unparse(call.func).rpartition(".")[2]
     given = {part.id for word in call.args for part in ast.walk(word) if isinstance(part, ast.Name)}
     return name in TELLING and fault in given
 
@@ -102,3 +108,9 @@ def ignored(path: Path) -> list[str]:
     """The kinds of findings that lines of a module pass over, as `attr-defined`. An empty one stands for all kinds."""
     lines = path.read_text(encoding="utf-8").splitlines()
     return [kind for line in lines for kind in re.findall(r"# type: ignore(?:\[([a-z-]+)\])?", line)]
+
+
+def long_lines(path: Path, width: int) -> list[int]:
+    """The numbers of the lines that have more columns."""
+    lines = path.read_text(encoding="utf-8").splitlines()
+    return [number for number, line in enumerate(lines, 1) if len(line) > width]

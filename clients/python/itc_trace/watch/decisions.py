@@ -15,8 +15,8 @@ import types
 import weakref
 from array import array
 from builtins import (
-    any, dict, enumerate, filter, frozenset, id, int, issubclass, iter, list, map, next, reversed, set, str, tuple, type,
-    zip,
+    any, dict, enumerate, filter, frozenset, id, int, issubclass, iter, list, map, next, reversed, set, str, tuple,
+    type, zip,
 )
 from collections import OrderedDict, deque
 from collections.abc import Iterable
@@ -61,7 +61,8 @@ _BY_KEYS: tuple[type, ...] = (
 _BY_ELEMENTS: tuple[type, ...] = (
     type({}.values()), type({}.items()), type(OrderedDict().values()), type(OrderedDict().items()),
     type(iter({}.values())), type(iter({}.items())), type(reversed({}.values())), type(reversed({}.items())),
-    type(iter([])), type(reversed([])), type(iter(set())), type(iter(deque())), type(reversed(deque())), type(iter(bytearray())), type(iter(array("b"))),
+    type(iter([])), type(reversed([])), type(iter(set())), type(iter(deque())), type(reversed(deque())),
+    type(iter(bytearray())), type(iter(array("b"))),
 )
 BY_ELEMENTS = ids_of(_BY_ELEMENTS)
 """Views and iterators that look at the elements of a container, and not at the keys of a dictionary alone."""

@@ -90,8 +90,8 @@ class Methods(NamedTuple):
 _OF_ALL = "__eq__ __ne__ __lt__ __le__ __gt__ __ge__ __repr__ __str__ __format__ copy __copy__"
 _OF_BYTES = (
     "find rfind rindex startswith endswith decode hex split rsplit splitlines partition rpartition strip lstrip rstrip "
-    "replace translate upper lower title capitalize swapcase center ljust rjust zfill expandtabs removeprefix removesuffix "
-    "isalnum isalpha isascii isdigit islower isspace istitle isupper"
+    "replace translate upper lower title capitalize swapcase center ljust rjust zfill expandtabs removeprefix "
+    "removesuffix isalnum isalpha isascii isdigit islower isspace istitle isupper"
 )
 _METHODS = (
     Methods((LIST, DEQUE), f"{_OF_ALL} index count __iter__ __reversed__ __add__ __mul__ __rmul__", ITSELF, ITERATION),
