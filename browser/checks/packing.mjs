@@ -34,7 +34,9 @@ export async function spoiltStamps(tab) {
   const place = /(id="stamps">)[^<]*/, right = ["-", "0 0 0 [1;1]", "1 1 1 (1,0) 1 1 2"];
   const rows = [["9 1 1 x"], ["1 1 1 x"], ["-", "1 0 0 x"], ["\u0000\u00ff"], ["-", "0 0 0 [1;1]", `1 0 0 ${"x".repeat(70000)}`], [],
     ...["1 7 9999 x", "99999999999999999999 1 1 ", "1 3", "1 1 1 )", "1 1 1 ( 1 9999 2", "1 1 1 (1,0) 1 3 2", "1 1 2 (1,0) 1 1 2",
-      "1 9 9 x 1 1 2", "1 7 0 x 1 1 2", "1 1 1 2 3", "1 x 1 2", "1 -1 1 2", "1  1 2", "1 1 1 2 ", "0 1 0 x", "0 0 0 ;;", "0 0 0 0 0 0 [1;1]x"].map((row) => [...right, row])];
+      "1 9 9 x 1 1 2", "1 7 0 x 1 1 2", "1 1 1 2 3", "1 x 1 2", "1 -1 1 2", "1  1 2", "1 1 1 2 ", "0 1 0 x", "0 0 0 ;;", "0 0 0 0 0 0 [1;1]x",
+      "1,2 9 9 x", "1,9 0 0 ", "0,1 0 0 ", "1,0 0 0 ", "1, 0 0 ", ",1 0 0 ", "1,1,1 0 0 ", "1,-1 0 0 ", "1,2 0 0 ;"].map((row) => [...right, row]),
+    ...["[1;x]", "[1;(0,0,0)]", `[1;${"(0,".repeat(2049)}0${",1)".repeat(2049)}]`, ""].map((stamp) => ["-", "0 0 0 [1;1]", `0 0 0 ${stamp}`, "1,2 0 0 ", "1,2 0 0 "])];
   for (const list of rows) {
     const packed = gzipSync(Buffer.from(list.map((row) => `${row}\n`).join(""))).toString("base64");
     await opened(tab, file("spoilt_stamps.html", html.replace(place, `$1${packed}`)));
@@ -84,10 +86,10 @@ export async function worker(tab) {
   assert.equal(await tab.run(() => page.verdict), "yes 3000", "without a worker the page checks in slices");
 }
 
-const MEBIBYTE = 2 ** 20;
+const MEBIBYTE = 2 ** 20, MOST_PAGE = 1200000;
 
-/** A page takes a tenth of its export at most, whether one task starts the others or they one another, and whether they are joined. Of
- * the one that is packed worst the stamps are those of the export. */
+/** A page of 16384 events of 2047 tasks has 1.2 MB at most, whether one task starts the others or they one another, and whether they are
+ * joined. Of the one that is packed worst the stamps are those of the export. */
 export async function bigPages(tab) {
   const told = [];
   let bytes, page;
@@ -96,7 +98,7 @@ export async function bigPages(tab) {
     page = pictureOf("big.html", bytes);
     const { length } = readFileSync(page);
     told.push(`${(bytes.length / MEBIBYTE).toFixed(1)} MiB as a page of ${(length / MEBIBYTE).toFixed(2)} MiB`);
-    assert.ok(length * 10 <= bytes.length, told.at(-1));
+    assert.ok(length <= MOST_PAGE, told.at(-1));
   }
   await opened(tab, page);
   assert.equal(await tab.run(() => page.verdict), "yes 16384");

@@ -192,7 +192,8 @@ class CheckingWorker {
 
 /** What the worker does: it reads the export anew, and compares its stamps to the end. */
 function checkInWorker({ bytes, stamps }) {
-  const trace = readExport(bytes, stamps === null ? null : new PackedStamps(stamps));
+  const trace = readExport(bytes);
+  if (stamps !== null) trace.packed = new PackedStamps(stamps);
   trace.close();
   const checking = new StampCheck(trace).run();
   let last = performance.now();

@@ -90,8 +90,17 @@ const Panel = (Base) => class extends Base {
     if (kind === SEND || kind === RECV) add("received by", this.receipts(trace.nameOf[event]));
     add("follows", this.numberButtons(trace.preds(event)));
     add("followed by", this.numberButtons(trace.followersOf(event)));
-    add("stamp", element("code", {}, trace.stamp(event)));
+    add("stamp", this.stampOf(event));
     return list;
+  }
+
+  /** The stamp. One for which many others have to be unpacked first waits until somebody wants it. */
+  stampOf(event) {
+    const { trace } = this, stamp = () => element("code", {}, trace.stamp(event));
+    if (trace.isAtHand(event)) return stamp();
+    const ask = element("button", { type: "button" }, "Show");
+    ask.addEventListener("click", () => ask.replaceWith(stamp()));
+    return ask;
   }
 
   /** Who received the message, each with his event. */

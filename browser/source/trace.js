@@ -1,6 +1,6 @@
 // The graph of the events
 
-const PAST = 1, FUTURE = 2, CONCURRENT = 3, ITSELF = 4;
+const PAST = 1, FUTURE = 2, CONCURRENT = 3, ITSELF = 4, MOST_AT_HAND = 2000;
 
 /** The events of an export with their edges, tasks and messages. Events are known by number, from 1; 0 is none. */
 class Trace {
@@ -95,11 +95,16 @@ class Trace {
   /** The bytes in which the event's stamp stands, from where to where. */
   stampPlace(event) {
     const line = event + this.ahead();
-    if (this.packed !== null && this.packed.lengthOf(line) >= 0) {
+    if (this.packed?.has(line)) {
       const text = this.packed.textOf(line);
       return [text, 0, text.length];
     }
     return [this.escapedStamps.get(event) ?? this.bytes, this.stampFrom[event], this.stampTo[event]];
+  }
+
+  /** Whether the event's stamp can be told at once. */
+  isAtHand(event) {
+    return this.packed === null || this.packed.waitingFor(event + this.ahead()).length <= MOST_AT_HAND;
   }
 
   stampReader(event) {

@@ -138,7 +138,19 @@ class Http(ProgramCase):
                 self.assertRegex(ran.stderr, r"read  at .*client\.py:8 in ask_twice")
                 self.assertRegex(ran.stderr, r"write at .*server\.py:7 in Handler\.do_POST")
 
-    def run_system(self, *words: str) -> Any:
+    def test_a_message_has_the_words_of_what_it_carries(self) -> None:
+        export = Path(self.enterContext(tempfile.TemporaryDirectory())) / "export"
+        ran = self.run_system(options=("--export", str(export)))
+        self.assertEqual(ran.returncode, Verdict.NO_RACE, ran.stderr)
+        rows = [json.loads(line) for line in Path(f"{export}.journal").read_text().splitlines()]
+        found = sorted((row["task"], row["label"]) for row in rows if row.get("kind") in ("send", "recv"))
+        by_the_store = [("receive POST /", 2), ("send 200", 2)]
+        by_the_seller = [("receive 200", 2), ("send POST /", 2)]
+        labels = [label for _, label in found]
+        for label, times in by_the_store + by_the_seller:
+            self.assertEqual(labels.count(label), times, found)
+
+    def run_system(self, *words: str, options: tuple[str, ...] = ()) -> Any:
         folder = Path(self.enterContext(tempfile.TemporaryDirectory()))
         (folder / "server.py").write_text(SERVES)
         (folder / "client.py").write_text(ASKS)
@@ -150,7 +162,7 @@ class Http(ProgramCase):
         text = "".join(
             f"[process.{name}]\n" + "".join(f"{key} = {json.dumps(value)}\n" for key, value in keys.items()) for name, keys in processes.items())
         (folder / "system.toml").write_text(text)
-        return run_system(str(folder / "system.toml"))
+        return run_system(*options, str(folder / "system.toml"))
 
     def test_a_request_and_an_answer_of_one_process_give_order(self) -> None:
         program = self.program(BOTH)

@@ -15,6 +15,17 @@ from .waiting import ANSWER_WAIT, Waiter
 HEADER = "Itc-Trace"
 """The header of HTTP that has the name of a message."""
 NAME = re.compile(r"[A-Za-z0-9_]{1,24}")
+MOST_WORDS = 80
+
+
+def words_of_request(method: str, target: str) -> str:
+    """What a person calls a request, as `GET /stock`.
+
+    The query is left out: it may have what nobody else is to read.
+    """
+    without_host = re.sub(r"^[A-Za-z][A-Za-z0-9+.-]*://[^/?#]*", "", target)
+    path = re.sub(r"[?#].*", "", without_host, flags=re.DOTALL) or "/"
+    return f"{method} {path}"[:MOST_WORDS]
 
 
 class Sending:
@@ -27,13 +38,13 @@ class Sending:
         self._where = where
 
     @staticmethod
-    def begin(frame: FrameType | None) -> Sending | None:
-        """Sends a message from here. None where tracing is off."""
+    def begin(frame: FrameType | None, words: str = "to another process") -> Sending | None:
+        """Sends a message from here, which carries what the words say. None where tracing is off."""
         note, tracer = state.note, state.tracer
         if note is None or tracer is None:
             return None
         message, waiter, where = tracer.fresh_message(), Waiter(), place(frame)
-        note((SEND, current(), message, waiter, *where))
+        note((SEND, current(), message, f"send {words}", waiter, *where))
         tracer.look_after(waiter)
         return Sending(message, waiter, tracer, where)
 
@@ -59,7 +70,7 @@ class Sending:
         return f"the message of {name_of_file(code.co_filename)}:{line_of(code, instruction)}"
 
 
-def incoming_at(message: str | None, frame: FrameType | None) -> None:
+def incoming_at(message: str | None, frame: FrameType | None, words: str = "from another process") -> None:
     note = state.note
     if note is not None and message is not None and NAME.fullmatch(message):
-        note((RECV, current(), message, *place(frame)))
+        note((RECV, current(), message, f"receive {words}", *place(frame)))

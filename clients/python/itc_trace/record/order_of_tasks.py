@@ -322,17 +322,19 @@ class OrderOfTasks:
             self.end(keeper, END.giving)
             self._join_now(line, keeper, code, instruction, f"join {keeper.name}")
 
-    def send_outside(self, line: Line, message: str, waiter: Waiter, code: CodeType | None, instruction: int) -> None:
-        self._reports.answer_to(
-            waiter, self._reports.report(line, "send", message, code, instruction, "send to another process"),
-        )
+    def send_outside(
+        self, line: Line, message: str, label: str, waiter: Waiter, code: CodeType | None, instruction: int,
+    ) -> None:
+        self._reports.answer_to(waiter, self._reports.report(line, "send", message, code, instruction, label))
         self._sent(line, message, None)
         if self._parts is not None:
             self._parts.sent_outside(message)
 
-    def receive_outside(self, line: Line, message: str, code: CodeType | None, instruction: int) -> None:
+    def receive_outside(
+        self, line: Line, message: str, label: str, code: CodeType | None, instruction: int,
+    ) -> None:
         self.leave(line)
-        report = self._reports.report(line, "recv", message, code, instruction, "receive from another process")
+        report = self._reports.report(line, "recv", message, code, instruction, label)
         report.may_be_refused = True
 
     def keep_ended(self) -> None:

@@ -18,7 +18,7 @@ from ..model.lines import MARK, Token, state
 from ..model.lock_identity import Asking
 from ..record.noting import current, failed, take_at
 from ..model.frames import frame_at, is_internal, line_of, place
-from ..record.messages import HEADER, Sending, incoming_at
+from ..record.messages import HEADER, Sending, incoming_at, words_of_request
 from .base import Patches
 from .later import once_imported
 
@@ -97,7 +97,8 @@ def _endheaders(original: Any) -> Any:
 
 
 def _ask(connection: Any, frame: FrameType | None) -> None:
-    sending = Sending.begin(frame)
+    line = bytes(connection._buffer[0]).decode("latin-1").split(" ") if connection._buffer else []
+    sending = Sending.begin(frame, words_of_request(*line[:2])) if len(line) > 1 else Sending.begin(frame)
     exchange = Exchange(_mark(_asking_at(frame), frame))
     message = None if sending is None else sending.name()
     if message is not None:
@@ -130,7 +131,7 @@ def _getresponse(original: Any) -> Any:
         finally:
             _asked.pop(message, None)
         if exchange is None or exchange.head is None:
-            incoming_at(response.headers.get(HEADER), _frame())
+            incoming_at(response.headers.get(HEADER), _frame(), str(response.status))
         else:
             take_at(exchange.head, _frame())
             response._itc_exchange = exchange
@@ -173,7 +174,7 @@ def _parse_request(original: Any) -> Any:
             if exchange is not None:
                 take_at(exchange.asked, _frame())
             else:
-                incoming_at(asked, _frame())
+                incoming_at(asked, _frame(), words_of_request(self.command, self.path))
         return is_one
 
     return parse_request
@@ -198,7 +199,7 @@ def _end_headers(original: Any) -> Any:
                 exchange.head = exchange.last = _mark(ANSWER, _frame())
             elif self.__dict__.get("_itc_asked"):
                 self.__dict__["_itc_asked"] = None
-                sending = Sending.begin(_frame())
+                sending = Sending.begin(_frame(), _status_of(self) or "an answer")
                 message = None if sending is None else sending.name()
                 if message is not None:
                     self.send_header(HEADER, message)
@@ -209,8 +210,13 @@ def _end_headers(original: Any) -> Any:
 
 def _goes_on(handler: Any) -> bool:
     """Whether these are the headers of an answer behind which the response itself is still to come."""
+    return _status_of(handler) in ("100", "102", "103")
+
+
+def _status_of(handler: Any) -> str:
+    """The status of the response whose headers the handler has put together. It is empty if it has put none."""
     lines: Sequence[bytes] = getattr(handler, "_headers_buffer", ())
-    return bool(lines) and lines[0].split(b" ")[1:2][:1] in ([b"100"], [b"102"], [b"103"])
+    return "".join(lines[0].decode("latin-1").split(" ")[1:2]) if lines else ""
 
 
 def _write(original: Any) -> Any:
