@@ -31,6 +31,9 @@ PAGE = CLIENTS.parent / "docs" / "clients.md"
 SOURCES = {"java": CLIENTS / "java/examples/Wrappers.java", "rust": CLIENTS / "rust/wrappers.rs", "go": CLIENTS / "go/wrappers/main.go"}
 PRIMITIVES = {"java": CLIENTS / "java/examples/Primitives.java", "rust": CLIENTS / "rust/primitives.rs"}
 """Programs of one order each, which are run with a race and without one."""
+WEB = {"java": CLIENTS / "java/examples/WebPrograms.java", "rust": CLIENTS / "rust/web_programs.rs"}
+REQUESTS = os.environ.get("ITC_REQUESTS", "4000")
+"""So many requests the long run answers."""
 LUCKY = ("read_lock", "stamped_lock", "stamped_trust", "stamped_turn")
 """Those that a lock keeps in order by luck alone."""
 ENDS = {"java": ("exit", "halt", "panic", "goes_on"), "rust": ("dropped", "exit", "finish", "panic", "goes_on", "abort")}
@@ -43,7 +46,7 @@ OF_A_SYSTEM = 5
 """So many programs at most are processes of one system."""
 FEW = 4
 """So many are that run with a race and without one."""
-DIVIDED = ("go",)
+DIVIDED = ("go", "java", "rust")
 """Clients whose trace goes on in another part before it is full, where the relay divides it."""
 ALONE = ("many", "filling", "contended")
 """Programs that need most of a trace for themselves."""
@@ -255,6 +258,15 @@ def check_names_in_full(programs: Programs) -> None:
         raise Wrong(ran.stderr)
 
 
+def check_requests(programs: Programs) -> None:
+    """A long run is divided, seen whole, and its memory stays as it is. Requests that forget the lock race across parts."""
+    with tempfile.TemporaryDirectory() as folder:
+        ran = run_system(Path(folder), one=programs.words("requests", REQUESTS))
+    check(ran, RACES, marked(WEB[programs.language], "race", "requests"), set())
+    if not re.search(r"of part \d", ran.stderr):
+        raise Wrong(f"the run was not divided\n{ran.stderr}")
+
+
 def check_across(programs: Programs) -> None:
     """A race of two processes is listed with both lines. A message orders them, whichever of them sends it."""
     with tempfile.TemporaryDirectory() as folder:
@@ -414,7 +426,7 @@ def check_table() -> None:
     """The table of what is followed names each program, and no others."""
     rows = re.findall(r"^\| .* \| ([^|]*) \|$", PAGE.read_text().partition("| What is followed |")[2].partition("\n\n")[0], re.M)
     named = {name for row in rows for name in re.findall(r"`(\w+)`", row)}
-    due = {*COMMON, *(name for own in OWN.values() for name in own), "across", "sender", "receiver", "web_client", "web_server"}
+    due = {*COMMON, *(name for own in OWN.values() for name in own), "across", "sender", "receiver", "web_client", "web_server", "requests"}
     if named != due:
         raise Wrong(f"{PAGE.name} lacks {sorted(due - named)}, and has {sorted(named - due)}, which nothing runs")
 
@@ -496,7 +508,7 @@ def main() -> int:
             checks += [
                 Check([f"{language}: {name}"], call, (programs,)) for name, call in (
                     ("other table", check_other_table), ("free locks", check_free_locks), ("service", check_service), ("child", check_child),
-                    ("names in full", check_names_in_full), *([("late hook", check_late_hook)] if language == "java" else []))
+                    ("names in full", check_names_in_full), ("requests", check_requests), *([("late hook", check_late_hook)] if language == "java" else []))
             ]
     return run_all("wrappers", checks)
 

@@ -49,6 +49,8 @@ pub(crate) struct Environment {
     pub tenant: String,
     /// The name of the process, as it was given.
     pub process: String,
+    /// Whether the relay divides a long run into parts.
+    pub has_parts: bool,
     pub child: Option<Child>,
     journal: Option<String>,
 }
@@ -68,6 +70,7 @@ impl Environment {
             port,
             tenant: named("ITC_TRACE_TENANT").unwrap_or("trace".into()),
             process: process.unwrap_or("p".into()),
+            has_parts: named("ITC_TRACE_PARTS").is_some(),
             child,
             journal: named(JOURNAL),
         }))

@@ -8,6 +8,8 @@ mod environment;
 pub mod future;
 mod journal;
 mod line;
+mod lines;
+mod names;
 mod place;
 pub mod process;
 mod reporter;

@@ -7,6 +7,26 @@ use std::time::{Duration, SystemTime, UNIX_EPOCH};
 /// The last line of a journal whose process reported all that it noted.
 pub(crate) const END: &str = "{\"end\":true}\n";
 
+/// An event, by its number in its part of the trace.
+#[derive(Clone, Copy, Debug, PartialEq, Eq)]
+pub(crate) struct Event {
+    number: u64,
+    part: u64,
+}
+
+impl Event {
+    /// One of a trace that is not divided, or of the first part.
+    pub fn first(number: u64) -> Event {
+        Event { number, part: 1 }
+    }
+
+    /// The event that was taken, as the reply says.
+    pub fn of(reply: &str) -> Option<Event> {
+        let (number, part) = reply.strip_prefix("201 ")?.split_once(' ').unwrap_or((&reply[4..], "1"));
+        Some(Event { number: number.parse().ok()?, part: part.parse().ok()? })
+    }
+}
+
 pub(crate) type Site = Option<&'static Location<'static>>;
 
 /// A time since 1970. None if the clock of this process is set to one before.
@@ -56,13 +76,15 @@ impl Row {
         Row { task: task.clone(), thing: None, kind, site, label, function: None, held: Vec::new(), lock: None, time: None }
     }
 
-    /// The line of the journal. The prefix tells the locks of this process from those of others.
-    pub fn text(&self, event: u64, prefix: &str) -> String {
+    /// The line of the journal. The prefix tells the locks of this process from those of others. A trace that may be divided needs the task
+    /// or the message that the report names, if it names one.
+    pub fn text(&self, event: Event, prefix: &str, of: Option<&str>) -> String {
         let thing = self.thing.as_deref().map_or("null".into(), quoted);
         let (file, line) = self.site.map_or(("null".into(), 0), |site| (quoted(site.file()), site.line()));
         let (task, label) = (quoted(&self.task), quoted(&self.label));
         let time = self.time.map_or(String::new(), |time| format!(",\"time\":{}.{:06}", time.as_secs(), time.subsec_micros()));
-        let mut text = format!("{{\"event\":{event}{time},\"task\":{task},\"thing\":{thing},\"kind\":\"{}\"", self.kind);
+        let part = if event.part > 1 { format!(",\"part\":{}", event.part) } else { String::new() };
+        let mut text = format!("{{\"event\":{}{part}{time},\"task\":{task},\"thing\":{thing},\"kind\":\"{}\"", event.number, self.kind);
         text += &format!(",\"file\":{file},\"line\":{line},\"label\":{label}");
         let lock = |lock: LockName| quoted(&format!("#{prefix}{} {}", lock.number, lock.told()));
         if let Some(function) = &self.function {
@@ -74,6 +96,9 @@ impl Row {
         }
         if let Some(handed) = self.lock {
             text += &format!(",\"lock\":{}", lock(handed));
+        }
+        if let Some(of) = of {
+            text += &format!(",\"of\":{}", quoted(of));
         }
         text + "}\n"
     }

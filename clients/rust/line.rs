@@ -14,6 +14,8 @@ const MANY_SEGMENTS: usize = 32;
 /// So many tasks are known at most. What is forgotten may be told once more.
 const MOST_KNOWN: usize = 512;
 
+pub(crate) const LAST: &str = "the last segment of a task is always there";
+
 /// A touch by a line of the program, with these locks held.
 #[derive(Clone, Debug, PartialEq, Eq)]
 pub(crate) struct Touch {
@@ -130,7 +132,6 @@ pub(crate) struct Line {
     pub position: u64,
     /// The time of its last event.
     pub time: Time,
-    pub joined_by: Option<Task>,
     pub has_ended: bool,
     many: usize,
 }
@@ -143,14 +144,13 @@ impl Line {
             known,
             position: 0,
             time: None,
-            joined_by: None,
             has_ended: false,
             many: MANY_SEGMENTS,
         }
     }
 
     pub fn last(&mut self) -> &mut Segment {
-        self.open.back_mut().expect("the last segment of a task is always there")
+        self.open.back_mut().expect(LAST)
     }
 
     /// The segment that the next touch belongs to. Gives the rows of segments that became one with a reported one, by its event.

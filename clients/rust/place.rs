@@ -89,7 +89,34 @@ impl Noted {
 #[derive(Debug, Default)]
 pub(crate) struct Slot {
     noted: Mutex<Option<Noted>>,
-    message: OnceLock<Arc<str>>,
+    message: OnceLock<Message>,
+}
+
+/// The messages that nobody can receive any more. The relay of a trace in parts is told so.
+#[derive(Debug, Default)]
+pub(crate) struct Forgotten(Mutex<Vec<Box<str>>>);
+
+impl Forgotten {
+    /// Those since the last time.
+    pub fn take(&self) -> Vec<Box<str>> {
+        std::mem::take(&mut *self.0.lock().unwrap_or_else(PoisonError::into_inner))
+    }
+}
+
+/// What a place was sent as. Nobody can receive it any more once the place is gone.
+#[derive(Debug)]
+pub(crate) struct Message {
+    pub name: Box<str>,
+    /// None if the trace is not divided.
+    pub forgotten: Option<Arc<Forgotten>>,
+}
+
+impl Drop for Message {
+    fn drop(&mut self) {
+        if let Some(forgotten) = &self.forgotten {
+            forgotten.0.lock().unwrap_or_else(PoisonError::into_inner).push(std::mem::take(&mut self.name));
+        }
+    }
 }
 
 impl Slot {
@@ -116,12 +143,12 @@ impl Slot {
         }
     }
 
-    pub fn message(&self) -> Option<&Arc<str>> {
-        self.message.get()
+    pub fn message(&self) -> Option<&str> {
+        self.message.get().map(|message| &*message.name)
     }
 
-    pub fn is_sent_as(&self, message: &str) {
-        let _ = self.message.set(message.into());
+    pub fn is_sent_as(&self, message: Message) {
+        let _ = self.message.set(message);
     }
 }
 

@@ -1,7 +1,7 @@
 //! A process that reports by hand where its environment says.
 
 use crate::environment::{tag_of, Environment};
-use crate::journal::{self, Row, Time};
+use crate::journal::{self, Event, Row, Time};
 use crate::session::{Error, Kind, Session};
 use std::fs::File;
 use std::io::Write;
@@ -122,7 +122,7 @@ impl Reporter {
 
     fn write(&self, event: u64, row: &Row) -> Result<(), Error> {
         match self.journal.lock().unwrap().as_mut() {
-            Some(journal) => Ok(journal.write_all(row.text(event, "").as_bytes())?),
+            Some(journal) => Ok(journal.write_all(row.text(Event::first(event), "", None).as_bytes())?),
             None => Ok(()),
         }
     }

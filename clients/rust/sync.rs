@@ -13,8 +13,8 @@ pub use once::{LazyLock, Once, OnceLock};
 pub use std::sync::{Arc, LockResult, OnceState, PoisonError, TryLockError, TryLockResult, WaitTimeoutResult, Weak};
 
 use crate::journal::{LockName, Site};
-use crate::place::What;
-use crate::traced::{self, hold, may_be_on, on, release_lock, Release};
+use crate::place::{Gives, What};
+use crate::traced::{self, hold, may_be_on, on, release_lock, Keeper, Release, MANY_MARKS};
 use crate::tracer::{Task, Tracer};
 use std::collections::BTreeMap;
 use std::fmt::{self, Debug, Display};
@@ -238,10 +238,58 @@ impl<T: ?Sized> Drop for MutexGuard<'_, T> {
 }
 
 /// Where a lock with readers was released.
-#[derive(Default)]
 struct Released {
     by_writer: Option<Release>,
-    by_readers: BTreeMap<Task, Release>,
+    by_readers: Readers,
+}
+
+/// Where each task was done reading last. What the last one did is at hand, as it may be the only one.
+struct Readers {
+    last: Option<Release>,
+    others: BTreeMap<Task, Release>,
+    swept: usize,
+    keeper: Keeper,
+}
+
+impl Readers {
+    const fn new() -> Readers {
+        Readers { last: None, others: BTreeMap::new(), swept: 0, keeper: Keeper::new() }
+    }
+
+    /// The task reads, and gives a later place when it is done.
+    fn remove(&mut self, task: Task) {
+        if self.last.as_ref().is_some_and(|last| last.place.task == task) {
+            self.last = None;
+        } else if !self.others.is_empty() {
+            self.others.remove(&task);
+        }
+    }
+
+    fn put(&mut self, tracer: &Tracer, lock: LockName, release: Release) {
+        let task = release.place.task;
+        if let Some(before) = self.last.replace(release).filter(|before| before.place.task != task) {
+            self.others.insert(before.place.task, before);
+            self.others.remove(&task);
+            if self.others.len() > 2 * self.swept + MANY_MARKS {
+                self.sweep(tracer, lock);
+            }
+        }
+    }
+
+    /// One place stands for those of the tasks that have ended.
+    fn sweep(&mut self, tracer: &Tracer, lock: LockName) {
+        let ended = tracer.ended(self.others.keys().copied().filter(|task| !self.keeper.is(*task)));
+        if !ended.is_empty() {
+            let marks = ended.iter().filter_map(|task| self.others.remove(task)).map(|release| release.mark(lock));
+            let kept = self.keeper.keep(tracer, marks, Gives::Luck(lock));
+            self.others.insert(kept.place.task, Release::of(kept));
+        }
+        self.swept = self.others.len();
+    }
+
+    fn take_by(&self, tracer: &Tracer, lock: LockName, site: Site) {
+        self.last.iter().chain(self.others.values()).for_each(|release| release.take_by(tracer, lock, site));
+    }
 }
 
 /// A lock that several threads may read under at once. They come after the last one that wrote, and before the next one.
@@ -273,7 +321,7 @@ impl<T> RwLock<T> {
     /// A lock that nobody has.
     #[track_caller]
     pub const fn new(value: T) -> RwLock<T> {
-        let released = sync::Mutex::new(Released { by_writer: None, by_readers: BTreeMap::new() });
+        let released = sync::Mutex::new(Released { by_writer: None, by_readers: Readers::new() });
         RwLock { hand: Hand::new(), released, lock: sync::RwLock::new(value) }
     }
 
@@ -340,7 +388,7 @@ impl<T: ?Sized> RwLock<T> {
         if let Some(tracer) = on() {
             let (mut released, name) = (self.released(), self.hand.name(tracer));
             released.by_writer.take().into_iter().for_each(|release| release.take_by(tracer, name, site));
-            std::mem::take(&mut released.by_readers).values().for_each(|release| release.take_by(tracer, name, site));
+            std::mem::replace(&mut released.by_readers, Readers::new()).take_by(tracer, name, site);
         }
     }
 
@@ -351,7 +399,7 @@ impl<T: ?Sized> RwLock<T> {
                 if let Some(release) = &released.by_writer {
                     release.take_by(tracer, name, site);
                 }
-                released.by_readers.remove(&traced::current(tracer)); // It gives a later place when it is done.
+                released.by_readers.remove(traced::current(tracer));
                 hold(name);
             }
             RwLockReadGuard { hand: &self.hand, released: &self.released, site, guard }
@@ -421,8 +469,10 @@ impl<T: ?Sized> DerefMut for RwLockWriteGuard<'_, T> {
 
 impl<T: ?Sized> Drop for RwLockReadGuard<'_, T> {
     fn drop(&mut self) {
-        if let Some(release) = self.hand.releasing(self.site) {
-            self.released.lock().unwrap_or_else(PoisonError::into_inner).by_readers.insert(release.place.task, release);
+        if let Some(tracer) = on() {
+            let name = self.hand.name(tracer);
+            let release = release_lock(tracer, name, &self.hand.is_signal, self.site);
+            self.released.lock().unwrap_or_else(PoisonError::into_inner).by_readers.put(tracer, name, release);
         }
     }
 }

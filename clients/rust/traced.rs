@@ -28,12 +28,30 @@ struct Thread {
     /// What it has noted there last, of locks.
     noted: Cell<Option<(u64, usize, bool)>>,
     held: RefCell<Vec<LockName>>,
+    /// The last place of another task that its task has come after, and whether by luck.
+    taken: RefCell<(Weak<Place>, bool)>,
+}
+
+impl Thread {
+    const NEW: Thread = Thread {
+        here: RefCell::new(Weak::new()),
+        noted: Cell::new(None),
+        held: RefCell::new(Vec::new()),
+        taken: RefCell::new((Weak::new(), false)),
+    };
+
+    /// It is another task from now on.
+    fn forget(&self) {
+        self.here.replace(Weak::new());
+        self.noted.set(None);
+        self.taken.replace((Weak::new(), false));
+    }
 }
 
 thread_local! {
     static CURRENT: Cell<Option<Task>> = const { Cell::new(None) };
     static ENDS: Ends = const { Ends(Cell::new(None)) };
-    static THREAD: Thread = const { Thread { here: RefCell::new(Weak::new()), noted: Cell::new(None), held: RefCell::new(Vec::new()) } };
+    static THREAD: Thread = const { Thread::NEW };
 }
 
 /// The task that ends with this thread, behind all that is local to it, and who is told of that.
@@ -43,6 +61,7 @@ impl Drop for Ends {
     fn drop(&mut self) {
         if let Some((task, done)) = self.0.take() {
             end(task, &done);
+            CURRENT.set(None);
         }
     }
 }
@@ -184,15 +203,23 @@ pub(crate) fn receive(message: &str, site: Site) {
 /// The task of this thread.
 #[inline]
 pub(crate) fn current(tracer: &Tracer) -> Task {
-    CURRENT.get().unwrap_or_else(|| {
-        let thread = std::thread::current();
-        let task = match thread.name() {
-            Some("main") => MAIN,
-            name => tracer.stranger(name.unwrap_or("thread")),
-        };
-        CURRENT.set(Some(task));
-        task
-    })
+    CURRENT.get().unwrap_or_else(|| begin_thread(tracer))
+}
+
+/// The task of a thread that nobody was seen to start. It ends with the thread.
+#[cold]
+fn begin_thread(tracer: &Tracer) -> Task {
+    let thread = std::thread::current();
+    let task = match thread.name() {
+        Some("main") => MAIN,
+        name => {
+            let task = tracer.stranger(name.unwrap_or("thread"));
+            let _ = ENDS.try_with(|ends| ends.0.set(Some((task, Done::default()))));
+            task
+        }
+    };
+    CURRENT.set(Some(task));
+    task
 }
 
 /// This thread's task is at the place now.
@@ -241,10 +268,18 @@ impl Release {
     pub fn take_by(&self, tracer: &Tracer, lock: LockName, site: Site) {
         let task = current(tracer);
         if self.place.task != task {
-            let gives = if self.is_luck { Gives::Luck(lock) } else { Gives::Signal(lock) };
-            let noted = self.place.slot(self.is_luck).noted_as(Noted { gives, site: self.site, time: None });
-            take_by(tracer, &Mark { place: self.place.clone(), noted }, site);
+            take_by(tracer, &self.mark(lock), site);
         }
+    }
+
+    pub fn mark(&self, lock: LockName) -> Mark {
+        let gives = if self.is_luck { Gives::Luck(lock) } else { Gives::Signal(lock) };
+        let noted = self.place.slot(self.is_luck).noted_as(Noted { gives, site: self.site, time: None });
+        Mark { place: self.place.clone(), noted }
+    }
+
+    pub fn of(mark: Mark) -> Release {
+        Release { place: mark.place, site: mark.noted.site, is_luck: mark.noted.gives.is_luck() }
     }
 }
 
@@ -324,10 +359,93 @@ pub(crate) fn take(mark: Option<&Mark>, site: Site) {
 #[inline]
 pub(crate) fn take_by(tracer: &Tracer, mark: &Mark, site: Site) {
     let task = current(tracer);
-    if mark.place.task != task {
+    if mark.place.task != task && !has_taken(mark) {
         if let Some(place) = tracer.take(task, mark, site) {
             is_at(&place);
         }
+        let taken = (Arc::downgrade(&mark.place), mark.noted.gives.is_luck());
+        let _ = THREAD.try_with(|thread| thread.taken.replace(taken));
+    }
+}
+
+/// Whether this is what the thread has come after last.
+fn has_taken(mark: &Mark) -> bool {
+    let is_last = |thread: &Thread| {
+        let taken = thread.taken.borrow();
+        taken.0.as_ptr() == Arc::as_ptr(&mark.place) && taken.1 == mark.noted.gives.is_luck()
+    };
+    THREAD.try_with(is_last).unwrap_or(false)
+}
+
+/// From so many marks of tasks on, it is looked which of the tasks have ended.
+pub(crate) const MANY_MARKS: usize = 64;
+
+/// A task of the tracer that comes after tasks which have ended. So one mark stands for those of all of them.
+#[derive(Debug, Default)]
+pub(crate) struct Keeper(Option<Task>);
+
+impl Keeper {
+    pub const fn new() -> Keeper {
+        Keeper(None)
+    }
+
+    pub fn is(&self, task: Task) -> bool {
+        self.0 == Some(task)
+    }
+
+    /// Comes after all of these. Gives the mark for that.
+    pub fn keep(&mut self, tracer: &Tracer, marks: impl Iterator<Item = Mark>, gives: Gives) -> Mark {
+        let keeper = *self.0.get_or_insert_with(|| tracer.stranger("keeper"));
+        marks.for_each(|mark| drop(tracer.take(keeper, &mark, None)));
+        let (place, noted) = (tracer.here(keeper), Noted::now(gives, None));
+        place.slot(gives.is_luck()).note(noted);
+        Mark { place, noted }
+    }
+}
+
+impl Drop for Keeper {
+    fn drop(&mut self) {
+        end_of(self.0);
+    }
+}
+
+/// The marks of some tasks, of each the last one.
+#[derive(Debug, Default)]
+pub(crate) struct Marks {
+    by_task: BTreeMap<Task, Mark>,
+    swept: usize,
+    keeper: Keeper,
+}
+
+impl Marks {
+    pub const fn new() -> Marks {
+        Marks { by_task: BTreeMap::new(), swept: 0, keeper: Keeper::new() }
+    }
+
+    pub fn put(&mut self, tracer: &Tracer, mark: Mark) {
+        let gives = mark.noted.gives;
+        self.by_task.insert(mark.place.task, mark);
+        if self.by_task.len() > 2 * self.swept + MANY_MARKS {
+            self.sweep(tracer, gives);
+        }
+    }
+
+    fn sweep(&mut self, tracer: &Tracer, gives: Gives) {
+        let ended = tracer.ended(self.by_task.keys().copied().filter(|task| !self.keeper.is(*task)));
+        if !ended.is_empty() {
+            let marks = ended.iter().filter_map(|task| self.by_task.remove(task));
+            let kept = self.keeper.keep(tracer, marks, gives);
+            self.by_task.insert(kept.place.task, kept);
+        }
+        self.swept = self.by_task.len();
+    }
+
+    pub fn take(&self, tracer: &Tracer, site: Site) {
+        self.by_task.values().for_each(|mark| take_by(tracer, mark, site));
+    }
+
+    pub fn clear(&mut self) {
+        *self = Marks::new();
     }
 }
 
@@ -335,11 +453,9 @@ pub(crate) fn take_by(tracer: &Tracer, mark: &Mark, site: Site) {
 #[derive(Debug, Default)]
 pub(crate) struct Givers(Mutex<Marks>);
 
-pub(crate) type Marks = BTreeMap<Task, Mark>;
-
 impl Givers {
     pub const fn new() -> Givers {
-        Givers(Mutex::new(BTreeMap::new()))
+        Givers(Mutex::new(Marks::new()))
     }
 
     fn marks(&self) -> MutexGuard<'_, Marks> {
@@ -348,21 +464,23 @@ impl Givers {
 
     /// Whoever comes from now on, comes after this place too. A later place of a task stands for its earlier ones.
     pub fn give(&self, gives: Gives, site: Site) {
-        if let Some(mark) = mark(gives, site) {
-            self.marks().insert(mark.place.task, mark);
+        if let (Some(mark), Some(tracer)) = (mark(gives, site), on()) {
+            self.marks().put(tracer, mark);
         }
     }
 
     pub fn take(&self, site: Site) {
         if let Some(tracer) = on() {
-            self.marks().values().for_each(|mark| take_by(tracer, mark, site));
+            self.marks().take(tracer, site);
         }
     }
 
     /// Takes all, and forgets them.
     pub fn take_away(&self, site: Site) {
         let marks = std::mem::take(&mut *self.marks());
-        marks.values().for_each(|mark| take(Some(mark), site));
+        if let Some(tracer) = on() {
+            marks.take(tracer, site);
+        }
     }
 
     /// Does this while nobody else gives or takes.
@@ -426,7 +544,7 @@ impl Drop for Marking {
 /// Does this as the task, which ends with it, also by a panic. Then this thread is the task before again.
 pub(crate) fn run<T>(task: Option<Task>, done: &Done, body: impl FnOnce() -> T) -> T {
     let _ending = Ending { task, done, before: CURRENT.replace(task) };
-    let _ = THREAD.try_with(|thread| thread.here.replace(Weak::new()));
+    let _ = THREAD.try_with(Thread::forget);
     body()
 }
 
@@ -445,17 +563,14 @@ impl Drop for Ending<'_> {
             end(task, self.done);
         }
         CURRENT.set(self.before);
-        let _ = THREAD.try_with(|thread| {
-            thread.here.replace(Weak::new());
-            thread.noted.set(None);
-        });
+        let _ = THREAD.try_with(Thread::forget);
     }
 }
 
 /// Does this as the task that it is of, and no longer. The task goes on later.
 pub(crate) fn run_as<T>(task: Option<Task>, body: impl FnOnce() -> T) -> T {
     let _back = Back(CURRENT.replace(task.or(CURRENT.get())));
-    let _ = THREAD.try_with(|thread| thread.here.replace(Weak::new()));
+    let _ = THREAD.try_with(Thread::forget);
     body()
 }
 
@@ -464,10 +579,7 @@ struct Back(Option<Task>);
 impl Drop for Back {
     fn drop(&mut self) {
         CURRENT.set(self.0);
-        let _ = THREAD.try_with(|thread| {
-            thread.here.replace(Weak::new());
-            thread.noted.set(None);
-        });
+        let _ = THREAD.try_with(Thread::forget);
     }
 }
 

@@ -3,9 +3,11 @@
 
 use crate::ending;
 use crate::environment::{tag_of, task_of, Child, Environment, MOST_NAME};
-use crate::journal::{self, LockName, Row, Site};
-use crate::line::{Known, Line, Segment, Touch};
-use crate::place::{Mark, Noted, Place, What};
+use crate::journal::{self, Event, LockName, Row, Site};
+use crate::line::{Known, Segment, Touch, LAST};
+use crate::lines::Lines;
+use crate::names::Names;
+use crate::place::{Forgotten, Mark, Message, Noted, Place, What};
 use std::collections::{HashMap, VecDeque};
 use std::fs::File;
 use std::io::{self, BufRead, BufReader, Write};
@@ -17,7 +19,9 @@ use std::thread;
 use std::time::{Duration, Instant};
 
 const MOST_EVENTS: usize = 16384;
-const MOST_DIGITS: usize = 6;
+/// So many reports are on their way before the program waits, and it goes on at so few.
+const MOST_WAITING: usize = 8_000;
+const FEW_WAITING: usize = 4_000;
 const REST: Duration = Duration::from_millis(10);
 /// When what waits to become one event with others is reported for the first time. Each later time takes twice as long.
 const FIRST_PATIENCE: Duration = Duration::from_millis(250);
@@ -36,8 +40,8 @@ pub(crate) static END: What = What::new("end", "end", "see the end");
 /// The rows of an event that stands for all that its task touched between two other events.
 #[derive(Default)]
 struct Touches {
-    /// The number of the event, once the collector has answered.
-    event: Option<u64>,
+    /// The event, once the collector has answered.
+    event: Option<Event>,
     is_closed: bool,
     fresh: Vec<Row>,
 }
@@ -100,8 +104,8 @@ enum Stage {
 }
 
 struct State {
-    lines: Vec<Line>,
-    names: HashMap<String, usize>,
+    lines: Lines,
+    names: Names,
     unsent: String,
     unwritten: String,
     outstanding: VecDeque<Report>,
@@ -110,9 +114,16 @@ struct State {
     reports: usize,
     messages: usize,
     children: usize,
+    is_late: bool,
     /// The name of the process, in full.
     process: String,
-    prefix: String,
+    /// Whether the relay divides the trace into parts before it is full.
+    has_parts: bool,
+    forgotten: Arc<Forgotten>,
+    /// Tasks that nobody can wait for any more, since the relay was told so last.
+    left: Vec<Arc<str>>,
+    /// In a child process, a task that comes after all that have ended and that nobody waits for.
+    keeper: Option<Task>,
     stage: Stage,
     /// How often somebody wanted the journal to have all that was noted, and how many of them it has served.
     wanted: u64,
@@ -147,7 +158,8 @@ impl Tracer {
         let stream = TcpStream::connect(("127.0.0.1", environment.port))?;
         stream.set_nodelay(true)?;
         let mut replies = BufReader::new(stream.try_clone()?);
-        let count = ask(&stream, &mut replies, &format!("report {}\ncount", environment.tenant))?;
+        let parts = if environment.has_parts { "\nparts" } else { "" };
+        let count = ask(&stream, &mut replies, &format!("report {}{parts}\ncount", environment.tenant))?;
         if !count.starts_with("200 ") {
             return Err(io::Error::other(format!("tenant {} at port {}: {count}", environment.tenant, environment.port)));
         }
@@ -182,6 +194,14 @@ impl Tracer {
     /// Does this with all that is known. Gives where the task is then.
     fn act(&self, task: Task, act: impl FnOnce(&mut State)) -> Arc<Place> {
         let mut state = self.state();
+        if state.outstanding.len() > MOST_WAITING {
+            let waits = |state: &mut State| state.outstanding.len() > FEW_WAITING && state.stage != Stage::Over;
+            state = self.changed.wait_while(state, waits).unwrap_or_else(PoisonError::into_inner);
+        }
+        if state.lines.get(task).is_none() {
+            state.tell_late();
+            return Place::new(task);
+        }
         act(&mut state);
         let place = state.lines[task].last().place.clone();
         if state.stage == Stage::Ending {
@@ -193,7 +213,7 @@ impl Tracer {
 
     /// Where the task is.
     pub fn here(&self, task: Task) -> Arc<Place> {
-        self.state().lines[task].last().place.clone()
+        self.state().lines.get(task).map_or_else(|| Place::new(task), |line| line.open.back().expect(LAST).place.clone())
     }
 
     /// The task reads or writes the thing, which is of this process if it is not one across all.
@@ -220,6 +240,9 @@ impl Tracer {
     /// The task does nothing more. Whoever joins it reports its end, or nobody does if nobody can.
     pub fn end(&self, task: Task) {
         let mut state = self.state();
+        if state.lines.get(task).is_none() {
+            return;
+        }
         state.lines[task].has_ended = true;
         if state.stage == Stage::Ending {
             state.leave(task);
@@ -230,9 +253,15 @@ impl Tracer {
     /// Nobody can wait for the task any more.
     pub fn forget(&self, task: Task) {
         let mut state = self.state();
-        if state.lines[task].has_ended && state.lines[task].joined_by.is_none() {
-            state.tell_end(task);
+        if state.lines.get(task).is_some_and(|line| line.has_ended) {
+            state.forget(task);
         }
+    }
+
+    /// Those of the tasks that do nothing more.
+    pub fn ended(&self, tasks: impl Iterator<Item = Task>) -> Vec<Task> {
+        let state = self.state();
+        tasks.filter(|task| state.lines.get(*task).map_or(true, |line| line.has_ended)).collect()
     }
 
     /// The task has seen that the child is done.
@@ -390,7 +419,7 @@ impl Tracer {
         if settles {
             rows += &state.last_line;
         }
-        let lines = std::mem::take(&mut state.unsent);
+        let lines = state.take_unsent();
         drop(state);
         if let Some(Err(fault)) = journal.as_mut().map(|journal| journal.write_all(rows.as_bytes())) {
             self.give_up("journal", &format!("the journal cannot be written: {fault}"));
@@ -439,27 +468,12 @@ fn ask(mut stream: &TcpStream, replies: &mut BufReader<TcpStream>, lines: &str) 
     }
 }
 
-/// The number of an event that was taken.
-fn event_of(reply: &str) -> Option<u64> {
-    reply.strip_prefix("201 ").and_then(|event| event.parse().ok())
-}
-
-/// A name that no other has, behind a prefix: the letters and digits of a hint, with a number if it needs one.
-fn clean(hint: &str, room: usize) -> String {
-    let letters: String = hint.chars().map(|next| if next.is_ascii_alphanumeric() { next } else { '_' }).collect();
-    let cut: String = letters.trim_matches('_').chars().take(room).collect();
-    match cut.trim_matches('_') {
-        "" => "task".into(),
-        name => name.into(),
-    }
-}
-
 impl State {
     /// Takes a task of its own under root, in a trace that others report to as well, unless the process is a child that has one.
     fn begin(environment: &Environment, mut ask: impl FnMut(&str) -> io::Result<String>) -> io::Result<State> {
         let mut state = State {
-            lines: Vec::new(),
-            names: HashMap::new(),
+            lines: Lines::default(),
+            names: Names::default(),
             unsent: String::new(),
             unwritten: String::new(),
             outstanding: VecDeque::new(),
@@ -468,8 +482,12 @@ impl State {
             reports: 0,
             messages: 0,
             children: 0,
+            is_late: false,
             process: environment.process.clone(),
-            prefix: String::new(),
+            has_parts: environment.has_parts,
+            forgotten: Arc::default(),
+            left: Vec::new(),
+            keeper: None,
             stage: Stage::Running,
             wanted: 0,
             settled: 0,
@@ -479,14 +497,16 @@ impl State {
             patience: FIRST_PATIENCE,
             impatient_at: Instant::now() + FIRST_PATIENCE,
         };
+        let has_parts = environment.has_parts;
         let mut fresh = |parent: &str, hint: &str, numbered: &dyn Fn(usize) -> String| {
             for number in 1.. {
                 let (name, asked) = (numbered(number), journal::now());
                 let reply = ask(&format!("spawn {parent} {name}"))?;
-                if let Some(event) = event_of(&reply) {
+                if let Some(event) = Event::of(&reply) {
                     let row = Row::new(&parent.into(), "spawn", None, format!("{hint}{name}"));
                     let time = if parent == "root" { journal::now() } else { asked }; // A process begins when it is answered.
-                    return Ok((name, number, Row { time, ..row }.text(event, "")));
+                    let row = Row { time, ..row }.text(event, "", has_parts.then_some(name.as_str()));
+                    return Ok((name, number, row));
                 }
                 if !reply.starts_with("402") {
                     return Err(io::Error::other(format!("spawn {parent} {name}: {reply}")));
@@ -498,7 +518,7 @@ impl State {
             Some(child) => {
                 state.unwritten += &journal::child_begun(&child.tag, &format!("process {}", child.name));
                 state.last_line = journal::child_ended(&child.tag);
-                state.lines.push(Line::new(MAIN, child.task.as_str().into(), Known::default()));
+                state.lines.add(child.task.as_str().into(), Known::default());
                 child.tag.clone()
             }
             None => {
@@ -510,7 +530,7 @@ impl State {
                     state.process += &format!(" {number}"); // What is its own is not that of the first one.
                 }
                 state.unwritten += &row;
-                state.lines.push(Line::new(MAIN, name.into(), Known::default()));
+                state.lines.add(name.into(), Known::default());
                 tag_of(&environment.process)
             }
         };
@@ -518,9 +538,8 @@ impl State {
         let tagged = |number| if number == 1 { tag.clone() } else { format!("{tag}{number}") };
         let (others, number, row) = fresh(&main, "start ", &|number| format!("{}_others", tagged(number)))?;
         state.unwritten += &row;
-        state.prefix = format!("{}_", tagged(number));
-        state.names.insert("others".into(), 1);
-        state.lines.push(Line::new(OTHERS, others.into(), Known::default()));
+        state.names = Names::new(format!("{}_", tagged(number)), "others");
+        state.lines.add(others.into(), Known::default());
         Ok(state)
     }
 
@@ -533,9 +552,7 @@ impl State {
         self.outstanding.clear();
         self.touches.clear();
         self.unsent.clear();
-        for (task, line) in self.lines.iter_mut().enumerate() {
-            line.open = VecDeque::from([Segment::new(task)]);
-        }
+        self.lines.each(|task, line| line.open = VecDeque::from([Segment::new(task)]));
     }
 
     // What tasks do
@@ -622,7 +639,8 @@ impl State {
         }
         let time = noted.time.max(line.time);
         let row = Row { lock: noted.gives.lock(), time, ..Row::new(&line.name, "send", noted.site, noted.gives.giving()) };
-        sent.slot(noted.gives.is_luck()).is_sent_as(&message);
+        let forgotten = self.has_parts.then(|| self.forgotten.clone());
+        sent.slot(noted.gives.is_luck()).is_sent_as(Message { name: message.as_str().into(), forgotten });
         let request = format!("send {} {message}", line.name);
         self.tell(task, request, row, Refusable::Never);
     }
@@ -645,7 +663,7 @@ impl State {
             self.tell_whole(task, place);
         }
         let open = &mut self.lines[task].open;
-        let last = open.pop_back().expect("the last segment of a task is always there");
+        let last = open.pop_back().expect(LAST);
         open.clear();
         let mut next = Segment::new(task);
         if !last.has_mark() && last.place.position() == 0 {
@@ -666,17 +684,19 @@ impl State {
     }
 
     fn leave_all(&mut self) {
-        for task in 0..self.lines.len() {
+        for task in self.lines.of(|_| true) {
             self.tell_waiting(task);
-            if self.lines[task].has_ended && self.lines[task].joined_by.is_none() {
+            if self.lines[task].has_ended {
                 self.tell_end(task);
             }
         }
     }
 
     fn end_child(&mut self) {
-        let ended: Vec<Task> = (0..self.lines.len()).filter(|task| self.lines[*task].has_ended).collect();
-        ended.into_iter().for_each(|task| self.join(MAIN, task, None));
+        if let Some(keeper) = self.keeper.take() {
+            self.lines[keeper].has_ended = true;
+        }
+        self.lines.of(|line| line.has_ended).into_iter().for_each(|task| self.join(MAIN, task, None));
         self.tell_end(MAIN);
     }
 
@@ -685,7 +705,7 @@ impl State {
         if now < self.impatient_at || self.stage == Stage::Over {
             return;
         }
-        let tasks: Vec<Task> = (0..self.lines.len()).filter(|task| self.lines[*task].open.len() > 1).collect();
+        let tasks = self.lines.of(|line| line.open.len() > 1);
         let told = tasks.into_iter().filter(|task| self.tell_waiting(*task)).count();
         if told > 0 {
             self.patience *= 2;
@@ -702,7 +722,7 @@ impl State {
         if place.slot(is_luck).message().is_none() {
             self.give(place, mark.noted);
         }
-        let Some(message) = place.slot(is_luck).message().cloned() else { return };
+        let Some(message) = place.slot(is_luck).message() else { return };
         self.lines[task].known.add(place.task, place.position(), is_luck);
         self.leave(task);
         let row = Row { lock: gives.lock(), ..Row::new(&self.lines[task].name, "recv", site, gives.taking()) };
@@ -712,7 +732,8 @@ impl State {
     /// Sends a place, and reports all that its task did before.
     fn give(&mut self, place: &Arc<Place>, noted: Noted) {
         let task = place.task;
-        let Some(index) = self.lines[task].open.iter().position(|segment| Arc::ptr_eq(&segment.place, place)) else { return };
+        let Some(line) = self.lines.get(task) else { return };
+        let Some(index) = line.open.iter().position(|segment| Arc::ptr_eq(&segment.place, place)) else { return };
         for before in 0..index {
             self.tell_whole(task, before);
         }
@@ -722,15 +743,13 @@ impl State {
     }
 
     fn spawn(&mut self, parent: Task, hint: &str, site: Site) -> Task {
-        let name: Arc<str> = self.fresh_name(hint).into();
+        let name: Arc<str> = self.names.fresh(hint).into();
         self.leave(parent);
         let row = Row::new(&self.lines[parent].name, "spawn", site, format!("start {name}"));
         self.tell(parent, format!("spawn {} {name}", row.task), row, Refusable::Never);
         let mut known = self.lines[parent].known.clone();
         known.add(parent, self.lines[parent].position, false);
-        let task = self.lines.len();
-        self.lines.push(Line::new(task, name, known));
-        task
+        self.lines.add(name, known)
     }
 
     /// Reports the end of a task that does nothing more.
@@ -738,17 +757,36 @@ impl State {
         self.leave(task);
         let row = Row::new(&self.lines[task].name, "end", None, "end".into());
         self.tell(task, format!("end {}", row.task), row, Refusable::Never);
-        self.lines[task].joined_by = Some(task); // Nobody else reports it.
-        self.lines[task].known = Known::default();
+        self.lines.remove(task);
+    }
+
+    /// Reports the end of a task that nobody can wait for any more.
+    fn forget(&mut self, task: Task) {
+        if self.is_child && self.stage != Stage::Over {
+            let keeper = self.keeper.take().unwrap_or_else(|| self.spawn(OTHERS, "keeper", None));
+            self.keeper = Some(keeper);
+            return self.join(keeper, task, None);
+        }
+        if self.has_parts {
+            self.left.push(self.lines[task].name.clone());
+        }
+        self.tell_end(task);
+    }
+
+    /// A task goes on though it has ended, as what is local to a thread may.
+    fn tell_late(&mut self) {
+        if self.stage != Stage::Over && !self.is_late {
+            self.is_late = true;
+            self.unwritten += &journal::unseen("tracer", "a task has gone on behind its end");
+        }
     }
 
     fn join(&mut self, task: Task, child: Task, site: Site) {
-        if self.stage == Stage::Over || !self.lines[child].has_ended || self.lines[child].joined_by.is_some() || task == child {
+        if self.stage == Stage::Over || task == child || self.lines.get(child).map_or(true, |line| !line.has_ended) {
             return;
         }
         let (name, position) = (self.lines[child].name.clone(), self.lines[child].position);
         self.tell_end(child);
-        self.lines[child].joined_by = Some(task);
         self.lines[task].known.add(child, position, false);
         self.leave(task);
         let row = Row::new(&self.lines[task].name, "join", site, format!("join {name}"));
@@ -773,12 +811,12 @@ impl State {
     fn begin_child(&mut self, task: Task, hint: &str, site: Site, answered: Sender<()>) -> Child {
         self.leave(task);
         self.children += 1;
-        let name = self.fresh_name(hint);
+        let name = self.names.fresh(hint);
         let row = Row::new(&self.lines[task].name, "spawn", site, format!("start {name}"));
         let request = format!("spawn {} {name}", row.task);
         self.tell_and_answer(task, request, row, Refusable::Never, Some(answered));
-        let tag = format!("{}c{}", self.prefix.trim_end_matches('_'), self.children);
-        let own = name.strip_prefix(&self.prefix).unwrap_or(&name);
+        let tag = format!("{}c{}", self.names.prefix().trim_end_matches('_'), self.children);
+        let own = name.strip_prefix(self.names.prefix()).unwrap_or(&name);
         Child { tag, name: format!("{}/{own}", self.process), task: name }
     }
 
@@ -803,7 +841,7 @@ impl State {
 
     fn report(&mut self, report: Report) {
         self.reports += 1;
-        if self.stage == Stage::Over || self.reports > MOST_EVENTS + 1 {
+        if self.stage == Stage::Over || !self.has_parts && self.reports > MOST_EVENTS + 1 {
             return; // No trace takes so many, and the reply that says so is on its way.
         }
         self.unsent += &report.request;
@@ -811,37 +849,25 @@ impl State {
         self.outstanding.push_back(report);
     }
 
-    /// A name that no other task of this process has, short and readable.
-    fn fresh_name(&mut self, hint: &str) -> String {
-        let room = MOST_NAME - self.prefix.len();
-        let base = clean(hint, room);
-        let numbered = |number: usize| {
-            let digits = if number == 1 { String::new() } else { format!("_{number}") };
-            format!("{}{digits}", &base[..base.len().min(room - digits.len())])
-        };
-        let mut number = self.names.get(&base).copied().unwrap_or(0) + 1;
-        let mut name = numbered(number);
-        while number > 1 && self.names.contains_key(&name) {
-            number += 1;
-            name = numbered(number);
-        }
-        self.names.insert(base.clone(), number);
-        self.names.entry(name.clone()).or_insert(1);
-        self.prefix.clone() + &name
-    }
-
     fn fresh_message(&mut self, hint: &str) -> String {
         self.messages += 1;
-        let cut = &hint[..hint.len().min(MOST_NAME - self.prefix.len() - MOST_DIGITS - 1)];
-        format!("{}{cut}_{}", self.prefix, self.messages)
+        self.names.numbered(hint, self.messages)
+    }
+
+    /// What is to be sent. Behind it stands what gives no order any more: all receipts of it were noted before.
+    fn take_unsent(&mut self) -> String {
+        let mut lines = std::mem::take(&mut self.unsent);
+        self.forgotten.take().iter().for_each(|message| lines += &format!("forget {message}\n"));
+        self.left.drain(..).for_each(|task| lines += &format!("leave {task}\n"));
+        lines
     }
 
     /// Brings the journal up to what was touched by now.
     fn gather_rows(&mut self) {
-        let (unwritten, prefix) = (&mut self.unwritten, &self.prefix);
+        let (unwritten, prefix) = (&mut self.unwritten, self.names.prefix());
         self.touches.retain(|_, touches| {
             let Some(event) = touches.event else { return true };
-            touches.fresh.drain(..).for_each(|row| *unwritten += &row.text(event, prefix));
+            touches.fresh.drain(..).for_each(|row| *unwritten += &row.text(event, prefix, None));
             !touches.is_closed
         });
     }
@@ -849,9 +875,10 @@ impl State {
     /// Takes over a reply. Gives the cause and the reason, if tracing stops.
     fn replied(&mut self, reply: &str) -> Option<(&'static str, String)> {
         let report = self.outstanding.pop_front()?;
-        let fault = match (event_of(reply), report.stands_for) {
+        let fault = match (Event::of(reply), report.stands_for) {
             (Some(event), StandsFor::Row(row)) => {
-                self.unwritten += &row.text(event, &self.prefix);
+                let of = report.request.split(' ').nth(2).filter(|_| self.has_parts);
+                self.unwritten += &row.text(event, self.names.prefix(), of);
                 None
             }
             (Some(event), StandsFor::Touches(number)) => {

@@ -661,6 +661,7 @@ fn main() {
         "parent" => primitives::parent(&words[2]),
         "kid" => primitives::kid(),
         "stranger" => primitives::stranger(),
+        "requests" => web_programs::requests(words[2].parse().unwrap()),
         "web_server" => web_programs::serve(file(), words[3].parse().unwrap(), &words[4]),
         "web_client" => web_programs::ask(file(), &words[3]),
         other => panic!("there is no program {other}"),

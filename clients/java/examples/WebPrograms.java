@@ -4,10 +4,12 @@ import com.sun.net.httpserver.HttpServer;
 import itctrace.Traced;
 import itctrace.TracedWeb;
 import java.io.IOException;
+import java.io.InputStream;
 import java.io.OutputStream;
 import java.net.InetAddress;
 import java.net.InetSocketAddress;
 import java.net.URI;
+import java.net.URL;
 import java.net.http.HttpClient;
 import java.net.http.HttpRequest;
 import java.net.http.HttpResponse;
@@ -16,12 +18,67 @@ import java.nio.charset.StandardCharsets;
 import java.nio.file.Files;
 import java.nio.file.Path;
 import java.util.concurrent.CountDownLatch;
+import java.util.concurrent.atomic.AtomicInteger;
+import java.util.concurrent.locks.Lock;
+import java.util.concurrent.locks.ReentrantLock;
 
 /** A server and a client of HTTP. clients/web.py runs them beside those of other languages. */
 final class WebPrograms {
     private static final String TRACED = "traced";
 
+    private static final int ONE_IN = 1000;
+    /** So many bytes more than after the first quarter of the requests are kept behind the last one. */
+    private static final long MOST_MORE = 1_000_000;
+    private static final int LOOKS = 20;
+
     private WebPrograms() {}
+
+    /** Answers so many requests. One in a thousand forgets the lock. */
+    static void requests(int count) throws Exception {
+        System.setProperty("sun.net.httpserver.nodelay", "true"); // Else each response waits 40 ms for the system.
+        Lock lock = Traced.lock(new ReentrantLock());
+        AtomicInteger number = new AtomicInteger();
+        HttpServer server = HttpServer.create(new InetSocketAddress(InetAddress.getLoopbackAddress(), 0), 0);
+        HttpContext context =
+                server.createContext(
+                        "/",
+                        exchange -> {
+                            if (number.getAndIncrement() % ONE_IN == 0) {
+                                Traced.touch("total", true); // race: requests
+                            } else {
+                                lock.lock();
+                                Traced.touch("stock", true);
+                                lock.unlock();
+                            }
+                            answer(exchange);
+                        });
+        context.getFilters().add(TracedWeb.filter());
+        server.start();
+        URL address = new URL("http://127.0.0.1:" + server.getAddress().getPort() + "/");
+        long before = Long.MAX_VALUE;
+        for (int turn = 0; turn < count; turn++) {
+            try (InputStream body = address.openStream()) {
+                body.readAllBytes();
+            }
+            before = turn == count / 4 ? kept() : before;
+        }
+        long after = kept();
+        if (after > before + MOST_MORE) {
+            throw new IllegalStateException(after + " bytes are kept, and " + before + " before");
+        }
+        server.stop(0);
+    }
+
+    /** How many bytes are kept, once what is on its way is reported. */
+    private static long kept() throws InterruptedException {
+        long least = Long.MAX_VALUE;
+        for (int look = 0; look < LOOKS; look++) {
+            System.gc();
+            Thread.sleep(100);
+            least = Math.min(least, Runtime.getRuntime().totalMemory() - Runtime.getRuntime().freeMemory());
+        }
+        return least;
+    }
 
     /** Answers so many requests at a free port, which is told in the file. */
     static void serve(Path file, int count, String how) throws Exception {
@@ -50,6 +107,10 @@ final class WebPrograms {
         Traced.touchAcross("row", false); // race: web_server odd_heads two_requests
         Traced.touch("prices", false); // race: plain_server
         Traced.touch("log", true); // race: odd_heads two_requests
+        answer(exchange);
+    }
+
+    private static void answer(HttpExchange exchange) throws IOException {
         byte[] body = "read".getBytes(StandardCharsets.US_ASCII);
         exchange.sendResponseHeaders(200, body.length);
         try (OutputStream response = exchange.getResponseBody()) {

@@ -4,7 +4,7 @@
 
 use crate::journal::Site;
 use crate::place::{Gives, What};
-use crate::traced::{mark, on, take_by, Givers, Marks};
+use crate::traced::{mark, on, Givers, Marks};
 use std::fmt::{self, Debug};
 use std::panic::Location;
 
@@ -22,13 +22,13 @@ fn releases(order: Ordering) -> bool {
 
 fn acquire(marks: &Marks, order: Ordering, site: Site) {
     if let Some(tracer) = on().filter(|_| acquires(order)) {
-        marks.values().for_each(|mark| take_by(tracer, mark, site));
+        marks.take(tracer, site);
     }
 }
 
 fn release(marks: &mut Marks, order: Ordering, site: Site) {
-    if let Some(mark) = releases(order).then(|| mark(Gives::Order(&WRITE), site)).flatten() {
-        marks.insert(mark.place.task, mark);
+    if let (Some(mark), Some(tracer)) = (releases(order).then(|| mark(Gives::Order(&WRITE), site)).flatten(), on()) {
+        marks.put(tracer, mark);
     }
 }
 

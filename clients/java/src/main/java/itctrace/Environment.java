@@ -10,10 +10,10 @@ import java.util.Map;
 import java.util.Optional;
 
 /**
- * Where a process reports to, as whoever starts it says: the collector's port and tenant, the process's name in full, its journal, and
- * what it is if the process that started it has begun its task already.
+ * Where a process reports to, as whoever starts it says: the collector's port and tenant, the process's name in full, its journal,
+ * whether the relay divides a long run into parts, and what it is if the process that started it has begun its task already.
  */
-record Environment(int port, String tenant, String process, String journal, Optional<Child> child) {
+record Environment(int port, String tenant, String process, String journal, boolean hasParts, Optional<Child> child) {
     static final String JOURNAL = "ITC_TRACE_JOURNAL";
     private static final String CHILD = "ITC_TRACE_CHILD";
     private static final int MOST_PORT = 65535;
@@ -55,6 +55,7 @@ record Environment(int port, String tenant, String process, String journal, Opti
                         tenant.isEmpty() ? "trace" : tenant,
                         process.isEmpty() ? "p" : process,
                         named.getOrDefault(JOURNAL, ""),
+                        !named.getOrDefault("ITC_TRACE_PARTS", "").isEmpty(),
                         child));
     }
 

@@ -1,16 +1,23 @@
 package itctrace;
 
+import itctrace.Place.Gives;
 import itctrace.Place.Mark;
 import itctrace.Place.Noted;
 import java.util.HashMap;
+import java.util.List;
 import java.util.Map;
 
 /** The order of a lock that several threads may read under at once. They come after the last one that wrote, and before the next one. */
 final class ReadWriteOrder {
     private final LockName name = new LockName();
     private Mark byWriter;
-    /** Of each task where it was done reading last. */
+    /** Of each task where it was done reading last. What the last one did is at hand, as it may be the only one. */
     private final Map<Integer, Mark> byReaders = new HashMap<>();
+
+    private Mark byLastReader;
+    private int swept;
+    /** A task that comes after readers that have ended, so that one mark stands for all of them. */
+    private Task keeper;
 
     private Noted lastOfReader;
     private Noted lastOfWriter;
@@ -25,15 +32,52 @@ final class ReadWriteOrder {
         turns++;
         take(byWriter);
         if (isWriter) {
+            take(byLastReader);
             byReaders.values().forEach(this::take);
             byReaders.values().forEach(Mark::end);
             byReaders.clear();
+            Mark.endIfAny(byLastReader);
             Mark.endIfAny(byWriter);
+            byLastReader = null;
             byWriter = null;
         } else {
-            Mark.endIfAny(byReaders.remove(Traced.current().number)); // It gives a later place when it is done.
+            forgetReader(Traced.current()); // It gives a later place when it is done.
         }
         name.hold(Traced.own());
+    }
+
+    private void forgetReader(Task task) {
+        if (byLastReader != null && byLastReader.place.task == task) {
+            byLastReader.end();
+            byLastReader = null;
+        } else if (!byReaders.isEmpty()) {
+            Mark.endIfAny(byReaders.remove(task.number));
+        }
+    }
+
+    private void addReader(Mark mark) {
+        Mark before = byLastReader;
+        byLastReader = mark;
+        if (before != null && before.place.task == mark.place.task) {
+            before.end();
+        } else if (before != null) {
+            Mark.endIfAny(byReaders.put(before.place.task.number, before));
+            Mark.endIfAny(byReaders.remove(mark.place.task.number));
+            if (byReaders.size() > 2 * swept + Givers.MANY) {
+                sweep(mark.noted.gives());
+            }
+        }
+    }
+
+    private void sweep(Gives gives) {
+        List<Mark> ended = byReaders.values().stream().filter(mark -> mark.place.task.isEnded).toList();
+        if (!ended.isEmpty()) {
+            Mark kept = Traced.keep(keeper, ended, gives);
+            keeper = kept.place.task;
+            ended.forEach(mark -> byReaders.remove(mark.place.task.number).end());
+            Mark.endIfAny(byReaders.put(keeper.number, kept));
+        }
+        swept = byReaders.size();
     }
 
     private void take(Mark mark) {
@@ -64,7 +108,7 @@ final class ReadWriteOrder {
             byWriter = new Mark(here, noted);
         } else {
             lastOfReader = noted;
-            Mark.endIfAny(byReaders.put(here.task.number, new Mark(here, noted)));
+            addReader(new Mark(here, noted));
         }
     }
 

@@ -108,7 +108,7 @@ public final class Reporter implements AutoCloseable {
 
     private void write(int event, Row row) throws IOException {
         synchronized (journal) {
-            journal.write(row.text(event).getBytes(StandardCharsets.UTF_8));
+            journal.write(row.text(new Row.Event(event, 1), null).getBytes(StandardCharsets.UTF_8));
         }
     }
 }

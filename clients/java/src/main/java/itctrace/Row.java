@@ -22,6 +22,16 @@ record Row(String task, String thing, String kind, Site site, String label, List
     private static final int DIGITS = 6;
     private static final int NANOSECONDS = 1_000;
 
+    /** An event, by its number in its part of the trace. */
+    record Event(int number, int part) {
+        /** The event that was taken, as the reply says. Null if it was refused. */
+        static Event of(String reply) {
+            String[] words = reply.split(" ");
+            boolean isTaken = words[0].equals("201") && words.length > 1;
+            return isTaken ? new Event(Integer.parseInt(words[1]), words.length > 2 ? Integer.parseInt(words[2]) : 1) : null;
+        }
+    }
+
     /** A line of the program. */
     record Site(String file, int line, String function) {
         static final Site NONE = new Site(null, 0, "");
@@ -122,8 +132,12 @@ record Row(String task, String thing, String kind, Site site, String label, List
         return now.getEpochSecond() * MICROSECONDS + now.getNano() / NANOSECONDS;
     }
 
-    String text(int event) {
-        StringBuilder text = new StringBuilder("{\"event\":").append(event);
+    /** The line of the journal. A trace that may be divided needs the task or the message that the report names. Null if it names none. */
+    String text(Event event, String of) {
+        StringBuilder text = new StringBuilder("{\"event\":").append(event.number);
+        if (event.part > 1) {
+            text.append(",\"part\":").append(event.part);
+        }
         if (time > 0) {
             text.append(",\"time\":").append(BigDecimal.valueOf(time, DIGITS));
         }
@@ -137,6 +151,9 @@ record Row(String task, String thing, String kind, Site site, String label, List
         }
         if (lock != null) {
             text.append(",\"lock\":").append(quoted(lock));
+        }
+        if (of != null) {
+            text.append(",\"of\":").append(quoted(of));
         }
         return text.append("}\n").toString();
     }

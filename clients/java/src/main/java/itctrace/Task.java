@@ -32,7 +32,9 @@ final class Task {
     long position;
     /** The time of its last event. */
     long time;
-    /** The place at the end, for those who wait for a task that another one has joined. Null as long as the task goes on. */
+    /** Whether it does nothing more. */
+    volatile boolean isEnded;
+    /** The place at the end, for those who wait for a task that another one has joined. Null if nobody waits. */
     Mark end;
 
     Task joinedBy;
@@ -117,8 +119,8 @@ final class Task {
 
     /** The rows of an event that stands for all that its task touched between two other events. */
     static final class Touches {
-        /** Its number, once the collector has answered. */
-        int event;
+        /** Which one it is, once the collector has answered. */
+        Row.Event event;
 
         boolean isClosed;
         List<Row> fresh = new ArrayList<>();

@@ -7,6 +7,7 @@ import itctrace.Place.Noted;
 import itctrace.Row.Site;
 import itctrace.Task.Held;
 import java.io.IOException;
+import java.util.List;
 import java.util.Optional;
 import java.util.concurrent.BlockingQueue;
 import java.util.concurrent.CancellationException;
@@ -64,7 +65,7 @@ public final class Traced {
         Task task() {
             if (task == null) {
                 Thread thread = Thread.currentThread();
-                task = thread.getName().equals("main") && thread.getId() == 1 ? TRACER.main : TRACER.stranger(thread.getName());
+                task = thread.getName().equals("main") && thread.getId() == 1 ? TRACER.main : TRACER.stranger(thread);
             }
             return task;
         }
@@ -362,8 +363,21 @@ public final class Traced {
 
     static void end(Task task) {
         if (task != null && isOn()) {
-            TRACER.end(task);
+            TRACER.end(task, true);
         }
+    }
+
+    /** A task that nobody waits for ends, and this thread is the one before again. */
+    static void endUnawaited(Task task, Task before) {
+        if (task != null && isOn()) {
+            TRACER.end(task, false);
+        }
+        become(before);
+    }
+
+    /** One mark for those of tasks that have ended. It is of a task that comes after them, which is the one that is given, if there is one. */
+    static Mark keep(Task keeper, List<Mark> marks, Gives gives) {
+        return TRACER.kept(keeper == null ? TRACER.stranger("keeper") : keeper, marks, gives);
     }
 
     /** What is done as a task, and what it may throw. */

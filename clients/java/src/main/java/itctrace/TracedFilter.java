@@ -15,7 +15,7 @@ import java.io.OutputStream;
 import java.net.InetSocketAddress;
 import java.net.URI;
 
-/** Has each request be a task of its own, and its response a message. */
+/** Has each request be a task of its own. If it has brought a message, its response is one, too. */
 final class TracedFilter extends Filter {
     private static final Gives MADE = Gives.order("filter", "make filter", "begin request");
 
@@ -29,11 +29,13 @@ final class TracedFilter extends Filter {
 
     @Override
     public void doFilter(HttpExchange exchange, Chain chain) throws IOException {
-        TracedRequest request = Traced.request(exchange.getRequestHeaders().getFirst(Traced.HEADER));
+        String message = exchange.getRequestHeaders().getFirst(Traced.HEADER);
+        TracedRequest request = Traced.request(message);
         try {
             Traced.take(made, Site.NONE);
             // A handler may want what only an exchange over TLS has.
-            chain.doFilter(exchange instanceof HttpsExchange ? exchange : new Answering(exchange));
+            boolean isPlain = message == null || exchange instanceof HttpsExchange;
+            chain.doFilter(isPlain ? exchange : new Answering(exchange));
         } finally {
             request.close();
         }

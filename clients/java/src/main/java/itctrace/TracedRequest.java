@@ -24,7 +24,7 @@ public final class TracedRequest implements AutoCloseable {
     public void close() {
         if (!isClosed) {
             isClosed = true;
-            Traced.end(task, before);
+            Traced.endUnawaited(task, before);
         }
     }
 }

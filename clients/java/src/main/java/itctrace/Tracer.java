@@ -16,9 +16,10 @@ import java.io.InputStreamReader;
 import java.io.OutputStream;
 import java.net.Socket;
 import java.nio.charset.StandardCharsets;
+import java.lang.ref.Reference;
 import java.util.ArrayDeque;
 import java.util.ArrayList;
-import java.util.HashMap;
+import java.util.LinkedHashMap;
 import java.util.LinkedHashSet;
 import java.util.List;
 import java.util.Map;
@@ -36,7 +37,13 @@ final class Tracer {
     static final Gives END = Gives.order("end", "end", "see the end");
 
     private static final int MOST_EVENTS = 16384;
-    private static final int MOST_DIGITS = 6;
+    /** So many reports are on their way before the program waits, and it goes on at so few. */
+    private static final int MOST_OUTSTANDING = 8_000;
+    private static final int FEW_OUTSTANDING = 4_000;
+    /** From so many ended tasks of a child process on, one task comes after all of them. */
+    private static final int MANY_ENDED = 500;
+    /** From so many threads that nobody was seen to start on, it is looked which of them are gone. */
+    private static final int MANY_STRANGERS = 256;
     /** So many segments of a task wait at most to become one with others. */
     private static final int MOST_WAITING = 32768;
     /** If more segments than these have to be reported, it is looked which locks are no more. */
@@ -89,14 +96,24 @@ final class Tracer {
     private final OutputStream requests;
     private final BufferedReader replies;
     private final Environment.Opened journal;
-    private final String prefix;
+    private final Names names;
     private final String lastLine;
+    /** Whether the relay divides the trace into parts before it is full. */
+    private final boolean hasParts;
+
+    private final Gone gone = new Gone();
+    /** The threads that nobody was seen to start. */
+    private final Map<Thread, Task> strangers = new LinkedHashMap<>();
+
+    private int manyStrangers = MANY_STRANGERS;
     private final Set<Task> live = new LinkedHashSet<>();
     /** Tasks of a child process that nobody has joined. */
     private final Set<Task> ended = new LinkedHashSet<>();
     /** Whether another process of the trace has started this one. */
     private final boolean isChild;
-    private final Map<String, Integer> names = new HashMap<>();
+    /** In a child process, a task that comes after ended ones that nobody has joined. */
+    private Task keeper;
+
     private final StringBuilder unsent = new StringBuilder();
     private final StringBuilder unwritten = new StringBuilder();
     private final ArrayDeque<Report> outstanding = new ArrayDeque<>();
@@ -104,7 +121,7 @@ final class Tracer {
     /** The name of the process, in full. */
     private String process;
     private int reports;
-    private int messages;
+    private long messages;
     private int locks;
     private int children;
     private long patience = FIRST_PATIENCE;
@@ -118,12 +135,13 @@ final class Tracer {
     Tracer(Environment environment) throws IOException {
         process = environment.process();
         isChild = environment.child().isPresent();
+        hasParts = environment.hasParts();
         socket = new Socket("127.0.0.1", environment.port());
         try {
             socket.setTcpNoDelay(true);
             requests = socket.getOutputStream();
             replies = new BufferedReader(new InputStreamReader(socket.getInputStream(), StandardCharsets.US_ASCII));
-            String count = ask("report " + environment.tenant() + "\ncount");
+            String count = ask("report " + environment.tenant() + (hasParts ? "\nparts" : "") + "\ncount");
             if (!count.startsWith("200 ")) {
                 throw new IOException("tenant " + environment.tenant() + " at port " + environment.port() + ": " + count);
             }
@@ -137,8 +155,7 @@ final class Tracer {
         others.begin(main);
         live.add(main);
         live.add(others);
-        prefix = others.name.substring(0, others.name.length() - "others".length());
-        names.put("others", 1);
+        names = new Names(others.name.substring(0, others.name.length() - "others".length()), "others");
         lastLine = environment.child().map(child -> Row.childEnded(child.tag())).orElse(Row.END);
         journal = environment.openJournal();
         start(this::sendAll, "itctrace sender");
@@ -184,16 +201,22 @@ final class Tracer {
             String name = named.apply(number);
             long asked = Row.now();
             String reply = ask("spawn " + parent + " " + name);
-            if (reply.startsWith("201 ")) {
+            Row.Event event = Row.Event.of(reply);
+            if (event != null) {
                 long time = parent.equals("root") ? Row.now() : asked; // A process begins when it is answered.
                 Row row = Row.at(time, parent, "spawn", Site.NONE, hint + name, null);
-                unwritten.append(row.text(Integer.parseInt(reply.substring(4))));
+                unwritten.append(row.text(event, named(name)));
                 return new Task(name);
             }
             if (codeOf(reply) != TASK_EXISTS) {
                 throw new IOException("spawn " + parent + " " + name + ": " + reply);
             }
         }
+    }
+
+    /** What a row says of the name in a report. */
+    private String named(String name) {
+        return hasParts ? name : null;
     }
 
     private static int codeOf(String reply) {
@@ -208,6 +231,7 @@ final class Tracer {
 
     /** The task reads or writes the thing, which is of this process if it is not one across all. */
     synchronized void touch(Task task, String thing, boolean writes, boolean isAcross, Site site, Held held) {
+        holdBack();
         if (stage == Stage.OVER) {
             return;
         }
@@ -269,6 +293,9 @@ final class Tracer {
             place.position = ++task.position;
         }
         place.slot(noted.gives().isLuck()).message = message;
+        if (hasParts) {
+            gone.watch(place, message);
+        }
         long time = Math.max(noted.time(), task.time);
         Row row = Row.at(time, task.name, "send", noted.site(), noted.gives().giving(), noted.gives().luck());
         tell(task, "send " + task.name + " " + message, row, Refusable.NEVER, null);
@@ -349,6 +376,7 @@ final class Tracer {
 
     /** The task comes after the place. */
     synchronized void take(Task task, Place place, Noted noted, Site site) {
+        holdBack();
         boolean isLuck = noted.gives().isLuck();
         if (stage == Stage.OVER || place.task == task || task.knows(place, isLuck)) {
             return;
@@ -365,6 +393,7 @@ final class Tracer {
         Row row = Row.of(task.name, "recv", site, noted.gives().taking(), noted.gives().luck());
         tell(task, "recv " + task.name + " " + slot.message, row, Refusable.RECEIVED, null);
         done(task);
+        Reference.reachabilityFence(place); // Else its message may be forgotten before this receipt is noted.
     }
 
     /** Sends a place, and reports all that its task did before. */
@@ -383,8 +412,9 @@ final class Tracer {
     }
 
     synchronized Task spawn(Task parent, String hint, Site site) {
+        holdBack();
         leave(parent);
-        Task child = new Task(freshName(hint));
+        Task child = new Task(names.fresh(hint));
         tell(
                 parent,
                 "spawn " + parent.name + " " + child.name,
@@ -393,6 +423,9 @@ final class Tracer {
                 null);
         child.begin(parent);
         live.add(child);
+        if (hasParts) {
+            gone.watch(child);
+        }
         done(parent);
         return child;
     }
@@ -402,25 +435,57 @@ final class Tracer {
         return spawn(others, hint, Site.NONE);
     }
 
-    synchronized void end(Task task) {
-        if (task.end == null) {
-            Noted noted = new Noted(END, Site.NONE, Row.now());
-            task.here.meant.noted = noted;
-            task.end = new Mark(task.here, noted);
+    /** The same of this thread. Nobody tells of its end, so it is looked for once there are many. */
+    synchronized Task stranger(Thread thread) {
+        Task task = stranger(thread.getName());
+        strangers.put(thread, task);
+        if (strangers.size() > manyStrangers) {
+            List<Thread> over = strangers.keySet().stream().filter(one -> !one.isAlive()).toList();
+            over.forEach(one -> end(strangers.remove(one), false));
+            manyStrangers = MANY_STRANGERS + 2 * strangers.size();
+        }
+        return task;
+    }
+
+    /** The places of these tasks that have ended, by one place of a task that comes after all of them. */
+    synchronized Mark kept(Task by, List<Mark> marks, Gives gives) {
+        marks.forEach(mark -> take(by, mark.place, mark.noted, Site.NONE));
+        Noted noted = new Noted(gives, Site.NONE, Row.now());
+        by.here.slot(gives.isLuck()).noted = noted;
+        return new Mark(by.here, noted);
+    }
+
+    /** The task ends. If somebody may wait for it whom another one precedes, its last place tells it. */
+    synchronized void end(Task task, boolean isAwaited) {
+        if (!task.isEnded) {
+            task.isEnded = true;
+            if (isAwaited) {
+                Noted noted = new Noted(END, Site.NONE, Row.now());
+                task.here.meant.noted = noted;
+                task.end = new Mark(task.here, noted);
+            }
             leave(task);
             tell(task, "end " + task.name, Row.of(task.name, "end", Site.NONE, "end", null), Refusable.NEVER, null);
             live.remove(task);
-            if (isChild) {
+            if (isChild && task != main && task != keeper) {
                 ended.add(task);
+                keepEnded();
             }
             task.forget();
             done(task);
         }
     }
 
+    private void keepEnded() {
+        if (ended.size() > MANY_ENDED) {
+            keeper = keeper == null ? stranger("keeper") : keeper;
+            List.copyOf(ended).forEach(task -> join(keeper, task, Site.NONE));
+        }
+    }
+
     /** The task has seen that the child is done. */
     synchronized void join(Task task, Task child, Site site) {
-        if (child.end == null || child == task) {
+        if (!child.isEnded || child == task) {
             return;
         }
         if (child.joinedBy == null) {
@@ -431,7 +496,7 @@ final class Tracer {
             Row row = Row.of(task.name, "join", site, "join " + child.name, null);
             tell(task, "join " + task.name + " " + child.name, row, Refusable.NEVER, null);
             done(task);
-        } else if (child.joinedBy != task) {
+        } else if (child.joinedBy != task && child.end != null) {
             take(task, child.end.place, child.end.noted, site);
         }
     }
@@ -441,6 +506,7 @@ final class Tracer {
         CountDownLatch answered = new CountDownLatch(1);
         String message;
         synchronized (this) {
+            holdBack();
             leave(task);
             message = freshMessage("out");
             Row row = Row.of(task.name, "send", site, "send to another process", null);
@@ -463,6 +529,7 @@ final class Tracer {
     }
 
     synchronized void incoming(Task task, String message, Site site) {
+        holdBack();
         leave(task);
         Row row = Row.of(task.name, "recv", site, "receive from another process", null);
         tell(task, "recv " + task.name + " " + message, row, Refusable.FOREIGN, null);
@@ -476,13 +543,13 @@ final class Tracer {
         String tag;
         synchronized (this) {
             leave(task);
-            name = freshName(hint);
-            tag = prefix.substring(0, prefix.length() - 1) + "c" + ++children;
+            name = names.fresh(hint);
+            tag = names.prefix.substring(0, names.prefix.length() - 1) + "c" + ++children;
             Row row = Row.of(task.name, "spawn", site, "start " + name, null);
             tell(task, "spawn " + task.name + " " + name, row, Refusable.NEVER, answered);
             done(task);
         }
-        return isAnswered(answered) ? new Child(name, tag, process + "/" + name.substring(prefix.length())) : null;
+        return isAnswered(answered) ? new Child(name, tag, process + "/" + name.substring(names.prefix.length())) : null;
     }
 
     /** The task has seen that the child process is over. */
@@ -499,7 +566,7 @@ final class Tracer {
 
     /** What tells a lock from others of the same name. */
     synchronized String lockName(String name) {
-        return "#" + prefix + ++locks + " " + name;
+        return "#" + names.prefix + ++locks + " " + name;
     }
 
     // Reports
@@ -510,7 +577,8 @@ final class Tracer {
     }
 
     private void report(Report report) {
-        if (stage == Stage.OVER || ++reports > MOST_EVENTS + 1) { // No trace takes so many, and the reply that says so is on its way.
+        boolean isFull = ++reports > MOST_EVENTS + 1 && !hasParts; // No trace takes so many, and the reply that says so is on its way.
+        if (stage == Stage.OVER || isFull) {
             if (report.answered != null) {
                 report.answered.countDown();
             }
@@ -520,34 +588,24 @@ final class Tracer {
         outstanding.add(report);
     }
 
-    /** A name that no other task of this process has, short and readable. */
-    private String freshName(String hint) {
-        int room = Environment.MOST_NAME - prefix.length();
-        String base = cleaned(hint, room);
-        int number = names.getOrDefault(base, 0) + 1;
-        String name = numbered(base, number, room);
-        while (number > 1 && names.containsKey(name)) {
-            name = numbered(base, ++number, room);
-        }
-        names.put(base, number);
-        names.putIfAbsent(name, 1);
-        return prefix + name;
-    }
-
-    private static String cleaned(String hint, int room) {
-        String letters = hint.replaceAll("[^A-Za-z0-9]", "_").replaceAll("^_+", "");
-        String cut = letters.substring(0, Math.min(room, letters.length())).replaceAll("_+$", "");
-        return cut.isEmpty() ? "task" : cut;
-    }
-
-    private static String numbered(String base, int number, int room) {
-        String digits = number == 1 ? "" : "_" + number;
-        return base.substring(0, Math.min(base.length(), room - digits.length())) + digits;
-    }
-
     private String freshMessage(String hint) {
-        int room = Environment.MOST_NAME - prefix.length() - MOST_DIGITS - 1;
-        return prefix + hint.substring(0, Math.min(room, hint.length())) + "_" + ++messages;
+        return names.numbered(hint, ++messages);
+    }
+
+    /** Has the program wait if it notes faster than the collector takes, so that what is on its way stays small. */
+    private void holdBack() {
+        boolean isInterrupted = false;
+        for (boolean waits = hasParts && outstanding.size() > MOST_OUTSTANDING; waits; ) {
+            try {
+                wait();
+            } catch (InterruptedException interrupted) {
+                isInterrupted = true;
+            }
+            waits = outstanding.size() > FEW_OUTSTANDING && stage != Stage.OVER;
+        }
+        if (isInterrupted) {
+            Thread.currentThread().interrupt();
+        }
     }
 
     // The end
@@ -561,8 +619,12 @@ final class Tracer {
             return;
         }
         if (isEnd && isChild) {
+            if (keeper != null) {
+                end(keeper, false);
+                ended.add(keeper);
+            }
             List.copyOf(ended).forEach(task -> join(main, task, Site.NONE));
-            end(main);
+            end(main, false);
         }
         stage = Stage.ENDING;
         live.forEach(this::tellWaiting);
@@ -654,6 +716,7 @@ final class Tracer {
         String rows;
         boolean isLast;
         boolean settles;
+        boolean areManyKept;
         long served;
         synchronized (this) {
             if (unsent.length() == 0 && stage != Stage.OVER && !canSettle()) {
@@ -663,7 +726,9 @@ final class Tracer {
             gatherRows();
             isLast = stage == Stage.OVER;
             settles = canSettle();
+            areManyKept = gone.areMany();
             served = wanted;
+            gone.tell(unsent); // Behind all receipts, which were noted before.
             lines = isLast ? "" : unsent.toString();
             rows = unwritten + (settles ? lastLine : "");
             unsent.setLength(0);
@@ -677,6 +742,9 @@ final class Tracer {
             }
         }
         sendNow(lines);
+        if (areManyKept) {
+            System.gc(); // Nobody else may look for what is gone.
+        }
         return isLast;
     }
 
@@ -709,12 +777,12 @@ final class Tracer {
     /** Brings the journal up to what was touched by now. */
     private synchronized void gatherRows() {
         for (Touches touches : growing) {
-            if (touches.event > 0) {
-                touches.fresh.forEach(row -> unwritten.append(row.text(touches.event)));
+            if (touches.event != null) {
+                touches.fresh.forEach(row -> unwritten.append(row.text(touches.event, null)));
                 touches.fresh = new ArrayList<>();
             }
         }
-        growing.removeIf(touches -> touches.isClosed && touches.event > 0);
+        growing.removeIf(touches -> touches.isClosed && touches.event != null);
     }
 
     // The thread that reads replies
@@ -735,11 +803,12 @@ final class Tracer {
         if (report == null) {
             return;
         }
-        int event = reply.startsWith("201 ") ? Integer.parseInt(reply.substring(4)) : 0;
-        if (event > 0 && report.touches != null) {
+        Row.Event event = Row.Event.of(reply);
+        if (event != null && report.touches != null) {
             report.touches.event = event;
-        } else if (event > 0) {
-            unwritten.append(report.row.text(event));
+        } else if (event != null) {
+            String[] words = report.text.split(" ");
+            unwritten.append(report.row.text(event, words.length > 2 ? named(words[2]) : null));
         } else if (FULL.contains(codeOf(reply))) {
             giveUp("full", "the trace is full (" + reply + ")");
         } else if (!report.refusable.codes.contains(codeOf(reply))) {
@@ -748,7 +817,7 @@ final class Tracer {
         if (report.answered != null) {
             report.answered.countDown();
         }
-        if (outstanding.isEmpty()) {
+        if (outstanding.isEmpty() || outstanding.size() == FEW_OUTSTANDING) {
             notifyAll();
         }
     }
