@@ -29,7 +29,8 @@ final class WebPrograms {
     private static final int ONE_IN = 1000;
     /** So many bytes more than after the first quarter of the requests are kept behind the last one. */
     private static final long MOST_MORE = 1_000_000;
-    private static final int LOOKS = 20;
+    private static final int FEW_LOOKS = 20;
+    private static final int MANY_LOOKS = 400;
 
     private WebPrograms() {}
 
@@ -60,19 +61,19 @@ final class WebPrograms {
             try (InputStream body = address.openStream()) {
                 body.readAllBytes();
             }
-            before = turn == count / 4 ? kept() : before;
+            before = turn == count / 4 ? kept(FEW_LOOKS, 0) : before;
         }
-        long after = kept();
+        server.stop(0);
+        long after = kept(MANY_LOOKS, before + MOST_MORE);
         if (after > before + MOST_MORE) {
             throw new IllegalStateException(after + " bytes are kept, and " + before + " before");
         }
-        server.stop(0);
     }
 
-    /** How many bytes are kept, once what is on its way is reported. */
-    private static long kept() throws InterruptedException {
+    /** How many bytes are kept, once what is on its way is reported. It looks so often, or until these are enough. */
+    private static long kept(int looks, long enough) throws InterruptedException {
         long least = Long.MAX_VALUE;
-        for (int look = 0; look < LOOKS; look++) {
+        for (int look = 0; look < looks && least > enough; look++) {
             System.gc();
             Thread.sleep(100);
             least = Math.min(least, Runtime.getRuntime().totalMemory() - Runtime.getRuntime().freeMemory());
