@@ -13,14 +13,15 @@ pub use once::{LazyLock, Once, OnceLock};
 pub use std::sync::{Arc, LockResult, OnceState, PoisonError, TryLockError, TryLockResult, WaitTimeoutResult, Weak};
 
 use crate::journal::{LockName, Site};
-use crate::place::{Gives, What};
+use crate::place::{Gives, Place, What};
 use crate::traced::{self, hold, may_be_on, on, release_lock, Keeper, Release, MANY_MARKS};
 use crate::tracer::{Task, Tracer};
 use std::collections::BTreeMap;
 use std::fmt::{self, Debug, Display};
 use std::ops::{Deref, DerefMut};
 use std::panic::Location;
-use std::sync::atomic::{AtomicBool, AtomicU64, Ordering};
+use std::ptr;
+use std::sync::atomic::{AtomicBool, AtomicPtr, AtomicU64, Ordering};
 use std::sync::{self};
 use std::time::{Duration, Instant};
 
@@ -77,7 +78,7 @@ impl Hand {
     /// This thread is about to release the lock. Gives the place of that.
     fn releasing(&self, site: Site) -> Option<Release> {
         let tracer = on()?;
-        Some(release_lock(tracer, self.name(tracer), &self.is_signal, site))
+        release_lock(tracer, self.name(tracer), &self.is_signal, site)
     }
 
     /// The same of a lock that one thread alone has.
@@ -256,15 +257,6 @@ impl Readers {
         Readers { last: None, others: BTreeMap::new(), swept: 0, keeper: Keeper::new() }
     }
 
-    /// The task reads, and gives a later place when it is done.
-    fn remove(&mut self, task: Task) {
-        if self.last.as_ref().is_some_and(|last| last.place.task == task) {
-            self.last = None;
-        } else if !self.others.is_empty() {
-            self.others.remove(&task);
-        }
-    }
-
     fn put(&mut self, tracer: &Tracer, lock: LockName, release: Release) {
         let task = release.place.task;
         if let Some(before) = self.last.replace(release).filter(|before| before.place.task != task) {
@@ -292,18 +284,94 @@ impl Readers {
     }
 }
 
-/// A lock that several threads may read under at once. They come after the last one that wrote, and before the next one.
-pub struct RwLock<T: ?Sized> {
+/// The order of a lock with readers.
+struct Order {
     hand: Hand,
     released: sync::Mutex<Released>,
+    /// The places of the last writer and of the last reader in `released`, or null. Who has the lock sees by them what it need not look at.
+    writer: AtomicPtr<Place>,
+    reader: AtomicPtr<Place>,
+}
+
+impl Order {
+    #[track_caller]
+    const fn new() -> Order {
+        Order {
+            hand: Hand::new(),
+            released: sync::Mutex::new(Released { by_writer: None, by_readers: Readers::new() }),
+            writer: AtomicPtr::new(ptr::null_mut()),
+            reader: AtomicPtr::new(ptr::null_mut()),
+        }
+    }
+
+    fn released(&self) -> sync::MutexGuard<'_, Released> {
+        self.released.lock().unwrap_or_else(PoisonError::into_inner)
+    }
+
+    /// This thread comes after all who had the lock.
+    fn take_all(&self, site: Site) {
+        if let Some(tracer) = on() {
+            let (mut released, name) = (self.released(), self.hand.name(tracer));
+            self.writer.store(ptr::null_mut(), Ordering::Relaxed);
+            self.reader.store(ptr::null_mut(), Ordering::Relaxed);
+            released.by_writer.take().into_iter().for_each(|release| release.take_by(tracer, name, site));
+            std::mem::replace(&mut released.by_readers, Readers::new()).take_by(tracer, name, site);
+        }
+    }
+
+    /// This thread reads. It gives a later place when it is done, so what it gave before stays up to then.
+    #[inline(never)]
+    fn reads(&self, site: Site) {
+        if let Some(tracer) = on() {
+            let (name, writer) = (self.hand.name(tracer), self.writer.load(Ordering::Relaxed));
+            if !writer.is_null() && !traced::has_come_after(writer, self.hand.is_signal.load(Ordering::Relaxed)) {
+                if let Some(release) = &self.released().by_writer {
+                    release.take_by(tracer, name, site);
+                    traced::comes_after(release);
+                }
+            }
+            hold(name);
+        }
+    }
+
+    #[inline(never)]
+    fn has_read(&self, site: Site) {
+        let Some(tracer) = on() else { return };
+        let (name, known) = (self.hand.name(tracer), self.reader.load(Ordering::Relaxed));
+        if let Some(release) = traced::release_again(tracer, name, &self.hand.is_signal, site, known) {
+            let (mut released, place) = (self.released(), Arc::as_ptr(&release.place));
+            released.by_readers.put(tracer, name, release);
+            self.reader.store(place.cast_mut(), Ordering::Relaxed);
+        }
+    }
+
+    #[inline(never)]
+    fn writes(&self, site: Site) {
+        if let Some(tracer) = on() {
+            self.take_all(site);
+            hold(self.hand.name(tracer));
+        }
+    }
+
+    #[inline(never)]
+    fn has_written(&self, site: Site) {
+        if let Some(release) = self.hand.releasing(site) {
+            self.writer.store(Arc::as_ptr(&release.place).cast_mut(), Ordering::Relaxed);
+            self.released().by_writer = Some(release);
+        }
+    }
+}
+
+/// A lock that several threads may read under at once. They come after the last one that wrote, and before the next one.
+pub struct RwLock<T: ?Sized> {
+    order: Order,
     lock: sync::RwLock<T>,
 }
 
 /// The lock is released when this is dropped.
 #[must_use = "if unused the RwLock will immediately unlock"]
 pub struct RwLockReadGuard<'a, T: ?Sized> {
-    hand: &'a Hand,
-    released: &'a sync::Mutex<Released>,
+    order: &'a Order,
     site: Site,
     guard: sync::RwLockReadGuard<'a, T>,
 }
@@ -311,8 +379,7 @@ pub struct RwLockReadGuard<'a, T: ?Sized> {
 /// The lock is released when this is dropped.
 #[must_use = "if unused the RwLock will immediately unlock"]
 pub struct RwLockWriteGuard<'a, T: ?Sized> {
-    hand: &'a Hand,
-    released: &'a sync::Mutex<Released>,
+    order: &'a Order,
     site: Site,
     guard: sync::RwLockWriteGuard<'a, T>,
 }
@@ -321,44 +388,53 @@ impl<T> RwLock<T> {
     /// A lock that nobody has.
     #[track_caller]
     pub const fn new(value: T) -> RwLock<T> {
-        let released = sync::Mutex::new(Released { by_writer: None, by_readers: Readers::new() });
-        RwLock { hand: Hand::new(), released, lock: sync::RwLock::new(value) }
+        RwLock { order: Order::new(), lock: sync::RwLock::new(value) }
     }
 
     /// The value. This thread comes after whoever had the lock.
     #[track_caller]
     pub fn into_inner(self) -> LockResult<T> {
-        self.take_all(Some(Location::caller()));
+        self.order.take_all(Some(Location::caller()));
         self.lock.into_inner()
     }
 }
 
 impl<T: ?Sized> RwLock<T> {
     /// Waits until nobody writes.
+    #[inline]
     #[track_caller]
     pub fn read(&self) -> LockResult<RwLockReadGuard<'_, T>> {
-        let guarded = self.guarded_read(Some(Location::caller()));
-        self.lock.read().map(&guarded).map_err(|poisoned| PoisonError::new(guarded(poisoned.into_inner())))
+        let site = Some(Location::caller());
+        match self.lock.read() {
+            Ok(guard) => Ok(self.guarded_read(guard, site)),
+            Err(poisoned) => Err(PoisonError::new(self.guarded_read(poisoned.into_inner(), site))),
+        }
     }
 
     /// The lock for reading, if nobody writes.
     #[track_caller]
     pub fn try_read(&self) -> TryLockResult<RwLockReadGuard<'_, T>> {
-        let guarded = self.guarded_read(Some(Location::caller()));
+        let site = Some(Location::caller());
+        let guarded = |guard| self.guarded_read(guard, site);
         self.lock.try_read().map(&guarded).map_err(|failed| try_failed(failed, guarded))
     }
 
     /// Waits until nobody else has the lock.
+    #[inline]
     #[track_caller]
     pub fn write(&self) -> LockResult<RwLockWriteGuard<'_, T>> {
-        let guarded = self.guarded_write(Some(Location::caller()));
-        self.lock.write().map(&guarded).map_err(|poisoned| PoisonError::new(guarded(poisoned.into_inner())))
+        let site = Some(Location::caller());
+        match self.lock.write() {
+            Ok(guard) => Ok(self.guarded_write(guard, site)),
+            Err(poisoned) => Err(PoisonError::new(self.guarded_write(poisoned.into_inner(), site))),
+        }
     }
 
     /// The lock for writing, if nobody else has it.
     #[track_caller]
     pub fn try_write(&self) -> TryLockResult<RwLockWriteGuard<'_, T>> {
-        let guarded = self.guarded_write(Some(Location::caller()));
+        let site = Some(Location::caller());
+        let guarded = |guard| self.guarded_write(guard, site);
         self.lock.try_write().map(&guarded).map_err(|failed| try_failed(failed, guarded))
     }
 
@@ -375,45 +451,24 @@ impl<T: ?Sized> RwLock<T> {
     /// The value, which nobody else has. This thread comes after whoever had the lock.
     #[track_caller]
     pub fn get_mut(&mut self) -> LockResult<&mut T> {
-        self.take_all(Some(Location::caller()));
+        self.order.take_all(Some(Location::caller()));
         self.lock.get_mut()
     }
 
-    fn released(&self) -> sync::MutexGuard<'_, Released> {
-        self.released.lock().unwrap_or_else(PoisonError::into_inner)
+    #[inline(always)]
+    fn guarded_read<'a>(&'a self, guard: sync::RwLockReadGuard<'a, T>, site: Site) -> RwLockReadGuard<'a, T> {
+        if may_be_on() {
+            self.order.reads(site);
+        }
+        RwLockReadGuard { order: &self.order, site, guard }
     }
 
-    /// This thread comes after all who had the lock.
-    fn take_all(&self, site: Site) {
-        if let Some(tracer) = on() {
-            let (mut released, name) = (self.released(), self.hand.name(tracer));
-            released.by_writer.take().into_iter().for_each(|release| release.take_by(tracer, name, site));
-            std::mem::replace(&mut released.by_readers, Readers::new()).take_by(tracer, name, site);
+    #[inline(always)]
+    fn guarded_write<'a>(&'a self, guard: sync::RwLockWriteGuard<'a, T>, site: Site) -> RwLockWriteGuard<'a, T> {
+        if may_be_on() {
+            self.order.writes(site);
         }
-    }
-
-    fn guarded_read<'a>(&'a self, site: Site) -> impl Fn(sync::RwLockReadGuard<'a, T>) -> RwLockReadGuard<'a, T> {
-        move |guard| {
-            if let Some(tracer) = on() {
-                let (mut released, name) = (self.released(), self.hand.name(tracer));
-                if let Some(release) = &released.by_writer {
-                    release.take_by(tracer, name, site);
-                }
-                released.by_readers.remove(traced::current(tracer));
-                hold(name);
-            }
-            RwLockReadGuard { hand: &self.hand, released: &self.released, site, guard }
-        }
-    }
-
-    fn guarded_write<'a>(&'a self, site: Site) -> impl Fn(sync::RwLockWriteGuard<'a, T>) -> RwLockWriteGuard<'a, T> {
-        move |guard| {
-            if let Some(tracer) = on() {
-                self.take_all(site);
-                hold(self.hand.name(tracer));
-            }
-            RwLockWriteGuard { hand: &self.hand, released: &self.released, site, guard }
-        }
+        RwLockWriteGuard { order: &self.order, site, guard }
     }
 }
 
@@ -468,19 +523,19 @@ impl<T: ?Sized> DerefMut for RwLockWriteGuard<'_, T> {
 }
 
 impl<T: ?Sized> Drop for RwLockReadGuard<'_, T> {
+    #[inline]
     fn drop(&mut self) {
-        if let Some(tracer) = on() {
-            let name = self.hand.name(tracer);
-            let release = release_lock(tracer, name, &self.hand.is_signal, self.site);
-            self.released.lock().unwrap_or_else(PoisonError::into_inner).by_readers.put(tracer, name, release);
+        if may_be_on() {
+            self.order.has_read(self.site);
         }
     }
 }
 
 impl<T: ?Sized> Drop for RwLockWriteGuard<'_, T> {
+    #[inline]
     fn drop(&mut self) {
-        if let Some(release) = self.hand.releasing(self.site) {
-            self.released.lock().unwrap_or_else(PoisonError::into_inner).by_writer = Some(release);
+        if may_be_on() {
+            self.order.has_written(self.site);
         }
     }
 }

@@ -13,6 +13,7 @@ use std::ffi::OsStr;
 use std::panic::Location;
 use std::path::Path;
 use std::process::Command;
+use std::ptr;
 use std::sync::atomic::{AtomicBool, AtomicU8, Ordering};
 use std::sync::{Arc, Mutex, MutexGuard, OnceLock, PoisonError, Weak};
 
@@ -285,13 +286,19 @@ impl Release {
 
 /// This thread releases the lock here. If it has noted the same lock at the same place before, nobody asks for the time again.
 #[inline]
-pub(crate) fn release_lock(tracer: &Tracer, lock: LockName, is_signal: &AtomicBool, site: Site) -> Release {
+pub(crate) fn release_lock(tracer: &Tracer, lock: LockName, is_signal: &AtomicBool, site: Site) -> Option<Release> {
+    release_again(tracer, lock, is_signal, site, ptr::null())
+}
+
+/// The same, but none if this thread has released the lock at the known place already, and has done nothing since.
+#[inline]
+pub(crate) fn release_again(tracer: &Tracer, lock: LockName, is_signal: &AtomicBool, site: Site, known: *const Place) -> Option<Release> {
     #[cfg(test)]
     let _marking = MARKING.read();
-    THREAD.try_with(|thread| thread.release(tracer, lock, is_signal, site)).unwrap_or_else(|_| {
+    THREAD.try_with(|thread| thread.release(tracer, lock, is_signal, site, known)).unwrap_or_else(|_| {
         let (place, noted) = (tracer.here(current(tracer)), Noted::now(gives_of(lock, is_signal), site));
         place.slot(noted.gives.is_luck()).note(noted);
-        Release { place, site, is_luck: noted.gives.is_luck() }
+        Some(Release { place, site, is_luck: noted.gives.is_luck() })
     })
 }
 
@@ -323,19 +330,22 @@ impl Thread {
     }
 
     #[inline]
-    fn release(&self, tracer: &Tracer, lock: LockName, is_signal: &AtomicBool, site: Site) -> Release {
+    fn release(&self, tracer: &Tracer, lock: LockName, is_signal: &AtomicBool, site: Site, known: *const Place) -> Option<Release> {
         if self.let_go(lock.number) {
             is_signal.store(true, Ordering::Relaxed); // One that was acquired later stays, as in a lock made of two.
         }
         let is_luck = !is_signal.load(Ordering::Relaxed);
-        let known = self.here.borrow().upgrade();
-        let place = known.unwrap_or_else(|| is_somewhere(tracer));
         let key = Some((lock.number, site.map_or(0, |site| site as *const _ as usize), is_luck));
+        if self.noted.get() == key && !known.is_null() && self.here.borrow().as_ptr() == known {
+            return None;
+        }
+        let here = self.here.borrow().upgrade();
+        let place = here.unwrap_or_else(|| is_somewhere(tracer));
         if self.noted.get() != key {
             self.noted.set(key);
             place.slot(is_luck).note(Noted::now(gives_of(lock, is_signal), site));
         }
-        Release { place, site, is_luck }
+        Some(Release { place, site, is_luck })
     }
 }
 
@@ -375,6 +385,22 @@ fn has_taken(mark: &Mark) -> bool {
         taken.0.as_ptr() == Arc::as_ptr(&mark.place) && taken.1 == mark.noted.gives.is_luck()
     };
     THREAD.try_with(is_last).unwrap_or(false)
+}
+
+/// Whether the place is the one that this thread has come after last, as it was meant, or also by luck.
+#[inline]
+pub(crate) fn has_come_after(place: *const Place, is_meant: bool) -> bool {
+    let is_last = |thread: &Thread| {
+        let taken = thread.taken.borrow();
+        taken.0.as_ptr() == place && !(taken.1 && is_meant)
+    };
+    THREAD.try_with(is_last).unwrap_or(false)
+}
+
+/// This thread knows all that was done up to the place of a lock's release.
+pub(crate) fn comes_after(release: &Release) {
+    let taken = (Arc::downgrade(&release.place), release.is_luck);
+    let _ = THREAD.try_with(|thread| thread.taken.replace(taken));
 }
 
 /// From so many marks of tasks on, it is looked which of the tasks have ended.
