@@ -7,7 +7,7 @@ import itctrace.Row.Site;
 /** What a lock is called, in labels and as one of those that a task holds. It is looked at with the lock held. */
 final class LockName {
     /** After so many turns of one task alone, nobody looks for the line that releases the lock any more. */
-    private static final int FEW_TURNS = 16;
+    static final int FEW_TURNS = 16;
 
     private final Site made = Traced.site();
     private String name;
@@ -23,6 +23,16 @@ final class LockName {
             signal = new Gives("lock" + made.line(), "release " + told, "acquire " + told, name, false);
         }
         return name;
+    }
+
+    /** Has its name be known. */
+    void prepare() {
+        name();
+    }
+
+    /** Whether a release would give this now. */
+    boolean gives(Noted noted) {
+        return noted.gives() == (isSignal ? signal : luck);
     }
 
     /** Others wait for more than the lock, as for a condition. Then its hand-over is meant, and no luck. */

@@ -10,11 +10,16 @@ import java.util.Map;
 /** The order of a lock that several threads may read under at once. They come after the last one that wrote, and before the next one. */
 final class ReadWriteOrder {
     private final LockName name = new LockName();
-    private Mark byWriter;
+    /** It stays as it is while somebody reads. */
+    private volatile Mark byWriter;
     /** Of each task where it was done reading last. What the last one did is at hand, as it may be the only one. */
     private final Map<Integer, Mark> byReaders = new HashMap<>();
 
-    private Mark byLastReader;
+    private volatile Mark byLastReader;
+    /** Whether the line of an earlier release stands for the next ones. */
+    private volatile boolean isSettled;
+
+    private volatile boolean isNamed;
     private int swept;
     /** A task that comes after readers that have ended, so that one mark stands for all of them. */
     private Task keeper;
@@ -25,33 +30,47 @@ final class ReadWriteOrder {
     private int turns;
 
     /** This thread holds it from now on. */
-    synchronized void acquired(boolean isWriter) {
+    void acquired(boolean isWriter) {
         if (!Traced.isOn()) {
             return;
         }
-        turns++;
-        take(byWriter);
+        if (!isNamed) {
+            nameIt();
+        }
         if (isWriter) {
-            take(byLastReader);
-            byReaders.values().forEach(this::take);
-            byReaders.values().forEach(Mark::end);
-            byReaders.clear();
-            Mark.endIfAny(byLastReader);
-            Mark.endIfAny(byWriter);
-            byLastReader = null;
-            byWriter = null;
+            takeAll();
         } else {
-            forgetReader(Traced.current()); // It gives a later place when it is done.
+            read(Traced.own());
         }
         name.hold(Traced.own());
     }
 
-    private void forgetReader(Task task) {
-        if (byLastReader != null && byLastReader.place.task == task) {
-            byLastReader.end();
-            byLastReader = null;
-        } else if (!byReaders.isEmpty()) {
-            Mark.endIfAny(byReaders.remove(task.number));
+    private synchronized void nameIt() {
+        name.prepare();
+        isNamed = true;
+    }
+
+    private synchronized void takeAll() {
+        turns++;
+        take(byWriter);
+        take(byLastReader);
+        byReaders.values().forEach(this::take);
+        byReaders.values().forEach(Mark::end);
+        byReaders.clear();
+        Mark.endIfAny(byLastReader);
+        Mark.endIfAny(byWriter);
+        byLastReader = null;
+        byWriter = null;
+    }
+
+    /** What this thread gave when it was done reading before stays up to its next release. */
+    private void read(Traced.Own own) {
+        Mark writer = byWriter;
+        if (writer != null && writer.place.task != own.task() && !own.hasTaken(writer)) {
+            synchronized (this) {
+                take(writer);
+            }
+            own.tookLast(writer);
         }
     }
 
@@ -83,6 +102,7 @@ final class ReadWriteOrder {
     private void take(Mark mark) {
         if (mark != null && mark.place.task != Traced.current()) {
             turns = 0;
+            isSettled = false;
             Traced.take(mark, Traced.site());
         }
     }
@@ -95,13 +115,26 @@ final class ReadWriteOrder {
     }
 
     /** This thread is about to release it. */
-    synchronized void releasing(boolean isWriter) {
+    void releasing(boolean isWriter) {
         if (!Traced.isOn()) {
             return;
         }
-        name.letGo(Traced.own());
-        Place here = Traced.here();
+        if (!isNamed) {
+            nameIt(); // It may have been acquired before there was a trace.
+        }
+        Traced.Own own = Traced.own();
+        name.letGo(own);
+        Mark last = byLastReader;
+        boolean isThere = !isWriter && isSettled && last != null && last.place == own.task().here && name.gives(last.noted);
+        if (!isThere) {
+            release(own.task().here, isWriter);
+        }
+    }
+
+    private synchronized void release(Place here, boolean isWriter) {
+        turns++;
         Noted noted = name.release(here, isWriter ? lastOfWriter : lastOfReader, turns);
+        isSettled = turns >= LockName.FEW_TURNS;
         if (isWriter) {
             lastOfWriter = noted;
             Mark.endIfAny(byWriter);

@@ -44,6 +44,19 @@ public final class Traced {
     static final class Own {
         private Task task;
         private Held held;
+        /** The last place of another task that the task has come after, to be read under a lock, and whether by luck. */
+        private Place taken;
+
+        private boolean isTakenByLuck;
+
+        boolean hasTaken(Mark mark) {
+            return taken == mark.place && (!isTakenByLuck || mark.noted.gives().isLuck());
+        }
+
+        void tookLast(Mark mark) {
+            taken = mark.place;
+            isTakenByLuck = mark.noted.gives().isLuck();
+        }
 
         /** This thread holds the lock from now on. */
         void hold(String lock) {
@@ -352,6 +365,7 @@ public final class Traced {
         Own own = OWN.get();
         Task before = own.task;
         own.task = task;
+        own.taken = null;
         return before;
     }
 

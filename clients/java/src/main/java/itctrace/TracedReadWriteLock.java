@@ -44,7 +44,7 @@ final class TracedReadWriteLock implements ReadWriteLock {
 
         @Override
         void releasing() {
-            if (isHeld.getAsBoolean()) {
+            if (Traced.isOn() && isHeld.getAsBoolean()) {
                 order.releasing(isWriter);
             }
         }
