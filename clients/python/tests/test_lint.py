@@ -61,9 +61,8 @@ is known at run time alone.
 WIDTH = 120
 UNBROKEN = frozenset({
     "cli.commands", "cli.ending", "cli.launch", "cli.run", "cli.sentinel", "cli.statuses", "cli.system",
-    "cli.system_file",
-    "cli.traced_process", "watch.finder", "watch.hooks", "watch.kept", "watch.learned", "watch.leaving", "watch.making",
-    "watch.on_stack", "watch.passed_over", "watch.rewrite", "watch.scopes", "watch.stored",
+    "cli.system_file", "cli.traced_process", "watch.on_stack", "watch.passed_over", "watch.rewrite", "watch.scopes",
+    "watch.stored",
 })
 """Modules that have longer lines yet."""
 

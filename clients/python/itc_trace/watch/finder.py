@@ -16,7 +16,8 @@ from .stored import imported_by, look_through
 
 OWN_FOLDER = os.path.dirname(os.path.dirname(os.path.abspath(__file__)))
 LIBRARY_FOLDERS = tuple(
-    os.path.realpath(path) + os.sep for path in {sysconfig.get_path(name) for name in ("stdlib", "platstdlib", "purelib", "platlib")}
+    os.path.realpath(path) + os.sep
+    for path in {sysconfig.get_path(name) for name in ("stdlib", "platstdlib", "purelib", "platlib")}
 )
 INSTALLED = ("site-packages", "dist-packages")
 COMPILED = tuple(importlib.machinery.BYTECODE_SUFFIXES + importlib.machinery.EXTENSION_SUFFIXES)
@@ -53,7 +54,9 @@ class Selection:
 
     def folder_of(self, file: str) -> str:
         """The watched folder that the file is in, else its own."""
-        return next((folder for folder in self.folders if _is_within(file, folder)), os.path.dirname(os.path.realpath(file)))
+        return next(
+            (folder for folder in self.folders if _is_within(file, folder)), os.path.dirname(os.path.realpath(file)),
+        )
 
     def has_import(self, name: str) -> bool:
         """Whether what is imported by this dotted name may be of a module that is watched."""
@@ -71,7 +74,8 @@ def _is_within(file: str, folder: str) -> bool:
 
 
 class Loader(importlib.machinery.SourceFileLoader):
-    """Loads a module with hooks, whose code is at hand: so no frame of this package stands in the traceback of an import."""
+    """Loads a module with hooks, whose code is at hand:
+    so no frame of this package stands in the traceback of an import."""
 
     def __init__(self, name: str, path: str, code: CodeType) -> None:
         super().__init__(name, path)
@@ -81,7 +85,9 @@ class Loader(importlib.machinery.SourceFileLoader):
         return self._code
 
 
-def with_hooks(source: bytes, file: str, module: str, selection: Selection, plain: Callable[[], CodeType | None]) -> CodeType | None:
+def with_hooks(
+    source: bytes, file: str, module: str, selection: Selection, plain: Callable[[], CodeType | None],
+) -> CodeType | None:
     """The code of a module with hooks, else its plain one; then one line says so. None if it has none."""
     try:
         made = kept_code(source, file, module, selection.has_import)
@@ -105,7 +111,8 @@ def look_around(source: bytes, file: str, selection: Selection) -> None:
 
 
 def tell_unwatched(file: str, fault: BaseException) -> None:
-    told = f"{os.path.basename(file)} runs as it is, and is not watched: {f'{type(fault).__name__}: {fault}'.splitlines()[0]}"
+    why = f"{type(fault).__name__}: {fault}".splitlines()[0]
+    told = f"{os.path.basename(file)} runs as it is, and is not watched: {why}"
     UNWATCHED.append(Unseen(Cause.MODULE, told))
     FILES.add(file)
     if sys.__stderr__ is not None:
@@ -126,7 +133,9 @@ class Finder:
 
     def with_loader(self, spec: importlib.machinery.ModuleSpec | None) -> importlib.machinery.ModuleSpec | None:
         """A module that the program finds by itself, with the loader that gives it hooks if it is watched."""
-        if spec is None or type(spec.loader) is not importlib.machinery.SourceFileLoader or not self.selection.has_file(spec.name, spec.origin):
+        if spec is None or type(spec.loader) is not importlib.machinery.SourceFileLoader:
+            return spec
+        if not self.selection.has_file(spec.name, spec.origin):
             return spec
         code = self._code_of(spec.name, spec.loader)
         if code is not None and spec.origin is not None:

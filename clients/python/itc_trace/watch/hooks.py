@@ -1,7 +1,7 @@
 """The hooks that stand in a rewritten module. Each gives back what it was given, and runs no code of the program.
 
-They look at types alone. A touch that was noted in this stretch already costs a look into two dictionaries. What only one variable
-of a function refers to is shared with nobody, and is not noted.
+They look at types alone. A touch that was noted in this stretch already costs a look into two dictionaries. What only
+one variable of a function refers to is shared with nobody, and is not noted.
 """
 
 from __future__ import annotations
@@ -28,11 +28,13 @@ from ..model.lines import state
 from ..record.noting import begin_stretch, lost, touched_all
 from ..model.stretches import STRETCHES
 from .both_languages import (
-    DEEP, IF_OWN, LEFT, LOOKED_THROUGH_AT_ONCE, MOST_BEGUN, NO_TOUCH, OF_DICT, OF_FIELD, OF_LIST, OF_SHAPE, OF_STEPS, OTHER, OWN_OR_OF_CLASS,
+    DEEP, IF_OWN, LEFT, LOOKED_THROUGH_AT_ONCE, MOST_BEGUN, NO_TOUCH, OF_DICT, OF_FIELD, OF_LIST, OF_SHAPE, OF_STEPS,
+    OTHER, OWN_OR_OF_CLASS,
 )
 from .decisions import (
-    AS_KEY, BY_ELEMENTS, COMPOSED, FIELD, FILES, OF_CLASS, OF_METHOD, OF_MODULE, OF_SUPER, OF_TYPE, OWN_FIELD, PLAIN, SKIP, STEPPED,
-    VIEWS, WATCHED, class_with, decision, family_of, field_inside, fields_of, has_own_method, has_setter, has_watched_method, ids_of,
+    AS_KEY, BY_ELEMENTS, COMPOSED, FIELD, FILES, OF_CLASS, OF_METHOD, OF_MODULE, OF_SUPER, OF_TYPE, OWN_FIELD, PLAIN,
+    SKIP, STEPPED, VIEWS, WATCHED, class_with, decision, family_of, field_inside, fields_of, has_own_method, has_setter,
+    has_watched_method, ids_of,
     is_bound_by_code, is_watched_class, mro_of, name_of, value_of_element, value_of_field, vars_of, without_own,
 )
 from .as_fields import FIELDS_OF, keep_fields_of, object_of
@@ -41,8 +43,8 @@ from .inside import OWN_STEPS, behind, fields_looked_at, inside_of, is_by_own_me
 from .keys import SIMPLE, UNKNOWN, tell_of_unknown, value_of
 from .kinds import DEEP as DEEP_SITES
 from .kinds import (
-    BUFFER, BY_FIELDS, COMPARED, DEPTHS_OF_METHODS, DEQUE, DICT, IN_PLACE_METHODS, KEYED, LIST, OF_FILE, OF_GENERATOR, ORDERED, SHOWN, TRUTH,
-    VARIABLES, WHOLE, WRITTEN,
+    BUFFER, BY_FIELDS, COMPARED, DEPTHS_OF_METHODS, DEQUE, DICT, IN_PLACE_METHODS, KEYED, LIST, OF_FILE, OF_GENERATOR,
+    ORDERED, SHOWN, TRUTH, VARIABLES, WHOLE, WRITTEN,
 )
 from .late import ADDED, FOUND, LOOKING, NOTHING, READ_ONLY, again, by_kinds, note_shared, saw, share, shorten
 from .late import cell as cell_late
@@ -56,7 +58,9 @@ from .places import ACCESSES, CASES, MADE_HERE, OF_BASE, SKIPPED, Access
 from .rewrite import OF_OBJECT, ON, PREFIX
 from .seen import NEVER
 from .templates import Path, field_paths
-from .things import MADE, OWNERS, Made, Owner, let_go_of_some, made_by, made_here, maker_now, mark_of, owner_of, variable_of
+from .things import (
+    MADE, OWNERS, Made, Owner, let_go_of_some, made_by, made_here, maker_now, mark_of, owner_of, variable_of,
+)
 
 INDEXED: tuple[Any, ...] = (list, bytearray, array, deque)
 FLAT = PLAIN - {id(tuple), id(frozenset)}
@@ -290,7 +294,8 @@ def _touch_through_object(one: Any, name: str, mark: Any, site: int) -> None:
 
 def _touch_in_place(value: Any, kind: str, site: int) -> None:
     """What an assignment as `+=` does to the container that stands in a field."""
-    if family_of(type(value)) is not None and not any([has_watched_method(type(value), name) for name in IN_PLACE_METHODS[kind]]):
+    is_container = family_of(type(value)) is not None
+    if is_container and not any([has_watched_method(type(value), name) for name in IN_PLACE_METHODS[kind]]):
         saw(owner_of(value, ACCESSES[site].name), site, (shape_late, site, kind, site))
 
 
@@ -421,7 +426,10 @@ def _touch_whole_inside(one: Any, site: int) -> None:
 
 
 def _depth_of(access: Access) -> str:
-    """How deep the place looks. What a method is given is only looked into by those that make a text of it, and by a writer of rows."""
+    """How deep the place looks.
+
+    What a method is given is only looked into by those that make a text of it, and by a writer of rows.
+    """
     if access.what == "given":
         return DEPTHS_OF_METHODS.get(access.name, "")
     return access.name if access.what == "whole" else ""
@@ -554,7 +562,10 @@ def _has_few(one: Any, limit: int) -> bool:
 
 
 def _match(subject: Any, site: int, is_own: bool, variables: dict[str, Any]) -> None:
-    """Looks at a subject as the patterns do. One that nobody else refers to is not shared, but what is inside may be."""
+    """Looks at a subject as the patterns do.
+
+    One that nobody else refers to is not shared, but what is inside may be.
+    """
 
     def touch_keyed(one: Any, key: Any, site: int) -> None:
         if not is_own or one is not subject:
@@ -608,7 +619,10 @@ def _touch_fields(one: Any, site: int, is_inside: bool) -> None:
 
 
 def _kind_of(kind: str, family: int | None) -> str:
-    """Only what goes through the keys of a dictionary does not look at its values. Who goes through a buffer moves its position."""
+    """Only what goes through the keys of a dictionary does not look at its values.
+
+    Who goes through a buffer moves its position.
+    """
     if family == BUFFER:
         return REWRITE
     return ITERATION if kind == KEYS and family != DICT else kind
@@ -625,7 +639,10 @@ _BY_IDENTITY = frozenset((SHOWN, WRITTEN, COMPARED, ORDERED))
 # Iterators
 
 def _goes_on_by(kind: type, access: Access) -> bool:
-    """Whether an iterator of this type goes on where the place looks at it. A text, a comparison and a copy leave it where it is."""
+    """Whether an iterator of this type goes on where the place looks at it.
+
+    A text, a comparison and a copy leave it where it is.
+    """
     if access.kinds == ITERATION and id(kind) not in FILES:
         return not _depth_of(access) and not (access.what == "given" and access.name in _COMPARING_METHODS)
     return access.kinds == KEYS
@@ -636,7 +653,10 @@ def _is_step_method(kind: type, name: str) -> bool:
 
 
 def _touch_iterator(one: Any, site: int, is_reached: bool) -> None:
-    """A step of an iterator that others reach changes it, and what it goes on with. The container that it goes through is looked at."""
+    """A step of an iterator that others reach changes it, and what it goes on with.
+
+    The container that it goes through is looked at.
+    """
     text, kind = ACCESSES[site].text, type(one)
     late = shape_late, site, WRITE, site
     if not is_reached:
@@ -698,7 +718,10 @@ def _stepping(one: Any, site: int, limit: int) -> Any:
 
 
 def _stepping_by_view(one: Any, view: type, container: Any, site: int) -> Any:
-    """Through one that goes through a view of a container. A view that nobody has kept was made where the container was looked at."""
+    """Through one that goes through a view of a container.
+
+    A view that nobody has kept was made where the container was looked at.
+    """
     if FIELDS_OF and object_of(container) is not None:
         _touch_by_view(container, view, KEYS, site)
         return one
@@ -943,20 +966,24 @@ def _touch_key(one: Any, owner: Owner, key: Any, kinds: str, family: int, site: 
     if access.name == SETDEFAULT and access.what not in BY_ASSIGNMENT:
         at_once = kinds == AT_ONCE and is_simple
         kinds = (FOUND if at_once else READ_ONLY) if is_there else ADDED if at_once else "rw"
-    elif kinds == "r" and not is_there and is_simple and access.what == "element" and issubclass(type(one), defaultdict):
-        kinds = "rw"
+    elif kinds == "r" and not is_there and is_simple and access.what == "element":
+        kinds = "rw" if issubclass(type(one), defaultdict) else "r"
     change = ADDITION if kinds == "d" or not is_there else REPLACEMENT
     is_kept = id(type(key)) in SIMPLE
     of_key, name = mark_of(key, value)
     if not is_simple:
         tell_of_unknown(key, site)
     mark = (site, key) if is_kept else (site, of_key)
-    saw(owner, mark, (key_late, of_key, name, kinds, change, site), is_repeated and is_there and kinds != "d" and is_kept)
+    saw(
+        owner, mark, (key_late, of_key, name, kinds, change, site),
+        is_repeated and is_there and kinds != "d" and is_kept,
+    )
 
 
 BY_ASSIGNMENT = ("element", "field")
 SETDEFAULT, AT_ONCE = "setdefault", "at once"
-"""The method that looks for a key and adds it: at once, if the container is the language's own, and no key has code of the program."""
+"""The method that looks for a key and adds it: at once, if the container is the language's own,
+and no key has code of the program."""
 _VARIABLES_OF_SYSTEM = value_of_field(os.environ, VARIABLES)
 
 
@@ -1239,7 +1266,9 @@ def _what_of_steps(kind: type, family: int | None, access: Access, site: int) ->
     if family is None and field_inside(kind):
         return LEFT_TO_PYTHON
     if id(kind) in STEPPED:
-        return (OTHER, None, "", "") if id(kind) in COMPOSED else (OF_STEPS, (shape_late, site, WRITE, site), access.text, "")
+        if id(kind) in COMPOSED:
+            return OTHER, None, "", ""
+        return OF_STEPS, (shape_late, site, WRITE, site), access.text, ""
     if family is None or has_own_method(kind, "__iter__"):
         return NOT_TOUCHED
     return OF_STEPS, (shape_late, site, _kind_of(KEYS, family), site), access.text, ""
@@ -1254,7 +1283,9 @@ def _what_of_whole(kind: type, family: int | None, access: Access, site: int) ->
         what = DEEP if _depth_of(access) in DEEP_SITES else OF_SHAPE
         return what, (shape_late, site, _kind_of(access.kinds, family), site), access.text, ""
     if id(kind) in STEPPED:
-        return NOT_TOUCHED if not _goes_on_by(kind, access) else LEFT_TO_PYTHON if field_inside(kind) else (OTHER, None, "", "")
+        if not _goes_on_by(kind, access):
+            return NOT_TOUCHED
+        return LEFT_TO_PYTHON if field_inside(kind) else (OTHER, None, "", "")
     is_looked_into = is_watched_class(kind) or kind is types.SimpleNamespace or issubclass(kind, (tuple, frozenset))
     return LEFT_TO_PYTHON if field_inside(kind) or _depth_of(access) and is_looked_into else NOT_TOUCHED
 
@@ -1273,7 +1304,8 @@ def _what_of_key(kind: type, family: int, access: Access) -> What:
         return OTHER, None, access.text, ""
     if kind is dict and kinds:
         kinds, if_there = (ADDED, FOUND) if access.name == SETDEFAULT and is_method else (kinds, kinds)
-        return OF_DICT, (key_late, kinds, ADDITION if kinds == "d" else REPLACEMENT, if_there, ADDITION), access.text, ""
+        change = ADDITION if kinds == "d" else REPLACEMENT
+        return OF_DICT, (key_late, kinds, change, if_there, ADDITION), access.text, ""
     if kind is list and kinds in ("r", "w", "rw"):
         return OF_LIST, (index_late, kinds), access.text, ""
     return OTHER, None, access.text, ""
@@ -1298,11 +1330,14 @@ FOLLOWED: tuple[type, ...] = (
 
 def _set_up() -> None:
     quick.setup(
-        stretches=STRETCHES, state=state, made=MADE, begun=BEGUN, begun_more=OF_VARIABLE - 1 - OF_VARIABLE_IN_C, never=NEVER,
-        owner_type=Owner, made_type=Made, maker=maker_now, begin_stretch=begin_stretch, share=share, shorten=shorten, saw=saw,
-        note_shared=note_shared, what_of=lambda hook, kind, site: _what_of(hook, kind, site), lost=lost,
-        field=lambda one, site: _touch_field(one, site), whole=lambda one, site, is_own: _touch_whole(one, site, NOBODY if is_own else ANYBODY),
-        nested=lambda one, site: _touch_nested(one, site), fields_of=FIELDS_OF, followed=FOLLOWED, method=_touch_method_inside,
+        stretches=STRETCHES, state=state, made=MADE, begun=BEGUN, begun_more=OF_VARIABLE - 1 - OF_VARIABLE_IN_C,
+        never=NEVER, owner_type=Owner, made_type=Made, maker=maker_now, begin_stretch=begin_stretch, share=share,
+        shorten=shorten, saw=saw, note_shared=note_shared,
+        what_of=lambda hook, kind, site: _what_of(hook, kind, site), lost=lost,
+        field=lambda one, site: _touch_field(one, site),
+        whole=lambda one, site, is_own: _touch_whole(one, site, NOBODY if is_own else ANYBODY),
+        nested=lambda one, site: _touch_nested(one, site), fields_of=FIELDS_OF, followed=FOLLOWED,
+        method=_touch_method_inside,
         steps=lambda one, site, is_own: _stepping(one, site, NOBODY if is_own else ANYBODY),
         keyed=lambda one, key, site: _touch_keyed(one, key, site, ANYBODY), variable=lambda site: _touch_variable(site),
         cell=lambda one, site: _touch_cell(one, site), went_on=lambda owner, site: _went_on(owner, site),
@@ -1325,7 +1360,9 @@ def _nothing(*_: Any) -> None:
     return None
 
 
-HOOKS: dict[str, Callable[..., Any]] = {name[5:]: one for name, one in list(globals().items()) if name.startswith("hook_")}
+HOOKS: dict[str, Callable[..., Any]] = {
+    name[5:]: one for name, one in list(globals().items()) if name.startswith("hook_")
+}
 ALWAYS = frozenset(("after_making", "at_constructor"))
 BUILDS_CLASSES = "__build_class__"
 """A name of the builtins that nothing else has."""
@@ -1361,7 +1398,8 @@ def put(is_on: bool) -> None:
 
 
 def put_for_the_end() -> None:
-    """Puts hooks that do nothing into the copy by which the interpreter replaces all builtins before it lets go of the modules.
+    """Puts hooks that do nothing into the copy by which the interpreter replaces all builtins before it lets go of the
+    modules.
 
     What the program's finalizers run then has hooks, too. The copy is known by its names, as nothing refers to it.
     """

@@ -1,6 +1,7 @@
 """Keeps what is made of sources as the language keeps what it compiles: beside them, or in a folder of the user's own.
 
-An entry has the digest of what it was made of, that of all that decides how, and that of itself. What does not fit is made anew.
+An entry has the digest of what it was made of, that of all that decides how, and that of itself. What does not fit is
+made anew.
 """
 
 from __future__ import annotations
@@ -69,7 +70,10 @@ def _python() -> tuple[object, ...]:
 
 
 class Kept:
-    """The entries of one file. `kind` tells what they are, and `words` are what decides how they were made, beside the file itself."""
+    """The entries of one file.
+
+    `kind` tells what they are, and `words` are what decides how they were made, beside the file itself.
+    """
 
     def __init__(self, file: str, kind: str, source: bytes, *words: str) -> None:
         self._file = file
@@ -107,7 +111,8 @@ class Kept:
             pass
 
     def _decided(self) -> bytes:
-        return digest(_setting(), *(word.encode("utf-8", "surrogateescape") for word in (self._kind, self._file, *self._words)))
+        words = (self._kind, self._file, *self._words)
+        return digest(_setting(), *(word.encode("utf-8", "surrogateescape") for word in words))
 
     def _slots(self) -> Iterator[str]:
         """The files of the entries, up to the first one that is not there."""
@@ -139,7 +144,8 @@ class Kept:
         folder = os.path.dirname(beside)
         if not self._is_main and _is_own(folder):
             return f"{beside.removesuffix('.pyc')}-itc_trace-{self._kind}"
-        return os.path.join(_user_folder(), f"{digest(os.path.abspath(self._file).encode('utf-8', 'surrogateescape')).hex()}-{self._kind}")
+        path = os.path.abspath(self._file).encode("utf-8", "surrogateescape")
+        return os.path.join(_user_folder(), f"{digest(path).hex()}-{self._kind}")
 
 
 def _is_own(folder: str) -> bool:
@@ -162,7 +168,10 @@ def _user_folder() -> str:
 
 
 def _opened(file: str) -> int | None:
-    """A file that this user alone has written. Whoever may rename it may put another one there, so the open one is looked at."""
+    """A file that this user alone has written.
+
+    Whoever may rename it may put another one there, so the open one is looked at.
+    """
     one = open_file(file, O_RDONLY | getattr(os, "O_CLOEXEC", 0) | getattr(os, "O_NONBLOCK", 0))
     kept = fstat(one)
     if stat.S_ISREG(kept.st_mode) and kept.st_uid == os.getuid() and not kept.st_mode & OTHERS_MAY_WRITE:

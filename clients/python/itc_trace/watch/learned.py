@@ -1,4 +1,5 @@
-"""What the rewriting of a module asks of the process, and what it finds out: kept beside the code, for a later run is to know the same."""
+"""What the rewriting of a module asks of the process, and what it finds out: kept beside the code,
+for a later run is to know the same."""
 
 from __future__ import annotations
 
@@ -7,9 +8,13 @@ from collections.abc import Callable
 from typing import Any, NamedTuple
 
 STORED_ELSEWHERE: set[str] = set()
-"""Names that some module has stored in another, as `config.debug = True` does. A module that imports is looked at before what it imports."""
+"""Names that some module has stored in another, as `config.debug = True` does.
+
+A module that imports is looked at before what it imports.
+"""
 STORED_FIELDS: set[str] = set()
-"""Names of fields that some module stores: what is called by such a name may be anything, and is no method of a class mostly."""
+"""Names of fields that some module stores: what is called by such a name may be anything,
+and is no method of a class mostly."""
 
 AccessRow = tuple[str, str, str, str, Any]
 """What is touched at a place, how, by which name and text, and what else is known."""
@@ -74,7 +79,8 @@ class Learned:
 
     def found(self) -> Found:
         return Found(
-            self.first, self.lines, self.functions, self.accesses, self.cases, self.handed, self.passed_over, self.fields, self.elsewhere,
+            self.first, self.lines, self.functions, self.accesses, self.cases, self.handed, self.passed_over,
+            self.fields, self.elsewhere,
         )
 
     # What is asked

@@ -1,6 +1,7 @@
 """Has code that leaves the process by value leave without hooks, since who takes it may have none, or others.
 
-What pickles a function by value, as cloudpickle does, reads its code. So it is given the code that the source is compiled to.
+What pickles a function by value, as cloudpickle does, reads its code. So it is given the code that the source is
+compiled to.
 """
 
 from __future__ import annotations
@@ -53,7 +54,9 @@ def unseen() -> list[Unseen]:
         return []
     names = [*_left]
     more = f" and {len(names) - MOST_LISTED} more" if len(names) > MOST_LISTED else ""
-    return [Unseen(Cause.CHILD, f"what left by value was not traced where it runs: {', '.join(names[:MOST_LISTED])}{more}")]
+    return [
+        Unseen(Cause.CHILD, f"what left by value was not traced where it runs: {', '.join(names[:MOST_LISTED])}{more}")
+    ]
 
 
 def end() -> None:

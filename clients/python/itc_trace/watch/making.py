@@ -41,7 +41,10 @@ def new_code(source: bytes, file: str, module: str, is_watched: Callable[[str], 
 
 @contextmanager
 def _without_collector() -> Iterator[None]:
-    """A tree has no cycles, and most of the time would go into looking for some. The program's other threads have the collector as it is."""
+    """A tree has no cycles, and most of the time would go into looking for some.
+
+    The program's other threads have the collector as it is.
+    """
     is_alone = not getattr(builtins, ON, False)
     if not is_alone or not gc.isenabled():
         yield
@@ -59,7 +62,8 @@ def _is_answered(asked: Row, found: Row, is_watched: Callable[[str], bool]) -> b
     there = vars(builtins).keys()
     own_fields, own_elsewhere = _found_of(found)[-2:]
     return (
-        names <= there and no_names.isdisjoint(there) and fields - own_fields <= STORED_FIELDS and no_fields.isdisjoint(STORED_FIELDS)
+        names <= there and no_names.isdisjoint(there) and fields - own_fields <= STORED_FIELDS
+        and no_fields.isdisjoint(STORED_FIELDS)
         and elsewhere - own_elsewhere <= STORED_ELSEWHERE and not_elsewhere.isdisjoint(STORED_ELSEWHERE)
         and all(is_watched(name) == answer for name, answer in imports.items())
     )
