@@ -138,15 +138,7 @@ pub(crate) struct Line {
 
 impl Line {
     pub fn new(task: Task, name: Arc<str>, known: Known) -> Line {
-        Line {
-            name,
-            open: VecDeque::from([Segment::new(task)]),
-            known,
-            position: 0,
-            time: None,
-            has_ended: false,
-            many: MANY_SEGMENTS,
-        }
+        Line { name, open: VecDeque::from([Segment::new(task)]), known, position: 0, time: None, has_ended: false, many: MANY_SEGMENTS }
     }
 
     pub fn last(&mut self) -> &mut Segment {

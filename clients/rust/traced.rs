@@ -34,12 +34,14 @@ struct Thread {
 }
 
 impl Thread {
-    const NEW: Thread = Thread {
-        here: RefCell::new(Weak::new()),
-        noted: Cell::new(None),
-        held: RefCell::new(Vec::new()),
-        taken: RefCell::new((Weak::new(), false)),
-    };
+    const fn new() -> Thread {
+        Thread {
+            here: RefCell::new(Weak::new()),
+            noted: Cell::new(None),
+            held: RefCell::new(Vec::new()),
+            taken: RefCell::new((Weak::new(), false)),
+        }
+    }
 
     /// It is another task from now on.
     fn forget(&self) {
@@ -52,7 +54,7 @@ impl Thread {
 thread_local! {
     static CURRENT: Cell<Option<Task>> = const { Cell::new(None) };
     static ENDS: Ends = const { Ends(Cell::new(None)) };
-    static THREAD: Thread = const { Thread::NEW };
+    static THREAD: Thread = const { Thread::new() };
 }
 
 /// The task that ends with this thread, behind all that is local to it, and who is told of that.
