@@ -5,6 +5,7 @@ from __future__ import annotations
 import ast
 import sys
 import unittest
+from typing import Any
 
 from itc_trace.watch.scopes import Scopes
 
@@ -77,8 +78,8 @@ class LaterForms(ProgramCase):
     def test_a_parameter_for_types_is_no_variable_of_the_module(self) -> None:
         text = "T = 1\nT = 2\ndef first[T](rows):\n    return T\nclass Box[T]:\n    def kind(self):\n        return T\ndef second():\n    return T\n"
         tree = ast.parse(text)
-        scopes = Scopes(tree, ast.parse(text))
-        functions = {node.name: scopes.by_node[node] for node in ast.walk(tree) if isinstance(node, ast.FunctionDef)}
+        scopes = Scopes(tree)
+        functions: dict[str, Any] = {node.name: node.scope for node in ast.walk(tree) if isinstance(node, ast.FunctionDef)}
         self.assertEqual({name: scopes.may_be_shared(scope, "T") for name, scope in functions.items()}, {"first": False, "kind": False, "second": True})
 
 

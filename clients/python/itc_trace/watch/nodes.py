@@ -7,6 +7,31 @@ from types import CodeType
 from typing import Any, TypeVar
 
 Made = TypeVar("Made", bound=ast.AST)
+Place = dict[str, Any]
+_new = ast.AST.__new__
+
+
+def new_node(kind: type[Made], parts: dict[str, Any]) -> Made:
+    """A node with these parts, which has its place among them."""
+    made = _new(kind)
+    made.__dict__ = parts
+    return made
+
+
+def copied(node: Made) -> Made:
+    """A node of its own with the same parts."""
+    made = _new(type(node))
+    made.__dict__ = node.__dict__.copy()
+    return made
+
+
+def place_of(node: Any) -> Place:
+    """Where a node stands. The end may not be known."""
+    place = node.__dict__
+    return {
+        "lineno": place["lineno"], "col_offset": place["col_offset"], "end_lineno": place.get("end_lineno"),
+        "end_col_offset": place.get("end_col_offset"),
+    }
 
 
 def at(node: Any, made: Made) -> Made:

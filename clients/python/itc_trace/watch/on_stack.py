@@ -31,6 +31,7 @@ OF_OWNER = "hook(KEPT, HERE.method)"
 _COPY, _LOAD, _MORE = (dis.opmap.get(name) for name in ("COPY", "LOAD_CONST", "EXTENDED_ARG"))
 _PAIR = 2
 """The bytes of an instruction: what it does, and its argument."""
+BITS_OF_BYTE, LAST_BYTE = 8, 0xFF
 
 
 @functools.lru_cache(maxsize=None)
@@ -98,16 +99,28 @@ def with_copies(code: CodeType) -> CodeType:
 
 
 def _copying(code: bytes, depths: dict[int, int]) -> bytes:
-    """The instructions, with copies of what is so deep in place of these constants. What widens an argument stays, and adds nothing."""
-    made, wide, first = bytearray(code), 0, 0
-    for at in range(0, len(made), _PAIR):
-        number = wide | made[at + 1]
-        if made[at] == _MORE:
-            wide, first = number << 8, first if wide else at
-            continue
-        if made[at] == _LOAD and number in depths:
-            made[at], made[at + 1] = int(_COPY or 0), depths[number]
-            for wider in range(first + 1, at, _PAIR) if wide else ():
-                made[wider] = 0
-        wide = 0
+    """The instructions, with copies of what is so deep in place of these constants."""
+    made = bytearray(code)
+    for number, depth_of_value in depths.items():
+        loading = bytes((int(_LOAD or 0), number & LAST_BYTE))
+        at = code.find(loading)
+        while at >= 0:
+            widening = _widening(code, at)
+            if at % _PAIR == 0 and _widened(code, widening) == number >> BITS_OF_BYTE:
+                made[at], made[at + 1] = int(_COPY or 0), depth_of_value
+                for wider in widening:
+                    made[wider + 1] = 0
+            at = code.find(loading, at + 1)
     return bytes(made)
+
+
+def _widening(code: bytes, at: int) -> range:
+    """Where the instructions are that widen the argument of another one. They stay, and add nothing to a copy."""
+    first = at
+    while first >= _PAIR and code[first - _PAIR] == _MORE:
+        first -= _PAIR
+    return range(first, at, _PAIR)
+
+
+def _widened(code: bytes, widening: range) -> int:
+    return int.from_bytes(bytes([code[at + 1] for at in widening]), "big")

@@ -30,11 +30,11 @@ def look_at_call(node: ast.Call, learned: Learned, is_builtin: Callable[[str], b
         learned.passed_over.append((str(name).rpartition(".")[2], node.lineno))
 
 
-def look_at_handed(node: ast.Call, learned: Learned, is_foreign: bool, name: str | None) -> None:
+def look_at_handed(node: ast.Call, learned: Learned, is_foreign: Callable[[ast.expr], bool], name: str | None) -> None:
     """Keeps a method that changes a container, and that is handed to a function of the library which is not followed."""
     is_method = isinstance(node.func, ast.Attribute) and node.func.attr in _CALLERS
     is_followed = name is not None and (name.startswith(_FOLLOWED) or name in _FOLLOWED_ALONE)
-    if is_followed or not is_method and (not is_foreign or name is None):
+    if is_followed or not is_method and (name is None or not is_foreign(node.func)):
         return
     for one in (*node.args, *(keyword.value for keyword in node.keywords if keyword.arg != "key")):
         if isinstance(one, ast.Attribute) and one.attr in _CHANGING:

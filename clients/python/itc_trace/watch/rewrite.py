@@ -20,10 +20,10 @@ from .kinds import (
 )
 from .patterns import Patterns
 from .learned import Learned
-from .nodes import at, compiled
+from .nodes import at, compiled, copied, new_node, place_of
 from .places import DELETED, MADE_HERE, OF_BASE
 from .placing import placed
-from .scopes import CLASS, COMPREHENSION, DELEGATING, FUNCTION, MODULE, Scope, Scopes, fields_of
+from .scopes import CLASS, COMPREHENSION, DELEGATING, FUNCTION, LATE, MODULE, SCOPED, Scope, Scopes, fields_of
 from .templates import field_paths
 
 PREFIX = "_itc_"
@@ -97,12 +97,10 @@ def written(
     source: bytes | str, file: str, module: str, learned: Learned, prepare: Callable[[ast.Module, bytes, str], None] | None = None,
 ) -> CodeType:
     """The code with hooks, whose places have no numbers of the process yet."""
-    tree, twin = ast.parse(source, file), ast.parse(source, file)
+    tree = ast.parse(source, file)
     if prepare is not None:
-        text = source if isinstance(source, bytes) else source.encode()
-        prepare(tree, text, file)
-        prepare(twin, text, file)
-    return on_stack.with_copies(compiled(Rewriter(Scopes(tree, twin, learned), file).module(tree), file))
+        prepare(tree, source if isinstance(source, bytes) else source.encode(), file)
+    return on_stack.with_copies(compiled(Rewriter(Scopes(tree, learned), file).module(tree), file))
 
 
 def _is_new(value: Any) -> bool:
@@ -117,9 +115,7 @@ def _is_super(node: Any) -> bool:
     return isinstance(node, ast.Call) and isinstance(node.func, ast.Name) and node.func.id == "super" and not node.args
 
 
-def _makes(node: ast.AST) -> bool:
-    if not isinstance(node, ast.Assign):
-        return False
+def _makes(node: ast.Assign) -> bool:
     pairs = _pairs_of(node) or [(node.targets[0], node.value)]
     return any(isinstance(target, REACHED) and _is_new(value) for target, value in pairs)
 
@@ -135,7 +131,11 @@ def _pairs_of(node: ast.Assign) -> list[tuple[Any, Any]]:
 
 
 class Rewriter:
-    """Rewrites one module."""
+    """Rewrites one module.
+
+    An expression and a simple statement stay as they are, since each may stand there twice. What is rewritten is a copy of its own, which
+    shares with them what has no hooks. Compound statements stand there once, and are changed in place.
+    """
 
     def __init__(self, scopes: Scopes, file: str) -> None:
         self._scopes = scopes
@@ -165,15 +165,19 @@ class Rewriter:
 
     def _hook(self, name: str, node: ast.AST, *words: Any) -> ast.Call:
         self._hooks += 1
-        made = [at(node, word if isinstance(word, ast.AST) else ast.Constant(word)) for word in words]
-        return at(node, ast.Call(at(node, ast.Name(PREFIX + name, LOAD)), made, []))
+        place = place_of(node)
+        made = [word if isinstance(word, ast.AST) else new_node(ast.Constant, {"value": word, **place}) for word in words]
+        func = new_node(ast.Name, {"id": PREFIX + name, "ctx": LOAD, **place})
+        return new_node(ast.Call, {"func": func, "args": made, "keywords": [], **place})
 
     def _is_on(self, node: ast.AST) -> ast.Name:
-        return at(node, ast.Name(ON, LOAD))
+        return new_node(ast.Name, {"id": ON, "ctx": LOAD, **place_of(node)})
 
     def _choice(self, hooked: ast.expr, node: Any) -> ast.expr:
         """The hooked expression while hooks are on, else the one that stood there."""
-        return at(node, ast.IfExp(self._is_on(node), hooked, node.twin))
+        place = place_of(node)
+        is_on = new_node(ast.Name, {"id": ON, "ctx": LOAD, **place})
+        return new_node(ast.IfExp, {"test": is_on, "body": hooked, "orelse": node, **place})
 
     def _operand(self, node: Any, hook: str, *words: Any) -> ast.expr:
         """The expression, passed through a hook."""
@@ -182,7 +186,7 @@ class Rewriter:
             words = (*words, self._scope.constructor)
         if not self._is_guarding:
             return self._hook(name, node, self._visit(node), *words)
-        if node.is_scoped:
+        if node.inside & SCOPED:
             return self._hook(name, node, self._child(node), *words)
         return self._choice(self._hook(name, node, self._raw(node), *words), node)
 
@@ -195,12 +199,12 @@ class Rewriter:
     def _key_of(self, owner: Any, key: Any, site: int) -> ast.expr:
         """The key, passed through a hook with the variable that has the container."""
         name = "before_key_local" if self._is_local(owner) else "before_key"
-        return self._hook(name, key, owner.twin, self._child(key), site)
+        return self._hook(name, key, owner, self._child(key), site)
 
     def _behind(self, hook: str, owner: Any, made: Any, site: int) -> ast.expr:
         """A value that was visited already, passed through a hook with the variable that it goes to."""
         name = hook + "_local" if self._is_local(owner) else hook
-        return self._hook(name, made, made, owner.twin, site)
+        return self._hook(name, made, made, owner, site)
 
     def _raw(self, node: Any) -> Any:
         before, self._is_guarding = self._is_guarding, False
@@ -215,7 +219,7 @@ class Rewriter:
         """An expression of a statement that stands there once: each part without scopes of its own stands there twice."""
         visit = visit or self._visit
         before = self._is_guarding, self._hooks
-        is_whole = not node.is_scoped and not isinstance(node, PARTS)
+        is_whole = not node.inside & SCOPED and not isinstance(node, PARTS)
         self._is_guarding = not is_whole
         made = visit(node)
         self._is_guarding = before[0]
@@ -254,16 +258,21 @@ class Rewriter:
         return isinstance(node, ast.Constant) or isinstance(node, ast.Name)
 
     def _import_of(self, node: Any) -> str | None:
-        """The dotted name of what is imported and not bound to anything else."""
-        kind = type(node)
-        if kind is ast.Attribute:
-            base = self._import_of(node.value)
-            return None if base is None else f"{base}.{node.attr}"
-        if kind is ast.Name:
+        """The dotted name of what is imported and not bound to anything else. What hooks stand in has none: the program may change it."""
+        fields = ""
+        while type(node) is ast.Attribute:
+            if getattr(node, "has_hooks", False):
+                return None
+            fields = f".{node.attr}{fields}"
+            node = node.value
+        if type(node) is not ast.Name:
+            return None
+        known = self._scope.dotted.get(node.id)
+        if known is None:
             owner = self._scope.owner(node.id)
-            dotted = owner.imported.get(node.id)
-            return dotted if dotted is not None and owner.bound[node.id] == 1 else None
-        return None
+            is_import = node.id in owner.imported and owner.bound[node.id] == 1
+            known = self._scope.dotted[node.id] = owner.imported[node.id] if is_import else ""
+        return known + fields if known else None
 
     def _is_foreign(self, node: Any) -> bool:
         """Whether it is of a module that is not watched, or of the language."""
@@ -361,14 +370,14 @@ class Rewriter:
         if simple is None:
             return [node]
         before_hooks, self._before, self._after = self._hooks, [], []
-        is_twice = not node.is_scoped and not isinstance(node, ast.AnnAssign) and not _makes(node)
+        is_twice = not node.inside & SCOPED and kind is not ast.AnnAssign and not (kind is ast.Assign and _makes(node))
         self._is_guarding = not is_twice
-        made = simple(self, node)
+        made = simple(self, copied(node))
         self._is_guarding = False
         if self._hooks == before_hooks:
-            return [made]
+            return [node]
         if is_twice:
-            return [at(node, ast.If(self._is_on(node), [*self._before, made, *self._after], [node.twin]))]
+            return [at(node, ast.If(self._is_on(node), [*self._before, made, *self._after], [node]))]
         return [*self._only_on(self._before, node), made, *self._only_on(self._after, node)]
 
     def _do_Import(self, node: Any) -> list[ast.stmt]:
@@ -382,6 +391,7 @@ class Rewriter:
     def _simple_Assign(self, node: ast.Assign) -> ast.stmt:
         pairs = _pairs_of(node)
         if any(_is_new(value) for _, value in pairs):
+            node.value = copied(node.value)
             node.value.elts = [self._made_or_visited(value, target) for target, value in pairs]  # type: ignore[attr-defined]
             self._store_targets(node)
             return node
@@ -396,8 +406,9 @@ class Rewriter:
         return node
 
     def _store_targets(self, node: ast.Assign) -> None:
-        node.targets = [self._child(target) for target in node.targets]
-        self._after += self._stores([target.twin for target in node.targets if hasattr(target, "twin")], node)
+        targets = node.targets
+        node.targets = [self._child(target) for target in targets]
+        self._after += self._stores(targets, node)
 
     def _made_or_visited(self, value: Any, target: Any) -> Any:
         """One of several values of an assignment."""
@@ -407,15 +418,16 @@ class Rewriter:
     def _simple_AnnAssign(self, node: ast.AnnAssign) -> ast.stmt:
         if node.value is None:
             return node
-        value = self._made(node.value, node.target)
+        target = node.target
+        value = self._made(node.value, target)
         node.value = value if _is_hook(value) else self._child(value)
-        node.target = self._child(node.target)
-        self._after += self._stores([node.target.twin], node)  # type: ignore[union-attr]
+        node.target = self._child(target)
+        self._after += self._stores([target], node)
         return node
 
     def _simple_AugAssign(self, node: ast.AugAssign) -> ast.stmt:
-        target = node.target
-        is_late = node.value.is_late  # type: ignore[attr-defined]
+        target = node.target = copied(node.target)
+        is_late = node.value.inside & LATE != 0  # type: ignore[attr-defined]
         if isinstance(target, ast.Name):
             if self._is_shared(target.id):
                 self._before += [ast.copy_location(ast.Expr(self._variable(target, target.id, "r")), node)]
@@ -481,15 +493,16 @@ class Rewriter:
         reads, writes = self._site(node, "element", "r", "", text), self._site(node, "element", "w", "", text)
         if isinstance(owner, ast.Name) and self._is_simple(key):
             self._element(target, reads)
-            node.value = self._hook("after_value_of_element", node.value, self._added(node), owner.twin, key.twin, writes)  # type: ignore[attr-defined]
+            node.value = self._hook("after_value_of_element", node.value, self._added(node), owner, key, writes)
         else:
             self._element_on_stack(target, reads)
             kept = [on_stack.copy(form, node.value) for form in (on_stack.ITEM_ADDED_TO, on_stack.KEY_ADDED_TO)]
             node.value = self._hook("after_value_of_element", node.value, self._added(node), *kept, writes)
 
     def _simple_Delete(self, node: ast.Delete) -> ast.stmt:
-        node.targets = [self._child(target) for target in node.targets]
-        self._after += self._stores([target.twin for target in node.targets if hasattr(target, "twin")], node)
+        targets = node.targets
+        node.targets = [self._child(target) for target in targets]
+        self._after += self._stores(targets, node)
         self._after.append(ast.copy_location(ast.Expr(self._hook("after_letting_go", node)), node))
         return node
 
@@ -509,9 +522,9 @@ class Rewriter:
 
     # Compound statements
 
-    def _in_scope(self, node: ast.AST, work: Callable[[], None]) -> None:
+    def _in_scope(self, node: Any, work: Callable[[], None]) -> None:
         before = self._scope
-        self._scope = self._scopes.by_node[node]
+        self._scope = node.scope
         work()
         self._scope = before
 
@@ -526,13 +539,12 @@ class Rewriter:
         is_constructor = node.name == "__init__" and self._scope.kind == CLASS
         first = next(iter((*node.args.posonlyargs, *node.args.args)), None)
         if self._scope.kind == CLASS and first is not None:
-            self._scopes.by_node[node].first = first.arg
+            node.scope.first = first.arg
         if is_constructor and first is not None:
-            scope = self._scopes.by_node[node]
-            scope.made, scope.constructor = first.arg, self._site(node, "constructor", "")
+            node.scope.made, node.scope.constructor = first.arg, self._site(node, "constructor", "")
         self._in_scope(node, work)
         if is_constructor and first is not None:
-            self._note_making(node, first.arg, self._scopes.by_node[node].constructor)
+            self._note_making(node, first.arg, node.scope.constructor)
         return [node, *self._stored([node.name], node)]
 
     _do_AsyncFunctionDef = _do_FunctionDef
@@ -579,30 +591,35 @@ class Rewriter:
     _do_While = _do_If
 
     def _do_For(self, node: Any) -> list[ast.stmt]:
-        node.iter = self._gone_through(node.iter, node.target) if isinstance(node, ast.For) else self._guarded(node.iter)
-        return self._bind_and_go_on(node, [node.target])
+        target = node.target
+        node.iter = self._gone_through(node.iter, target) if isinstance(node, ast.For) else self._guarded(node.iter)
+        node.target = self._visit_target(target)
+        return self._bind_and_go_on(node, [target])
 
     _do_AsyncFor = _do_For
 
     def _bind_and_go_on(self, node: Any, targets: list[Any]) -> list[ast.stmt]:
-        """Visits what a compound statement binds, and its bodies."""
-        for target in targets:
-            self._visit_target(target)
-        stores = self._only_on(self._stores([target.twin for target in targets], targets[0]) if targets else [], node)
+        """Notes what a compound statement binds, and visits its bodies."""
+        stores = self._only_on(self._stores(targets, targets[0]) if targets else [], node)
         node.body = [*stores, *self._statements(node.body)]
         if hasattr(node, "orelse"):
             node.orelse = self._statements(node.orelse)
         return [node]
 
-    def _visit_target(self, target: Any) -> None:
+    def _visit_target(self, target: Any) -> Any:
         before, self._is_guarding = self._is_guarding, True
-        self._visit(target)
+        made = self._visit(target)
         self._is_guarding = before
+        return made
 
     def _do_With(self, node: Any) -> list[ast.stmt]:
         for item in node.items:
             item.context_expr = self._guarded(item.context_expr)
-        return self._bind_and_go_on(node, [item.optional_vars for item in node.items if item.optional_vars is not None])
+        binding = [item for item in node.items if item.optional_vars is not None]
+        targets = [item.optional_vars for item in binding]
+        for item in binding:
+            item.optional_vars = self._visit_target(item.optional_vars)
+        return self._bind_and_go_on(node, targets)
 
     _do_AsyncWith = _do_With
 
@@ -640,11 +657,21 @@ class Rewriter:
     # Expressions
 
     def _visit(self, node: Any) -> Any:
+        """The expression as it is with hooks: a copy, or the same one if nothing is inside of it."""
         kind = type(node)
+        if kind is ast.Constant:
+            return node
+        if kind is ast.Name:
+            return self._visit_Name(node) if self._scope.shared.get(node.id) is not False else node
         visit = _VISITS.get(kind)
         if visit is None:
             visit = _VISITS[kind] = getattr(Rewriter, f"_visit_{kind.__name__}", Rewriter._generic)
-        return visit(self, node)
+        if kind is not ast.Attribute:
+            return visit(self, copied(node))
+        before = self._hooks
+        made = visit(self, copied(node))
+        node.has_hooks = self._hooks != before
+        return made
 
     def _generic(self, node: Any) -> Any:
         for name in fields_of(type(node)):
@@ -657,11 +684,10 @@ class Rewriter:
 
     def _inner(self, node: Any) -> Any:
         """What is no expression itself, but may have some: a keyword."""
-        if isinstance(node, ast.keyword):
-            self._keyword(node)
-        return node
+        return self._keyword(node) if isinstance(node, ast.keyword) else node
 
-    def _keyword(self, node: ast.keyword, is_of_print: bool = False) -> None:
+    def _keyword(self, node: ast.keyword, is_of_print: bool = False) -> ast.keyword:
+        node = copied(node)
         if is_of_print and node.arg == "file" and isinstance(node.value, GIVEN) and not self._is_foreign(node.value):
             node.value = self._operand(node.value, "before_method", self._site(node.value, "method", "", "write", self._text(node.value)))
         elif node.arg == "key" and isinstance(node.value, GIVEN):
@@ -670,14 +696,12 @@ class Rewriter:
             node.value = self._whole(node.value, ITERATION)
         else:
             node.value = self._child(node.value)
+        return node
 
     def _visit_Name(self, node: ast.Name) -> ast.expr:
         if type(node.ctx) is not ast.Load or not self._is_shared(node.id):
             return node
         return ast.copy_location(ast.BoolOp(ast.Or(), [self._variable(node, node.id, "r"), node]), node)
-
-    def _visit_Constant(self, node: ast.Constant) -> ast.expr:
-        return node
 
     def _visit_Attribute(self, node: ast.Attribute) -> ast.expr:
         passed_over.look_at_attribute(node, self._learned)
@@ -714,7 +738,7 @@ class Rewriter:
         owner: Any = node.value
         key: Any = node.slice
         if self._is_simple(key):
-            node.value = self._operand(owner, "before_element", key.twin, site)
+            node.value = self._operand(owner, "before_element", key, site)
             node.slice = self._child(key)
         elif isinstance(owner, ast.Name):
             node.value = self._child(owner)
@@ -734,20 +758,12 @@ class Rewriter:
         self._name_handed(node)
         name = self._import_of(node.func)
         passed_over.look_at_call(node, self._learned, self._is_builtin, name)
-        passed_over.look_at_handed(node, self._learned, self._is_foreign(node.func), name)
-        if name in STEPPING:
-            return self._call_stepping(node)
-        if name == "os.getenv" and node.args and not isinstance(node.args[0], ast.Starred):
-            node.args = [self._child(one) for one in node.args]
-            node.args[0] = self._hook("before_environment", node.args[0], node.args[0], self._site(node, "method", "", "get", "os.environ"))
-            return node
-        known = known_function(name)
-        if known is not None:
-            return self._call_known(node, known, depth_of(name), str(name))
-        if name in OPERATORS and len(node.args) > 1 and not any(isinstance(one, ast.Starred) for one in node.args[:2]):
-            node.args = self._given_first(node, OPERATORS[name])
-            return node
+        passed_over.look_at_handed(node, self._learned, self._is_foreign, name)
+        made = None if name is None else self._call_imported(node, name)
+        if made is not None:
+            return made
         if isinstance(node.func, ast.Attribute):
+            node.func = copied(node.func)
             return self._call_method(node, node.func)
         if isinstance(node.func, ast.Name) and self._is_builtin(node.func.id):
             if node.func.id == "globals" and not node.args:
@@ -756,16 +772,33 @@ class Rewriter:
         else:
             node.func = self._handed(node.func)
             node.args = [self._child(one) for one in node.args]
-        for keyword in node.keywords:
-            self._keyword(keyword, self._is_print(node))
+        if node.keywords:
+            is_print = self._is_print(node)
+            node.keywords = [self._keyword(one, is_print) for one in node.keywords]
         return node
+
+    def _call_imported(self, node: ast.Call, name: str) -> ast.expr | None:
+        """A call of a function of the library whose name tells what it does to its arguments. None, if it tells nothing."""
+        if name in STEPPING:
+            return self._call_stepping(node)
+        if name == "os.getenv" and node.args and not isinstance(node.args[0], ast.Starred):
+            node.args = [self._child(one) for one in node.args]
+            node.args[0] = self._hook("before_environment", node.args[0], node.args[0], self._site(node, "method", "", "get", "os.environ"))
+            return node
+        known = known_function(name)
+        if known is not None:
+            return self._call_known(node, known, depth_of(name), name)
+        if name in OPERATORS and len(node.args) > 1 and not any(isinstance(one, ast.Starred) for one in node.args[:2]):
+            node.args = self._given_first(node, OPERATORS[name])
+            return node
+        return None
 
     def _is_print(self, node: ast.Call) -> bool:
         return isinstance(node.func, ast.Name) and node.func.id == "print" and self._is_builtin("print")
 
     def _name_handed(self, node: ast.Call) -> None:
         """Keeps the names of containers whose methods are arguments, and of what a function that is one looks at."""
-        for one in (*node.args, *(keyword.value for keyword in node.keywords)):
+        for one in [*node.args, *[keyword.value for keyword in node.keywords]] if node.keywords else node.args:
             if isinstance(one, ast.Call) and self._import_of(one.func) == "operator.itemgetter":
                 self._name_elements(node, one, "__getitem__")
             elif isinstance(one, ast.Attribute) and one.attr in METHODS and self._is_container_class(one.value):
@@ -801,6 +834,7 @@ class Rewriter:
         others = ITERATION if name in IN_PLACE_FUNCTIONS or changed else "" if kinds == REWRITE else kinds
         depth = self._depth_with_default(node, depth) if depth == CONTENT else depth
         is_joined = name == "functools.reduce" and any((self._import_of(one) or "").startswith("operator.") for one in node.args[:1])
+        node.args = [*node.args]
         for place, one in enumerate(node.args):
             if place == changed and not isinstance(one, ast.Starred):
                 node.args[place] = self._operand(one, "before_whole", self._site_of_whole(one, kinds, depth))
@@ -808,8 +842,7 @@ class Rewriter:
                 node.args[0] = self._handed(one)
             else:
                 node.args[place] = self._whole(one, others, EACH if is_joined else "") if others else self._child(one)
-        for keyword in node.keywords:
-            self._keyword(keyword)
+        node.keywords = [self._keyword(one) for one in node.keywords]
         return node
 
     def _depth_with_default(self, node: ast.Call, depth: str) -> str:
@@ -823,17 +856,23 @@ class Rewriter:
 
     def _call_stepping(self, node: ast.Call) -> ast.expr:
         """A function that goes through what it is given as others go through what it gives. It may call some of it."""
+        node.args = [*node.args]
         for place, one in enumerate(node.args):
             if isinstance(one, ast.Attribute) and one.attr in METHODS:
                 node.args[place] = self._handed(one)
             elif isinstance(one, ast.Starred):
-                one.value = self._operand(one.value, "before_whole", self._site_of_whole(one.value, KEYS, EACH))
+                node.args[place] = self._starred(one, KEYS, EACH)
             elif isinstance(one, GIVEN):
                 node.args[place] = self._operand(one, "before_loop", self._site_of_whole(one, KEYS))
             else:
                 node.args[place] = self._child(one)
-        for keyword in node.keywords:
-            self._keyword(keyword)
+        node.keywords = [self._keyword(one) for one in node.keywords]
+        return node
+
+    def _starred(self, node: ast.Starred, kinds: str, depth: str) -> ast.Starred:
+        """An argument with a star, all of whose elements are looked at."""
+        node = copied(node)
+        node.value = self._operand(node.value, "before_whole", self._site_of_whole(node.value, kinds, depth))
         return node
 
     def _arguments_of_builtin(self, node: ast.Call, name: str) -> None:
@@ -855,7 +894,7 @@ class Rewriter:
         site = self._site(node, "field", kinds, words=OF_BASE if isinstance(node.func, ast.Attribute) else None)
         name: Any = node.args[1]
         if self._is_simple(name):
-            node.args = [self._operand(node.args[0], "before_named_attribute", name.twin, site), *(self._child(one) for one in node.args[1:])]
+            node.args = [self._operand(node.args[0], "before_named_attribute", name, site), *(self._child(one) for one in node.args[1:])]
             return
         node.args = [self._child(one) for one in node.args]
         if not any(isinstance(one, ast.Starred) for one in node.args):
@@ -872,18 +911,16 @@ class Rewriter:
         if name in STEPPERS and isinstance(node, GIVEN) and not self._is_made(node):
             return self._operand(node, "before_loop", self._site_of_whole(node, READERS[name]))
         if isinstance(node, ast.Starred) and name in STEPPERS:
-            node.value = self._operand(node.value, "before_whole", self._site_of_whole(node.value, KEYS, EACH))
-            return node
+            return self._starred(node, KEYS, EACH)
         if isinstance(node, ast.Starred) and name in SHOWING and isinstance(node.value, GIVEN):
-            node.value = self._operand(node.value, "before_whole", self._site_of_whole(node.value, ITERATION, SHOWING[name]))
-            return node
+            return self._starred(node, ITERATION, SHOWING[name])
         if isinstance(node, ast.Starred) or name in STEPPERS:
             return self._child(node)  # type: ignore[no-any-return]
         return self._whole(node, READERS[name], SHOWING.get(name, depth), METHODS_OF_READERS.get(name))  # type: ignore[no-any-return]
 
     def _call_method(self, node: ast.Call, func: ast.Attribute) -> ast.expr:
         name, owner = func.attr, func.value
-        is_late = any(one.is_late for one in node.args)  # type: ignore[attr-defined]
+        is_late = any([one.inside & LATE for one in node.args])  # type: ignore[attr-defined]
         if name in METHODS and _is_super(owner) and self._scope.first:
             self._call_of_base(node, func)
         elif name in METHODS and node.args and not isinstance(node.args[0], ast.Starred) and self._is_container_class(owner):
@@ -912,8 +949,7 @@ class Rewriter:
             node.args = [self._argument(one, func, owner) for one in node.args]
         if name in METHODS and any(map(self._learned.is_field, DELEGATING)) and not self._is_foreign(owner):
             self._call_delegated(node, func)
-        for keyword in node.keywords:
-            self._keyword(keyword)
+        node.keywords = [self._keyword(one) for one in node.keywords]
         return self._with_owner(node, func)
 
     def _call_delegated(self, node: ast.Call, func: ast.Attribute) -> None:
@@ -923,12 +959,15 @@ class Rewriter:
 
     def _call_template(self, node: ast.Call, func: ast.Attribute) -> ast.expr:
         """What a template puts in by its name is looked at, too."""
-        for keyword in node.keywords:
-            if keyword.arg is None:
-                self._keyword(keyword)
-            else:
-                keyword.value = self._argument(keyword.value, func, func.value)
+        node.keywords = [self._keyword_of_template(one, func) for one in node.keywords]
         return self._with_owner(node, func)
+
+    def _keyword_of_template(self, node: ast.keyword, func: ast.Attribute) -> ast.keyword:
+        if node.arg is None:
+            return self._keyword(node)
+        node = copied(node)
+        node.value = self._argument(node.value, func, func.value)
+        return node
 
     def _is_of_fields(self, node: Any) -> bool:
         """Whether it gives the fields of an object as a dictionary."""
@@ -950,7 +989,7 @@ class Rewriter:
         if _is_super(owner) and self._scope.function.first:
             me: Any = ast.copy_location(ast.Name(self._scope.function.first, ast.Load()), node)
         elif isinstance(owner, ast.Name):
-            me = owner.twin  # type: ignore[attr-defined]
+            me = owner
         else:
             func.value = self._child(owner)
             me = self._owner_wanted(node)
@@ -963,7 +1002,7 @@ class Rewriter:
         """What a text shows of what it is formatted with: a field of it, an element, or all."""
         owner: Any = func.value
         is_known = func.attr == "format" and isinstance(owner, (ast.Constant, ast.Name))
-        template = None if not is_known else owner.value if isinstance(owner, ast.Constant) else owner.twin
+        template = None if not is_known else owner.value if isinstance(owner, ast.Constant) else owner
         if not is_known:
             given = node.args
             node.func = self._called(func)
@@ -972,14 +1011,15 @@ class Rewriter:
             node.args = [self._child(one) for one in node.args]
         else:
             node.args = [self._shown(one, template, place) for place, one in enumerate(node.args)]
-        for keyword in node.keywords:
-            if keyword.arg is None:
-                keyword.value = self._whole(keyword.value, ITERATION, SHOWN)
-            elif is_known:
-                keyword.value = self._shown(keyword.value, template, keyword.arg)
-            else:
-                self._keyword(keyword)
+        node.keywords = [self._keyword_shown(one, template, is_known) for one in node.keywords]
         return self._with_owner(node, func)
+
+    def _keyword_shown(self, node: ast.keyword, template: Any, is_known: bool) -> ast.keyword:
+        if node.arg is not None and not is_known:
+            return self._keyword(node)
+        node = copied(node)
+        node.value = self._whole(node.value, ITERATION, SHOWN) if node.arg is None else self._shown(node.value, template, node.arg)
+        return node
 
     def _shown(self, node: Any, template: Any, name: int | str) -> Any:
         """What a text puts in at a place of its own, or by a name."""
@@ -988,7 +1028,7 @@ class Rewriter:
         site = self._site(node, "whole", ITERATION, SHOWN, self._text(node))
         if isinstance(template, str):
             paths = field_paths(template, name)
-            return self._hook("before_format", node, self._child(node), ast.Constant(paths), site) if paths else self._child(node)
+            return self._hook("before_format", node, self._child(node), paths, site) if paths else self._child(node)
         return self._hook("before_late_format", node, self._child(node), template, name, site)
 
     def _call_of_base(self, node: ast.Call, func: ast.Attribute) -> None:
@@ -1035,13 +1075,12 @@ class Rewriter:
         if kinds is None or not is_given or self._is_foreign(node) or self._is_made(node) or self._import_of(owner) is not None:
             return self._child(node)
         if isinstance(node, ast.Starred):
-            node.value = self._operand(node.value, "before_whole", self._site_of_whole(node.value, kinds, EACH))
-            return node
+            return self._starred(node, kinds, EACH)
         if isinstance(owner, (ast.Constant, ast.JoinedStr)) or isinstance(owner, ast.Name) and self._is_builtin(owner.id):
             return self._whole(node, kinds, EACH if is_bytes else DEPTHS_OF_METHODS.get(func.attr, ""))
         site = self._site(node, "given", kinds, func.attr, self._text(node), OF_KEYS if kinds == KEYS or func.attr == "update" else None)
         if isinstance(owner, ast.Name):
-            return self._hook("before_argument", node, self._child(node), owner.twin, site)  # type: ignore[attr-defined]
+            return self._hook("before_argument", node, self._child(node), owner, site)
         return self._hook("before_argument", node, self._child(node), self._owner_wanted(node), site)
 
     def _owner_wanted(self, node: ast.AST) -> ast.expr:
@@ -1115,6 +1154,7 @@ class Rewriter:
     def _formatted(self, node: Any) -> Any:
         """What `%` puts into a text."""
         if isinstance(node, ast.Tuple):
+            node = copied(node)
             node.elts = [self._whole(one, ITERATION, SHOWN) for one in node.elts]
             return node
         return self._whole(node, ITERATION, SHOWN)
@@ -1135,7 +1175,7 @@ class Rewriter:
             func.value = self._child(func.value)
             return func
         if func.attr.startswith("__") or self._is_foreign(func.value):
-            return self._child(func)  # type: ignore[no-any-return]
+            return self._part(copied(func), lambda plain: self._visit_Attribute(func))  # type: ignore[no-any-return]
         func.value = self._operand(func.value, "before_called_attribute", self._site(func, "field", "r", func.attr))
         return func
 
@@ -1144,7 +1184,7 @@ class Rewriter:
         first: Any = node.args[0]
         rest = [self._child(one) for one in node.args[1:]]
         if self._is_simple(first):
-            func.value = self._operand(owner, "before_element", first.twin, site)
+            func.value = self._operand(owner, "before_element", first, site)
             node.args = [self._child(first), *rest]
         elif isinstance(owner, ast.Name):
             func.value = self._child(owner)
@@ -1176,9 +1216,9 @@ class Rewriter:
         site = self._site(node, "element", "c", "", self._text(owner))
         if self._is_simple(left):
             node.left = self._child(left)
-            node.comparators = [self._operand(owner, "before_element", left.twin, site)]
+            node.comparators = [self._operand(owner, "before_element", left, site)]
         elif isinstance(owner, ast.Name):
-            node.left = self._hook("before_key", left, owner.twin, self._child(left), site)  # type: ignore[attr-defined]
+            node.left = self._hook("before_key", left, owner, self._child(left), site)
             node.comparators = [self._child(owner)]
         else:
             node.left = self._child(left)
@@ -1203,6 +1243,7 @@ class Rewriter:
         if isinstance(node, (*REACHED, ast.Call, ast.NamedExpr)) and not self._is_foreign(node) and not self._is_made(node):
             return self._operand(node, "before_whole", self._site(node, "whole", LENGTH, "", self._text(node), METHODS_OF_READERS["bool"]))
         if isinstance(node, ast.BoolOp):
+            node = copied(node)
             node.values = [self._part(one, self._truth) for one in node.values]
             return node
         return self._visit(node)
@@ -1229,7 +1270,7 @@ class Rewriter:
     def _visit_FormattedValue(self, node: ast.FormattedValue) -> ast.expr:
         node.value = self._whole(node.value, ITERATION, WRITTEN if node.conversion in WRITTEN_BY else SHOWN)
         if node.format_spec is not None:
-            self._visit_JoinedStr(node.format_spec)  # type: ignore[arg-type]
+            node.format_spec = self._visit_JoinedStr(copied(node.format_spec))  # type: ignore[arg-type]
         return node
 
     def _visit_JoinedStr(self, node: ast.JoinedStr) -> ast.expr:
@@ -1248,6 +1289,7 @@ class Rewriter:
         return node
 
     def _visit_Lambda(self, node: ast.Lambda) -> ast.expr:
+        node.args = copied(node.args)
         self._visit_defaults(node.args)
 
         def work() -> None:
@@ -1257,15 +1299,17 @@ class Rewriter:
         return node
 
     def _visit_comprehension_of(self, node: Any) -> ast.expr:
+        node.generators = [*map(copied, node.generators)]
         node.generators[0].iter = self._iterated(node.generators[0])
 
         def work() -> None:
             for place, part in enumerate(node.generators):
                 if place > 0:
                     part.iter = self._iterated(part)
-                if not isinstance(part.target, ast.Name):
-                    self._visit_target(part.target)
-                part.ifs = [*self._bound_in(part), *(self._guarded(one, self._truth) for one in part.ifs)]
+                target = part.target
+                if not isinstance(target, ast.Name):
+                    part.target = self._visit_target(target)
+                part.ifs = [*self._bound_in(target), *(self._guarded(one, self._truth) for one in part.ifs)]
             for name in ("elt", "key", "value"):
                 if hasattr(node, name):
                     setattr(node, name, self._guarded(getattr(node, name)))
@@ -1275,9 +1319,9 @@ class Rewriter:
 
     _visit_ListComp = _visit_SetComp = _visit_DictComp = _visit_GeneratorExp = _visit_comprehension_of
 
-    def _bound_in(self, part: ast.comprehension) -> Iterator[ast.expr]:
+    def _bound_in(self, target: Any) -> Iterator[ast.expr]:
         """Conditions that note which variables a step of a comprehension has bound, and that are always true."""
-        for one in self._bindings(getattr(part.target, "twin", part.target)):
+        for one in self._bindings(target):
             noted = at(one, ast.UnaryOp(ast.Not(), self._variable(one, one.id, "w")))
             yield at(one, ast.IfExp(self._is_on(one), noted, at(one, ast.Constant(True))))
 

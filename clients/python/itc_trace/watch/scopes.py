@@ -61,6 +61,7 @@ class Scope:
         self.local: dict[str, bool] = {}
         self.foreign: dict[str, bool] = {}
         self.builtin: dict[str, bool] = {}
+        self.dotted: dict[str, str] = {}
         """What is known of names there: each is asked for once."""
         self._owners: dict[str, Scope] | None = None
         """What was found for names, once no scope gets another one."""
@@ -120,31 +121,31 @@ class Scope:
 class Scopes:
     """The scopes of a module's syntax tree, by the nodes that open them.
 
-    One walk finds them. It gives each node the same one of an untouched tree, too, and tells of each what it has inside.
+    One walk finds them, and tells of each node what it has inside. A node that opens a scope knows it.
     """
 
-    def __init__(self, tree: ast.Module, twin: ast.Module | None = None, learned: Learned | None = None) -> None:
+    def __init__(self, tree: ast.Module, learned: Learned | None = None) -> None:
         self.module = Scope(MODULE, None)
         self.learned = Learned() if learned is None else learned
-        self.by_node: dict[ast.AST, Scope] = {tree: self.module}
+        self.all = [self.module]
         self._scope = self.module
         self._loops = 0
         self._is_target = False
         self._outer: list[tuple[Scope, str]] = []
         self._called: set[str] = set()
         self._called_by: dict[str, set[str]] = {}
-        self._walk_all(tree.body, (twin or tree).body)
+        self._walk_all(tree.body)
         self._end()
 
     def _end(self) -> None:
         starting = _starting_functions(self._called_by)
-        for scope in self.by_node.values():
+        for scope in self.all:
             _count_later(scope, starting)
         for scope, name in self._outer:
             scope.bind(name, True)
-        for scope in self.by_node.values():
+        for scope in self.all:
             scope.end()
-        for scope in self.by_node.values():
+        for scope in self.all:
             self._note_captures(scope)
 
     @staticmethod
@@ -166,45 +167,43 @@ class Scopes:
 
     # The walk
 
-    def _walk(self, node: Any, twin: Any) -> int:
+    def _walk(self, node: Any) -> int:
         """Looks at a node and all that is inside. Gives what it has."""
-        node.twin = twin
         kind = type(node)
-        inside = (_VISITS.get(kind) or _visit_of(kind))(self, node, twin)
-        node.is_scoped = inside & SCOPED != 0
-        node.is_late = inside & LATE != 0
+        node.inside = inside = (_VISITS.get(kind) or _visit_of(kind))(self, node)
         return inside
 
-    def _walk_all(self, nodes: list[Any], twins: list[Any]) -> int:
+    def _walk_all(self, nodes: list[Any]) -> int:
         inside = 0
-        for node, twin in zip(nodes, twins):
+        for node in nodes:
             if node is not None:
-                inside |= self._walk(node, twin)
+                kind = type(node)
+                node.inside = found = (_VISITS.get(kind) or _visit_of(kind))(self, node)
+                inside |= found
         return inside
 
-    def _walk_inside(self, node: Any, twin: Any) -> int:
+    def _walk_inside(self, node: Any) -> int:
         """Looks at all that is inside of a node."""
         inside = 0
         for name in fields_of(type(node)):
             one = getattr(node, name, None)
             if type(one) is list:
-                for child, other in zip(one, getattr(twin, name)):
-                    if isinstance(child, ast.AST):
-                        inside |= self._walk(child, other)
+                inside |= self._walk_all(one)
             elif isinstance(one, ast.AST):
-                inside |= self._walk(one, getattr(twin, name))
+                inside |= self._walk(one)
         return inside
 
-    def _walk_leaf(self, node: Any, twin: Any) -> int:
+    def _walk_leaf(self, node: Any) -> int:
         return 0
 
-    def _visit_Constant(self, node: ast.Constant, twin: Any) -> int:
+    def _visit_Constant(self, node: ast.Constant) -> int:
         if type(node.value) is int:
             self.learned.look_at_number(node.value)
         return 0
 
-    def _opened(self, node: ast.AST, kind: str, name: str = "") -> Scope:
-        scope = self.by_node[node] = Scope(kind, self._scope, name)
+    def _opened(self, node: Any, kind: str, name: str = "") -> Scope:
+        scope = node.scope = Scope(kind, self._scope, name)
+        self.all.append(scope)
         return scope
 
     def _bind(self, name: str) -> None:
@@ -218,7 +217,7 @@ class Scopes:
         if scope.calls_and_bindings and not is_repeated:
             scope.calls_and_bindings.append((False, name))
 
-    def _visit_Name(self, node: ast.Name, twin: Any) -> int:
+    def _visit_Name(self, node: ast.Name) -> int:
         scope = self._scope
         if type(node.ctx) is ast.Load:
             scope.used.add(node.id)
@@ -232,32 +231,32 @@ class Scopes:
                 scope.function.first_lines.setdefault(node.id, node.lineno)
         return 0
 
-    def _visit_Assign(self, node: ast.Assign, twin: Any) -> int:
+    def _visit_Assign(self, node: ast.Assign) -> int:
         """What is bound to the value of a call is bound behind it."""
-        return self._walk(node.value, twin.value) | self._walk_all(node.targets, twin.targets)
+        return self._walk(node.value) | self._walk_all(node.targets)
 
-    def _visit_AnnAssign(self, node: ast.AnnAssign, twin: Any) -> int:
-        inside = 0 if node.value is None else self._walk(node.value, twin.value)
-        return inside | self._walk(node.target, twin.target) | self._walk(node.annotation, twin.annotation)
+    def _visit_AnnAssign(self, node: ast.AnnAssign) -> int:
+        inside = 0 if node.value is None else self._walk(node.value)
+        return inside | self._walk(node.target) | self._walk(node.annotation)
 
-    def _visit_NamedExpr(self, node: ast.NamedExpr, twin: Any) -> int:
-        return self._walk(node.value, twin.value) | self._walk(node.target, twin.target)
+    def _visit_NamedExpr(self, node: ast.NamedExpr) -> int:
+        return self._walk(node.value) | self._walk(node.target)
 
-    def _visit_Global(self, node: ast.Global, twin: Any) -> int:
+    def _visit_Global(self, node: ast.Global) -> int:
         self._scope.globals.update(node.names)
         return 0
 
-    def _visit_Nonlocal(self, node: ast.Nonlocal, twin: Any) -> int:
+    def _visit_Nonlocal(self, node: ast.Nonlocal) -> int:
         self._scope.nonlocals.update(node.names)
         return 0
 
-    def _visit_Import(self, node: ast.Import, twin: Any) -> int:
+    def _visit_Import(self, node: ast.Import) -> int:
         for one in node.names:
             name = one.asname or one.name.partition(".")[0]
             self._import(name, one.name if one.asname else name)
         return 0
 
-    def _visit_ImportFrom(self, node: ast.ImportFrom, twin: Any) -> int:
+    def _visit_ImportFrom(self, node: ast.ImportFrom) -> int:
         for one in node.names:
             self._import(one.asname or one.name, f"{'.' * node.level}{node.module or ''}.{one.name}")
         return 0
@@ -267,20 +266,20 @@ class Scopes:
         (self.module if name in scope.globals else scope).imported[name] = dotted
         self._bind(name)
 
-    def _visit_named(self, node: Any, twin: Any) -> int:
+    def _visit_named(self, node: Any) -> int:
         """A handler or a pattern, which may bind a name."""
         if node.name:
             self._bind(node.name)
-        return self._walk_inside(node, twin)
+        return self._walk_inside(node)
 
     _visit_ExceptHandler = _visit_MatchAs = _visit_MatchStar = _visit_named
 
-    def _visit_MatchMapping(self, node: ast.MatchMapping, twin: Any) -> int:
+    def _visit_MatchMapping(self, node: ast.MatchMapping) -> int:
         if node.rest:
             self._bind(node.rest)
-        return self._walk_inside(node, twin)
+        return self._walk_inside(node)
 
-    def _visit_Attribute(self, node: ast.Attribute, twin: Any) -> int:
+    def _visit_Attribute(self, node: ast.Attribute) -> int:
         if type(node.ctx) is not ast.Load:
             self.learned.add_field(node.attr)
             whole: ast.expr = node.value
@@ -290,9 +289,9 @@ class Scopes:
                 self.learned.add_elsewhere(node.attr)
         elif node.attr == "modules" and isinstance(node.value, ast.Name) and node.value.id == "sys":
             self.module.is_open = True
-        return self._walk(node.value, twin.value)
+        return self._walk(node.value)
 
-    def _visit_Call(self, node: ast.Call, twin: Any) -> int:
+    def _visit_Call(self, node: ast.Call) -> int:
         function = node.func
         if isinstance(function, (ast.Name, ast.Attribute)):
             self._note_call(function)
@@ -301,11 +300,11 @@ class Scopes:
         for keyword in node.keywords:
             if keyword.arg is not None and isinstance(keyword.value, ast.Attribute) and keyword.value.attr in METHODS:
                 self.learned.add_field(keyword.arg)
-        inside = self._walk(function, twin.func) | LATE
+        inside = self._walk(function) | LATE
         if node.args:
-            inside |= self._walk_all(node.args, twin.args)
+            inside |= self._walk_all(node.args)
         if node.keywords:
-            inside |= self._walk_all(node.keywords, twin.keywords)
+            inside |= self._walk_all(node.keywords)
         return inside
 
     def _note_call(self, function: ast.Name | ast.Attribute) -> None:
@@ -327,25 +326,25 @@ class Scopes:
         imported = self.module.imported.get(name)
         return imported is not None and (imported.startswith(".") or self.learned.is_watched(imported))
 
-    def _visit_loop(self, node: Any, twin: Any) -> int:
+    def _visit_loop(self, node: Any) -> int:
         self._loops += 1
-        inside = self._walk_inside(node, twin)
+        inside = self._walk_inside(node)
         self._loops -= 1
         return inside
 
     _visit_For = _visit_AsyncFor = _visit_While = _visit_loop
 
-    def _visit_definition(self, node: Any, twin: Any) -> int:
+    def _visit_definition(self, node: Any) -> int:
         before, self._called = self._called, set()
         self._bind(node.name)
         self._scope.defined.add(node.name)
         if isinstance(node, ast.ClassDef):
-            inside = self._walk_class(node, twin)
+            inside = self._walk_class(node)
         else:
             if node.name in DELEGATING:
                 self.learned.add_field(node.name)
-            inside = self._walk_all(node.decorator_list, twin.decorator_list) | self._walk_defaults(node.args, twin.args)
-            inside |= self._walk_function(node, twin, node.name)
+            inside = self._walk_all(node.decorator_list) | self._walk_defaults(node.args)
+            inside |= self._walk_function(node, node.name)
         self._called_by.setdefault(node.name, set()).update(self._called)
         before |= self._called
         self._called = before
@@ -353,85 +352,85 @@ class Scopes:
 
     _visit_FunctionDef = _visit_AsyncFunctionDef = _visit_ClassDef = _visit_definition
 
-    def _visit_Lambda(self, node: ast.Lambda, twin: Any) -> int:
-        return self._walk_defaults(node.args, twin.args) | self._walk_function(node, twin, "<lambda>") | SCOPED
+    def _visit_Lambda(self, node: ast.Lambda) -> int:
+        return self._walk_defaults(node.args) | self._walk_function(node, "<lambda>") | SCOPED
 
-    def _walk_defaults(self, arguments: ast.arguments, twin: Any) -> int:
-        return self._walk_all(arguments.defaults, twin.defaults) | self._walk_all(arguments.kw_defaults, twin.kw_defaults)
+    def _walk_defaults(self, arguments: ast.arguments) -> int:
+        return self._walk_all(arguments.defaults) | self._walk_all(arguments.kw_defaults)
 
-    def _walk_function(self, node: Any, twin: Any, name: str) -> int:
+    def _walk_function(self, node: Any, name: str) -> int:
         before = self._scope, self._loops
-        inside = _pair_annotations(node, twin)
-        self._scope, self._loops = self._with_type_parameters(node, twin), 0
+        inside = _mark_annotations(node)
+        self._scope, self._loops = self._with_type_parameters(node), 0
         self._scope = self._opened(node, FUNCTION, name)
         for one in _arguments(node.args):
             self._scope.bind(one.arg, False)
         is_lambda = isinstance(node, ast.Lambda)
-        inside |= self._walk(node.body, twin.body) if is_lambda else self._walk_all(node.body, twin.body)
+        inside |= self._walk(node.body) if is_lambda else self._walk_all(node.body)
         self._scope, self._loops = before
         return inside
 
-    def _with_type_parameters(self, node: Any, twin: Any) -> Scope:
+    def _with_type_parameters(self, node: Any) -> Scope:
         """The scope that a definition stands in. One with parameters for types has a scope around it, which has their names."""
         parameters = getattr(node, "type_params", None)
         if not parameters:
             return self._scope
-        for one, other in zip(parameters, twin.type_params):
-            pair(one, other)
-        scope = self.by_node[parameters[0]] = Scope(FUNCTION, self._scope, getattr(node, "name", ""))
+        for one in parameters:
+            mark(one)
+        scope = Scope(FUNCTION, self._scope, getattr(node, "name", ""))
+        self.all.append(scope)
         for one in parameters:
             scope.bind(one.name, False)
         return scope
 
-    def _walk_class(self, node: ast.ClassDef, twin: Any) -> int:
-        inside = self._walk_all(node.decorator_list, twin.decorator_list)
+    def _walk_class(self, node: ast.ClassDef) -> int:
+        inside = self._walk_all(node.decorator_list)
         before = self._scope, self._loops
-        self._scope = self._with_type_parameters(node, twin)
-        inside |= self._walk_all(node.bases, twin.bases) | self._walk_all(node.keywords, twin.keywords)
+        self._scope = self._with_type_parameters(node)
+        inside |= self._walk_all(node.bases) | self._walk_all(node.keywords)
         self._scope, self._loops = self._opened(node, CLASS, node.name), 0
-        inside |= self._walk_all(node.body, twin.body)
+        inside |= self._walk_all(node.body)
         self._scope, self._loops = before
         return inside
 
-    def _visit_TypeAlias(self, node: Any, twin: Any) -> int:
+    def _visit_TypeAlias(self, node: Any) -> int:
         """Its value is worked out when it is asked for, in a scope of its own."""
         self._bind(node.name.id)
-        return pair(node, twin)
+        return mark(node)
 
-    def _visit_comprehension_of(self, node: Any, twin: Any) -> int:
+    def _visit_comprehension_of(self, node: Any) -> int:
         first = node.generators[0]
-        inside = self._walk(first.iter, twin.generators[0].iter)
+        inside = self._walk(first.iter)
         before = self._scope, self._is_target
         self._scope = self._opened(node, COMPREHENSION, before[0].name)
         self._is_target = True
-        for part, other in zip(node.generators, twin.generators):
-            part.twin, part.is_scoped = other, False
-            inside |= self._walk(part.target, other.target)
+        for part in node.generators:
+            inside |= self._walk(part.target)
         self._is_target = False
-        for part, other in zip(node.generators, twin.generators):
-            inside |= self._walk_all(part.ifs, other.ifs)
+        for part in node.generators:
+            inside |= self._walk_all(part.ifs)
             if part is not first:
-                inside |= self._walk(part.iter, other.iter)
+                inside |= self._walk(part.iter)
         for name in ("key", "value", "elt"):
             if hasattr(node, name):
-                inside |= self._walk(getattr(node, name), getattr(twin, name))
+                inside |= self._walk(getattr(node, name))
         self._scope, self._is_target = before
         return inside | SCOPED
 
     _visit_ListComp = _visit_SetComp = _visit_DictComp = _visit_GeneratorExp = _visit_comprehension_of
 
 
-Visit = Callable[[Scopes, Any, Any], int]
+Visit = Callable[[Scopes, Any], int]
 
 _LEAVES = (ast.Pass, ast.Break, ast.Continue, ast.alias)
 
 
-def _visit_late(scopes: Scopes, node: Any, twin: Any) -> int:
-    return scopes._walk_inside(node, twin) | LATE
+def _visit_late(scopes: Scopes, node: Any) -> int:
+    return scopes._walk_inside(node) | LATE
 
 
-def _visit_slice(scopes: Scopes, node: Any, twin: Any) -> int:
-    return scopes._walk_inside(node, twin) | SCOPED
+def _visit_slice(scopes: Scopes, node: Any) -> int:
+    return scopes._walk_inside(node) | SCOPED
 
 
 _VISITS: dict[type, Visit] = {
@@ -455,29 +454,25 @@ def fields_of(kind: type) -> tuple[str, ...]:
     return names
 
 
-def pair(node: Any, twin: Any) -> int:
-    """Gives each node the same one of an untouched tree, with no look at scopes: those of annotations are others."""
+def mark(node: Any) -> int:
+    """Tells of each node what it has inside, with no look at scopes: those of annotations are others."""
     inside = 0
     for name in fields_of(type(node)):
         one = getattr(node, name, None)
-        if isinstance(one, list):
-            for child, other in zip(one, getattr(twin, name)):
-                if isinstance(child, ast.AST):
-                    inside |= pair(child, other)
-        elif isinstance(one, ast.AST):
-            inside |= pair(one, getattr(twin, name))
-    inside |= SCOPED * isinstance(node, SCOPED_KINDS) | LATE * isinstance(node, LATE_KINDS)
-    node.twin, node.is_scoped, node.is_late = twin, inside & SCOPED != 0, inside & LATE != 0
+        for child in one if isinstance(one, list) else (one,):
+            if isinstance(child, ast.AST):
+                inside |= mark(child)
+    node.inside = inside = inside | SCOPED * isinstance(node, SCOPED_KINDS) | LATE * isinstance(node, LATE_KINDS)
     return inside
 
 
-def _pair_annotations(node: Any, twin: Any) -> int:
+def _mark_annotations(node: Any) -> int:
     inside = 0
-    for one, other in zip(_arguments(node.args), _arguments(twin.args)):
+    for one in _arguments(node.args):
         if one.annotation is not None:
-            inside |= pair(one.annotation, other.annotation)
+            inside |= mark(one.annotation)
     returns = getattr(node, "returns", None)
-    return inside if returns is None else inside | pair(returns, twin.returns)
+    return inside if returns is None else inside | mark(returns)
 
 
 def _count_later(scope: Scope, starting: set[str]) -> None:
