@@ -8,7 +8,7 @@ from __future__ import annotations
 
 import os
 import re
-from collections.abc import Iterator
+from collections.abc import Iterable, Iterator
 from itertools import islice
 from typing import NamedTuple
 
@@ -31,6 +31,9 @@ _DELEGATING = re.compile(rb"def[ \t]+(__getattr__|__getattribute__)\b")
 """Methods that may give what another object has."""
 _NAME_BEFORE = re.compile(rb"([^\W\d]\w*)[ \t]*\Z")
 LONGEST_NAME = 80
+SELF = b"self"
+_SETTING = b"attr("
+"""What stands in each source that sets or deletes an attribute by its name."""
 _METHODS = frozenset(name.encode() for name in METHODS)
 _IMPORT = re.compile(rb"import\b(?:[^\n(]*\([^)]*\)|[^\n]*)")
 _BEFORE_IMPORT = re.compile(rb"[ \t]*(?:from[^\n]*)?\Z")
@@ -95,7 +98,8 @@ def _stored_by_all(sources: list[Source]) -> tuple[set[str], set[str]]:
     for source in sources:
         if source.path not in _read:
             text = _text_of(source.path)
-            _read[source.path] = frozenset(stored_by(text)), frozenset(kept_by(text))
+            stored = [*_FIELD.finditer(text)]
+            _read[source.path] = frozenset(_elsewhere(text, stored)), frozenset(_kept(text, stored))
         elsewhere.update(_read[source.path][0])
         fields.update(_read[source.path][1])
     return elsewhere, fields
@@ -111,10 +115,23 @@ def _text_of(file: str) -> bytes:
 
 def stored_by(text: bytes) -> set[str]:
     """The names that a source stores into what it imports."""
-    imported = imported_by(text)
-    pairs = [(_name_before(text, found.start()), found[1]) for found in _FIELD.finditer(text)]
-    pairs += [*_BY_NAME.findall(text), *_DELETED.findall(text)]
-    return {_text(attribute) for name, attribute in pairs if name is not None and _text(name) in imported}
+    return _elsewhere(text, _FIELD.finditer(text))
+
+
+def _elsewhere(text: bytes, stored: Iterable[re.Match[bytes]]) -> set[str]:
+    imported = {name.encode() for name in imported_by(text)}
+    looked_at = stored if SELF in imported else (one for one in stored if not _is_of_self(text, one.start()))
+    pairs = [(_name_before(text, found.start()), found[1]) for found in looked_at]
+    pairs += [*(_BY_NAME.findall(text) if _SETTING in text else ()), *_DELETED.findall(text)]
+    return {_text(attribute) for name, attribute in pairs if name in imported}
+
+
+def _is_of_self(text: bytes, place: int) -> bool:
+    """Whether the name that ends in front of a place is that of most objects."""
+    if not text.endswith(SELF, 0, place):
+        return False
+    before = text[max(0, place - len(SELF) - 1):place - len(SELF)]
+    return not before.isalnum() and before != b"_"
 
 
 def _name_before(text: bytes, place: int) -> bytes | None:
@@ -139,7 +156,11 @@ def _text(name: bytes) -> str:
 
 def kept_by(text: bytes) -> set[str]:
     """The names of fields that may have methods of containers by this source."""
-    found = {*_FIELD.findall(text), *_DELEGATING.findall(text)}
+    return _kept(text, _FIELD.finditer(text))
+
+
+def _kept(text: bytes, stored: Iterable[re.Match[bytes]]) -> set[str]:
+    found = {*(one[1] for one in stored), *_DELEGATING.findall(text)}
     for given in _GIVEN.finditer(text):
         *methods, last = given[1].split(b".")[1:] or [b""]
         if last in _METHODS and given[2] is None or not _METHODS.isdisjoint(methods):
