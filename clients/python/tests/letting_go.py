@@ -89,6 +89,9 @@ def a47(): x, y = R("x"), R("y"); x, y = y, x; print("swapped"); del x; print("x
 def a48(): (R(48) if items else R("other")).n; print("ifexp")
 def a49(): assert F().r.n, F().r; print("assert")
 def a50(): return F().r.n
+def a51():
+    class Own(L): pass
+    x = Own([1]); x.append(id(x.sort)); reference = weakref.ref(Own); del x, Own; gc.collect(); print("class", reference())
 async def b1(): await asyncio.sleep(0); F().r.n; print("async")
 async def b2():
     async with asyncio.Lock(): L().append(1)
@@ -97,4 +100,5 @@ async def b3(): t = asyncio.create_task(b1()); await t; del t; print("task")
 for name, f in list(globals().items()):
     if name[0] == "a" and name[1:].isdigit(): in_thread(f)
     elif name[0] == "b" and name[1:].isdigit(): asyncio.run(f())
+at_end = R("at the end")
 print("the end")

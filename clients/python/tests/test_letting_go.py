@@ -2,6 +2,8 @@
 
 from __future__ import annotations
 
+import os
+import tempfile
 import unittest
 from pathlib import Path
 
@@ -9,7 +11,55 @@ from .same import FORMS
 from .support import run_python, run_traced
 
 PROGRAM = str(Path(__file__).with_name("letting_go.py"))
-CASES = 53
+CASES = 54
+MODULE = """
+import collections, threading
+
+class Fields:
+    def __init__(self, name): self.name, self.count = name, 0
+    def __del__(self): print("gone", self.name, flush=True)
+class Slots:
+    __slots__ = ("name", "count")
+    __init__, __del__ = Fields.__init__, Fields.__del__
+class Row(list):
+    def __del__(self): print("gone row", len(self), flush=True)
+class Table(dict):
+    __slots__ = ()
+    def __del__(self): print("gone table", len(self), flush=True)
+
+fields, slots, row, table = Fields("fields"), Slots("slots"), Row([1]), Table(a=1)
+queue, groups, nested = collections.deque([Fields("in a deque")]), collections.defaultdict(list), [[Fields("in a nested list")]]
+groups["a"].append(Slots("in a group"))
+steps, made = iter([Fields("of an iterator")]), (Fields("of a generator") for _ in range(2))
+local, lock, event = threading.local(), threading.Lock(), threading.Event()
+local.one, event.one = Fields("of a thread"), Fields("of an event")
+def function(): pass
+function.one = Fields("of a function")
+class Holder:
+    one = Fields("of a class")
+untouched = Fields("untouched")
+
+def work():
+    with lock:
+        fields.count += 1
+        slots.count += 1
+        row.append(2)
+        table[str(len(table))] = 3
+        queue.append(1)
+        groups["b"].append(3)
+        nested[0].append(3)
+        function.one.count += 1
+        Holder.one.count += 1
+
+def run():
+    threads = [threading.Thread(target=work) for _ in range(2)]
+    for one in threads: one.start()
+    for one in threads: one.join()
+    next(steps), next(made)
+run()
+"""
+"""Objects that only a module's variables hold, so that they go at the end of the process."""
+OF_MODULE = 14
 
 
 class LettingGo(unittest.TestCase):
@@ -19,6 +69,17 @@ class LettingGo(unittest.TestCase):
         for form, pure in FORMS.items():
             with self.subTest(hooks=form):
                 self.assertEqual(run_traced(PROGRAM, ITC_TRACE_PURE=pure).stdout.splitlines(), plain)
+
+    def test_objects_that_only_modules_hold_go_at_the_end(self) -> None:
+        with tempfile.TemporaryDirectory() as folder:
+            program = os.path.join(folder, "program.py")
+            Path(folder, "part.py").write_text(MODULE)
+            Path(program).write_text("import part\n" + MODULE + "part.run()\n")
+            plain = sorted(run_python(program).stdout.splitlines())
+            self.assertEqual(len(plain), 2 * OF_MODULE, plain)
+            for form, pure in FORMS.items():
+                with self.subTest(hooks=form):
+                    self.assertEqual(sorted(run_traced(program, ITC_TRACE_PURE=pure).stdout.splitlines()), plain)
 
 
 if __name__ == "__main__":

@@ -120,7 +120,11 @@ _name_of: Any = vars(type)["__name__"].__get__
 _families: dict[int, int] = {}
 _decided: dict[int, dict[tuple[str, str], int]] = {}
 _own_methods: dict[int, dict[str, bool]] = {}
-_dictionaries: dict[int, Any] = {}
+_dictionaries: dict[int, weakref.ref[type] | None] = {}
+"""Of each type the class whose descriptor gives the dictionary of an object.
+
+The descriptor itself would hold its class.
+"""
 _inside: dict[int, str] = {}
 _types: dict[int, weakref.ref[type]] = {}
 
@@ -273,11 +277,13 @@ def fields_of(one: Any) -> Any:
         _remember(kind)
         owner = class_with(kind, "__dict__")
         found = None if owner is None else _vars_of(owner)["__dict__"]
-        _dictionaries[key] = found if type(found) in (types.GetSetDescriptorType, types.MemberDescriptorType) else None
-    descriptor = _dictionaries[key]
-    if descriptor is None:
+        is_of_language = type(found) in (types.GetSetDescriptorType, types.MemberDescriptorType)
+        _dictionaries[key] = weakref.ref(owner) if is_of_language else None
+    reference = _dictionaries[key]
+    kept = None if reference is None else reference()
+    if kept is None:
         return ()
-    fields = descriptor.__get__(one)
+    fields = _vars_of(kept)["__dict__"].__get__(one)
     return fields if type(fields) is dict else ()
 
 
