@@ -1,4 +1,7 @@
-"""What a watched module is rewritten to: each expression is visited once, and a module that cannot be rewritten runs as it is."""
+"""What a watched module is rewritten to: each expression is visited once, and stays as it was beside what is made of it.
+
+A module that cannot be rewritten runs as it is.
+"""
 
 from __future__ import annotations
 
@@ -13,6 +16,7 @@ from itc_trace.watch.rewrite import Rewriter
 from itc_trace.watch.scopes import Scopes
 
 from .support import PACKAGE
+from .test_same_output import of_file
 
 SOURCE = """
 def compare(rows, most):
@@ -26,7 +30,17 @@ def compare(rows, most):
     def tell(template):
         return "{0} {rows}".format(len(rows), rows=rows[0], **most), template.format(rows=str(total)), "".format_map(most[total])
     return add, show, tell
+def change(rows, table, one):
+    rows[0], *table["a"] = one.field, *rows
+    one.field += table.pop("b", rows)[len(rows)]
+    rows[one.first()] |= table[rows[1]]
+    one.add(rows).field.update(table.items(), key=rows.sort, **table)
+    del rows[1:2], table[str(rows)], one.field.part
+    print(*rows, f"{one.field:{table['width']}}", file=one.file, sep=table.get("sep"))
+    list.append(rows, table["c"]); setattr(one, "x" + str(rows), map(len, rows)); one.made = a, b = [], {}
+    return [(key := row.key) for row, *rest in rows if row.key], (lambda rows=rows: rows[0])(), {**table, "k": rows[:]}, -rows % (one, rows)
 """
+SIMPLE = (ast.Expr, ast.Assign, ast.AugAssign, ast.AnnAssign, ast.Return, ast.Delete, ast.Raise, ast.Assert)
 
 
 def visited_twice(source: str) -> list[str]:
@@ -43,8 +57,16 @@ def visited_twice(source: str) -> list[str]:
 
     tree = ast.parse(source)
     with mock.patch.object(Rewriter, "_visit", visit):
-        Rewriter(Scopes(tree, ast.parse(source)), "program.py").module(tree)
+        Rewriter(Scopes(tree), "program.py").module(tree)
     return found
+
+
+def changed_in_place(source: str) -> list[str]:
+    """The simple statements of a module that the rewriter changes, where it has to make others."""
+    tree = ast.parse(source)
+    plain = [(node, ast.dump(node)) for node in ast.walk(tree) if isinstance(node, SIMPLE)]
+    Rewriter(Scopes(tree), "program.py").module(tree)
+    return [ast.unparse(node) for node, text in plain if ast.dump(node) != text]
 
 
 class Rewriting(unittest.TestCase):
@@ -52,9 +74,15 @@ class Rewriting(unittest.TestCase):
         self.assertEqual(visited_twice(SOURCE), [])
 
     def test_each_expression_of_programs_is_visited_once(self) -> None:
-        for path in [*Path(PACKAGE, "tests", "programs", "unchanged").glob("*.py"), *Path(PACKAGE, "itc_trace").glob("*.py")]:
+        for path in [*Path(PACKAGE, "tests", "programs", "unchanged").glob("*.py"), *Path(PACKAGE, "itc_trace", "watch").glob("*.py")]:
             with self.subTest(program=path.name):
                 self.assertEqual(visited_twice(path.read_text()), [])
+
+    def test_what_stands_there_twice_is_plain_once(self) -> None:
+        programs = [path.read_text() for path in Path(PACKAGE, "tests", "programs", "unchanged").glob("*.py")]
+        for source in [SOURCE, *programs, *of_file("same.txt").values(), *of_file("forms.txt").values()]:
+            with self.subTest(program=source):
+                self.assertEqual(changed_in_place(source), [])
 
     def test_a_fault_of_the_package_leaves_the_module_as_it_is(self) -> None:
         plain = compile("one = 1", "part.py", "exec")

@@ -142,9 +142,9 @@ print(sorted(name for name in globals() if "itc" in name))
 """
 
 
-def of_file() -> dict[str, str]:
+def of_file(name: str) -> dict[str, str]:
     """The programs of a file, each behind a line with its name. Some are for the hooks in C alone."""
-    parts = re.split(r"^== (.*)\n", Path(PACKAGE, "tests", "programs", "same.txt").read_text(), flags=re.MULTILINE)
+    parts = re.split(r"^== (.*)\n", Path(PACKAGE, "tests", "programs", name).read_text(), flags=re.MULTILINE)
     return dict(zip(parts[1::2], parts[2::2]))
 
 
@@ -164,7 +164,10 @@ gc.collect()
 print("collected")
 """
 IN_C = " in C"
-PROGRAMS = {**{f"expression{number}": of_expression(line) for number, line in enumerate(EXPRESSIONS.strip().splitlines())}, **of_file()}
+PROGRAMS = {
+    **{f"expression{number}": of_expression(line) for number, line in enumerate(EXPRESSIONS.strip().splitlines())},
+    **of_file("same.txt"), **of_file("forms.txt"),
+}
 
 
 class SameOutput(unittest.TestCase):
