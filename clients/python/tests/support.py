@@ -196,10 +196,13 @@ def needs(package: str, *modules: str) -> Callable[[Any], Any]:
     return unittest.skipIf(python_with(*modules) is None, f"there is no {modules[-1]} here: apt-get install -y {package}")
 
 
-def run_python(*words: str, python: str | None = sys.executable, **variables: str) -> subprocess.CompletedProcess[str]:
+def run_python(
+    *words: str, python: str | None = sys.executable, cwd: str | None = None, **variables: str
+) -> subprocess.CompletedProcess[str]:
     """Runs `python3 WORDS..` with the package at hand."""
     environment = {**os.environ, "PYTHONPATH": str(PACKAGE), **variables}
-    return subprocess.run([python or sys.executable, *words], capture_output=True, text=True, env=environment, timeout=1500, check=False)
+    command = [python or sys.executable, *words]
+    return subprocess.run(command, capture_output=True, text=True, env=environment, cwd=cwd, timeout=1500, check=False)
 
 
 PATIENT = f"""

@@ -18,6 +18,7 @@ from .support import PACKAGE
 PYFLAKES, MYPY = "pyflakes3", "mypy"
 OF_THE_LIBRARY = {
     "cli.launch": "_run_module_as_main",
+    "cli.parser": "_option_string_actions",
     "cli.run": "_args_from_interpreter_flags _xoptions",
     "processes.children": "_popen",
     "record.noting": "_active _current_tasks _get_running_loop",

@@ -15,6 +15,7 @@ from itertools import takewhile
 from pathlib import Path, PurePath
 
 from ..record.faults import Fault
+from .baseline import Known, known
 from .races import Race, Races, Side
 
 COMMENT = re.compile(r"#\s*itc:\s*benign\b")
@@ -53,14 +54,25 @@ class Looking:
 
     strict: bool = False
     patterns: list[Pattern] = field(default_factory=list)
+    baseline: list[Known] = field(default_factory=list)
+    """The races that are known already."""
+    has_looked: bool = False
+    met: set[Known] = field(default_factory=set)
+    """All that were found and are not meant, whether they are known or not."""
     _fitting: set[Pattern] = field(default_factory=set)
 
     def silence(self, found: Races) -> None:
-        """Takes out what is meant, and counts it."""
+        """Takes out what is meant and what is known, and counts both."""
+        self.has_looked = True
         before = len(found.races) + len(found.possible)
         found.races = [race for race in found.races if not self._is_meant(race)]
         found.possible = [race for race in found.possible if not self._is_meant(race)]
-        found.silenced += before - len(found.races) - len(found.possible)
+        meant = before - len(found.races) - len(found.possible)
+        self.met |= set(map(known, [*found.races, *found.possible]))
+        found.races = [race for race in found.races if known(race) not in self.baseline]
+        found.possible = [race for race in found.possible if known(race) not in self.baseline]
+        found.silenced += meant
+        found.known += before - meant - len(found.races) - len(found.possible)
 
     def _is_meant(self, race: Race) -> bool:
         fitting = {pattern for pattern in self.patterns if pattern.fits(race)}
@@ -75,6 +87,9 @@ class Looking:
         ]
         if lines:
             yield f"no race is silenced by {', '.join(lines)}"
+        gone = [str(one) for one in self.baseline if one not in self.met]
+        if gone:
+            yield f"of the baseline did not occur: {', '.join(gone)}"
 
 
 def _has_comment(side: Side) -> bool:

@@ -103,6 +103,8 @@ class Races:
     passed_over: list[PassedOver] = field(default_factory=list)
     silenced: int = 0
     """How many more there are, but meant."""
+    known: int = 0
+    """How many more there are, but in the baseline."""
     touches: int = 0
     places: int = 0
     things: int = 0
@@ -127,7 +129,8 @@ class Races:
         found = "no race" if not self.races else _counted(len(self.races), "race")
         where = "in what was seen" if self.unseen else "in this run"
         return f"{found} {where}" + (f"; {len(self.possible)} possible" if self.possible else "") + (
-            f"; {self.silenced} silenced" if self.silenced else "") + listed(self.passed_over)
+            f"; {self.silenced} silenced" if self.silenced else "") + (
+            f"; {self.known} in the baseline" if self.known else "") + listed(self.passed_over)
 
     def summary(self) -> str:
         return (

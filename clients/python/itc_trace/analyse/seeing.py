@@ -55,8 +55,11 @@ def _unknown(whole: Journal, fault: Exception) -> Races:
 def lines_of(journals: Iterable[str]) -> Iterator[str]:
     """The lines of several journals as of one, with a word of each that breaks off."""
     for name in journals:
-        with open(name, encoding="utf-8", errors="replace") as file:
-            lines = list(file)
+        try:
+            with open(name, encoding="utf-8", errors="replace") as file:
+                lines = list(file)
+        except OSError as fault:
+            raise NoJournal(f"the journal {name} cannot be read: {fault.strerror}") from fault
         try:
             missing = read_whole(lines).missing
         except NoJournal as fault:

@@ -3,16 +3,17 @@
 from __future__ import annotations
 
 import argparse
+import io
 import os
 import random
+import shutil
 import sys
 import tempfile
 
+from ..analyse.baseline import read_baseline, write_baseline
 from ..analyse.benign import Looking, read_patterns
 from ..record.collector import HOST, NoCollector
-from ..record.dividing import LEAVE
-from ..record.environment import OWN_TENANT
-from ..record.faults import WORDS_REFUSED, Fault, look, look_for_collector
+from ..record.faults import WORDS_REFUSED, Fault, in_words, look, look_for_collector
 from ..record.journal import NoJournal
 from ..analyse.loading import TENANT as LOADED
 from ..analyse.loading import loaded
@@ -20,7 +21,11 @@ from ..analyse.parts import is_in_parts, races_of_parts
 from ..analyse.progress import Bar
 from ..analyse.races import Races
 from ..processes.relay import relay
-from .run import MOST_SEED, Run, check_writable, draw_parts, draw_tenant, run, tell_if_untouched, told
+from .options import NEW_SEED, parser
+from .output_files import check_outputs
+from .parser import Parser, tenant
+from .saying import UNWRITTEN, say, write
+from .run import MOST_SEED, Run, draw_parts, draw_tenant, run, tell_if_untouched, told
 from ..analyse.seeing import check_trace, lines_of, races_seen
 from ..session import Refused
 from ..analyse.snapshot import snapshot
@@ -28,117 +33,19 @@ from ..report.hints import missing_sources
 from .system import run_system
 from .system_file import read_system
 
-NEW_SEED = -1
-FLAGS = {"--strict", "--quiet", "--watch-nothing", "--shake", "--no-shake", "--help", "-h"}
-OPTIONS_OF_RUN = (
-    "port", "host", "tenant", "process", "export", "journal", "picture", "status-file", "fail-on", "strict", "benign", "runs", "shake",
-    "no-shake", "part-events", "quiet", "watch", "watch-nothing",
-)
-MOST_RUNS = 10_000
-LEAST_PART = 100
+
+LOOKING = ("run", "system", "races")
+"""The commands that look for races."""
+EXPORT_BEGINS = b'{"events":'
+OPTIONS_OF_PYTHON = {"-c": "a file, or -m and a module, but no text of a program", "-": "a file, or -m and a module, but no standard input"}
+"""What is typed before a program as python3 takes it, and what `run` takes instead."""
 
 
-def parser(name: str) -> argparse.ArgumentParser:
-    made = argparse.ArgumentParser(prog=name, description=f"The commands: `{name} run|system|races|relay|snapshot ..`.")
-    commands = made.add_subparsers(dest="command", required=True)
-    _add_run(commands.add_parser("run", help="run a program with tracing on, and list its races", allow_abbrev=False))
-    system = commands.add_parser("system", help="run several processes, and list the races of them together")
-    system.add_argument("file", help="the TOML file that describes them")
-    system.add_argument("--export", metavar="FILE", help="keep the trace there, and its journal beside it")
-    system.add_argument("--picture", metavar="FILE", help="draw the trace there")
-    _add_status_file(system)
-    _add_fail_on(system)
-    _add_looking(system)
-    races = commands.add_parser("races", help="list the races of a trace by its journal")
-    races.usage = "%(prog)s [OPTIONS] EXPORT|--port PORT TENANT JOURNAL.."
-    _add_port(races, is_required=False)
-    _add_fail_on(races)
-    _add_looking(races)
-    races.add_argument("trace", metavar="EXPORT|TENANT", help="an export, or with --port a tenant of the collector there")
-    races.add_argument("--picture", metavar="FILE", help="draw the trace there, with its races")
-    races.add_argument("journal", nargs="*", help="the journal of each process; none, if that of a run in parts is given for EXPORT")
-    relaying = commands.add_parser("relay", help="let many processes report to one tenant")
-    relaying.add_argument("--listen", type=int, required=True, help="the port that the processes report to")
-    _add_port(relaying)
-    taking = commands.add_parser("snapshot", help="write an export of a tenant while it runs")
-    _add_port(taking)
-    taking.add_argument("tenant")
-    return made
-
-
-def _add_port(parser: argparse.ArgumentParser, is_required: bool = True) -> None:
-    parser.add_argument("--port", type=int, required=is_required, help="the port of the collector")
-    _add_host(parser)
-
-
-def _add_host(parser: argparse.ArgumentParser) -> None:
-    parser.add_argument("--host", default=HOST, help=f"where the collector is reached ({HOST})")
-
-
-def _add_fail_on(parser: argparse.ArgumentParser) -> None:
-    parser.add_argument("--fail-on", choices=("race", "possible"), default="race",
-                        help="end with 66 where there is a race, or where one is possible (race)")
-
-
-def _add_status_file(parser: argparse.ArgumentParser) -> None:
-    parser.add_argument("--status-file", metavar="FILE", help="write the verdict and the program's own status there, apart")
-
-
-def _add_looking(parser: argparse.ArgumentParser) -> None:
-    parser.add_argument("--strict", action="store_true", help="two tasks of one loop race as two threads do")
-    parser.add_argument("--benign", metavar="FILE", action="append", default=[], help="races that are meant: a thing and places a line")
-
-
-def _add_run(parser: argparse.ArgumentParser) -> None:
-    parser.add_argument("--port", type=int, help="report to the collector at this port, and start none")
-    _add_host(parser)
-    parser.add_argument("--tenant", default=OWN_TENANT, help="the tenant to report for (trace)")
-    parser.add_argument("--process", help="the name of this process among others that report for the tenant")
-    parser.add_argument("--export", metavar="FILE", help="keep the trace there, and its journal beside it")
-    parser.add_argument("--journal", metavar="FILE", help="keep the journal there")
-    parser.add_argument("--picture", metavar="FILE", help="draw the trace there")
-    _add_status_file(parser)
-    _add_fail_on(parser)
-    _add_looking(parser)
-    parser.add_argument("--runs", type=_runs, default=1, metavar="N", help="run the program N times, all but the first shaken")
-    parser.add_argument("--shake", type=_seed, nargs="?", const=NEW_SEED, metavar="SEED",
-                        help="perturb the schedule of each run; --shake=SEED as this seed did")
-    parser.add_argument("--no-shake", action="store_true", help="leave the schedule of each run as it is")
-    parser.add_argument("--part-events", type=_part_events, default=LEAVE.events, metavar="N",
-                        help=f"begin a new part of the trace after N events ({LEAVE.events})")
-    parser.add_argument("--quiet", action="store_true", help="write nothing where there is no race")
-    parser.add_argument("--watch", metavar="PACKAGE", action="append", help="watch an installed package, too")
-    parser.add_argument("--watch-nothing", action="store_true", help="note only what is shared or touched by hand")
-    parser.usage = "%(prog)s [OPTIONS] PROGRAM|-m MODULE [ARGS..]"
-
-
-def _runs(word: str) -> int:
-    return _number(word, 1, MOST_RUNS)
-
-
-def _part_events(word: str) -> int:
-    return _number(word, LEAST_PART, LEAVE.events)
-
-
-def _seed(word: str) -> int:
-    return _number(word, 0, MOST_SEED - 1)
-
-
-def _number(word: str, least: int, most: int) -> int:
-    try:
-        number = int(word)
-    except ValueError:
-        number = least - 1
-    if not least <= number <= most:
-        raise argparse.ArgumentTypeError(f"{word} is no number from {least} to {most}")
-    return number
-
-
-def _divided(words: list[str]) -> tuple[list[str], list[str]]:
+def _divided(words: list[str], options: Parser) -> tuple[list[str], list[str]]:
     """The words of `run` up to the program, and the program's own."""
-    place = 1
+    flags, place = options.flags(), 1
     while place < len(words) and words[0] == "run" and words[place].startswith("-") and words[place] not in ("-m", "--"):
-        place += 1 if words[place] in FLAGS or "=" in words[place] else 2
+        place += 1 if words[place] in flags or "=" in words[place] else 2
     if words[:1] != ["run"]:
         place = len(words)
     rest = words[place:]
@@ -146,44 +53,108 @@ def _divided(words: list[str]) -> tuple[list[str], list[str]]:
 
 
 def _run(words: argparse.Namespace, program: list[str]) -> int:
-    if not program or program[0] == "-m" and len(program) < 2:
-        raise Fault("run wants a program, or -m and a module")
-    if words.is_program_marked is False:
-        tell_of_options_behind(program)
+    if not program or program[0] == "-m" and not any(program[1:2]):
+        raise Fault(f"run wants a program, or -m and a module{_taken_as_value(words.typed)}")
+    if program[0] != "-m":
+        _look_for_program(program[0], words)
+    if not words.is_program_marked:
+        _tell_of_options_behind(program, words.options)
     return run(Run(
-        program, words.port, words.tenant, words.process, words.export, words.journal, words.picture, words.host, quiet=words.quiet,
+        program, words.port, words.tenant, words.process, words.export, words.journal, words.picture, _host(words), quiet=words.quiet,
         fail_on_possible=words.fail_on == "possible", runs=words.runs, is_shaken=not words.no_shake,
         seed=random.SystemRandom().randrange(MOST_SEED) if words.shake == NEW_SEED else words.shake,
-        part_events=words.part_events, status_file=words.status_file, watched=None if words.watch_nothing else words.watch or [], looking=_looking(words),
+        part_events=words.part_events, status_file=words.status_file, watched=None if words.watch_nothing else words.watch or [],
+        looking=words.looking, inputs=_read(words), baseline=words.write_baseline,
     ))
 
 
+def _host(words: argparse.Namespace) -> str:
+    """Where the collector is reached, which only a port of it makes needed."""
+    if words.host is not None and words.port is None:
+        raise Fault("--host wants --port, too: without it a collector of its own is started here")
+    return words.host or HOST
+
+
+def _taken_as_value(typed: list[str]) -> str:
+    """Which option has taken the program as its value."""
+    last, before = typed[-1], typed[-2] if len(typed) > 1 else ""
+    return f": {before} takes {last} as its value" if before.startswith("-") and os.path.exists(last) else ""
+
+
+def _look_for_program(program: str, words: argparse.Namespace) -> None:
+    """Says what may have been meant by a word that is no program."""
+    if os.path.isfile(program):
+        if program.endswith(".toml"):
+            raise Fault(f"{program} is no program: if it describes a system, run it by `system {program}`")
+        if is_export(program):
+            raise Fault(f"{program} is no program, but an export: list its races by `races {program}`")
+    elif not os.path.exists(program):
+        raise Fault(f"there is no program {program or 'without a name'}: {_meant_by(program, words)}")
+
+
+def is_export(file: str) -> bool:
+    with open(file, "rb") as given:
+        return given.read(len(EXPORT_BEGINS)) == EXPORT_BEGINS
+
+
+def _meant_by(program: str, words: argparse.Namespace) -> str:
+    if program and os.path.isfile(f"{program}.py"):
+        return f"did you mean {program}.py?"
+    if words.shake == NEW_SEED and program.isdigit():
+        return f"write --shake={program} if it is a seed"
+    if program and shutil.which(program):
+        return "name the file that Python runs, as shop.py, without the command before it"
+    return "name a file, or -m and a module"
+
+
 def _looking(words: argparse.Namespace) -> Looking:
-    return Looking(words.strict, [pattern for file in words.benign for pattern in read_patterns(file)])
+    baseline = [] if words.baseline is None else read_baseline(words.baseline)
+    return Looking(words.strict, [pattern for file in words.benign for pattern in read_patterns(file)], baseline)
 
 
 def _system(words: argparse.Namespace) -> int:
     system = read_system(words.file)
     system.export, system.picture = words.export or system.export, words.picture or system.picture
-    return run_system(system, _looking(words), words.fail_on == "possible", words.status_file)
+    beside = None if system.export is None else f"{system.export}.journal"
+    outputs = (
+        ("--export", system.export), ("the journal of --export", beside), ("--picture", system.picture), ("--status-file", words.status_file),
+        ("--write-baseline", words.write_baseline),
+    )
+    check_outputs(outputs, [(words.file, words.file), *_read(words)])
+    return run_system(system, words.looking, words.fail_on == "possible", words.status_file)
 
 
 def _races(words: argparse.Namespace) -> int:
-    if words.picture is not None:
-        check_writable(words.picture)
-    words.looking = _looking(words)
+    words.host = _host(words)
+    if words.port is None and not os.path.exists(words.trace):
+        raise Fault(f"{words.trace} cannot be read: No such file or directory: name an export, or a tenant with --port")
     divided = _journal_in_parts(words)
     if divided is not None:
+        _check_outputs(words, divided)
         return _races_of_parts(words, divided)
     if not words.journal and words.port is None and os.path.isfile(f"{words.trace}.journal"):
         words.journal = [f"{words.trace}.journal"]
     if not words.journal:
-        raise Fault("races wants the journal of each process, behind the export or the tenant")
+        raise Fault(f"races wants the journal of each process, behind {words.trace}: `run --export` and `run --journal` write it")
+    _check_outputs(words)
     if words.port is None:
         with loaded(words.trace) as collector:
             return _races_of(words, LOADED, collector.port, HOST, words.trace)
-    look(words.trace, words.port, words.host)
+    look(_tenant(words.trace), words.port, words.host)
     return _races_of(words, words.trace, words.port, words.host, f"tenant {words.trace} at port {words.port}")
+
+
+def _check_outputs(words: argparse.Namespace, *further: str) -> None:
+    """Finds what keeps `races` from writing its files."""
+    read = [(file, file) for file in (words.trace, *words.journal, *further)]
+    check_outputs((("--picture", words.picture), ("--write-baseline", words.write_baseline)), [*read, *_read(words)])
+
+
+def _tenant(word: str) -> str:
+    try:
+        return tenant(word)
+    except argparse.ArgumentTypeError as fault:
+        raise Fault(str(fault)) from fault
 
 
 def _journal_in_parts(words: argparse.Namespace) -> str | None:
@@ -211,50 +182,78 @@ def _races_of_parts(words: argparse.Namespace, journal: str) -> int:
 
 
 def _tell(words: argparse.Namespace, found: Races, picture: str | None = None) -> int:
-    print(told(found, picture, words.looking, missing_sources(found)))
+    is_written = write(f"{told(found, picture, words.looking, missing_sources(found))}\n")
     tell_if_untouched(found)
-    return int(found.verdict(words.fail_on == "possible"))
+    return int(found.verdict(words.fail_on == "possible")) if is_written else UNWRITTEN
 
 
 def _relay(words: argparse.Namespace) -> None:
-    look_for_collector(words.port, words.host)
+    host = _host(words)
+    if words.listen == words.port and host == HOST:
+        raise Fault(f"port {words.port} is that of the collector: have the relay listen at another by --listen")
+    look_for_collector(words.port, host)
     try:
-        relay(words.listen, words.port, words.host)
+        relay(words.listen, words.port, host)
     except OSError as fault:
         raise Fault(f"port {words.listen} cannot be listened at: {fault.strerror}: choose another by --listen") from fault
 
 
-def tell_of_options_behind(program: list[str]) -> None:
+def _tell_of_options_behind(program: list[str], options: Parser) -> None:
     """Says of options of `run` behind the program that the program gets them, unless its source has their names."""
     try:
         with open(program[0], "rb") as file:
             source = file.read()
     except OSError:
         return  # It is a module, or a folder.
-    options = {f"--{one}" for one in OPTIONS_OF_RUN}
     for word in program[1:]:
         option = word.partition("=")[0]
-        if option in options and option.removeprefix("--").encode() not in source:
-            print(f"itc_trace: {program[0]} gets {option}: put it before {program[0]} if it is for run, or put -- before the program", file=sys.stderr)
+        if option.startswith("--") and option in options.options() and option.removeprefix("--").encode() not in source:
+            say(f"itc_trace: {program[0]} gets {option}: put it before {program[0]} if it is for run, or put -- before the program")
 
 
 def main(name: str = "python3 -m itc_trace") -> int:
-    own, program = _divided(sys.argv[1:])
-    words = parser(name).parse_args(own)
+    made = parser(name)
+    own, program = _divided(sys.argv[1:], made.commands["run"])
+    for word in own[1:]:
+        if own[0] == "run" and word in OPTIONS_OF_PYTHON:
+            made.commands["run"].refuse(f"run takes {OPTIONS_OF_PYTHON[word]}")
+    words = made.parse_all(own)
+    words.typed, words.options = own, made.commands["run"]
     words.is_program_marked = "--" in sys.argv[1 : len(own) + 2]
     try:
-        if words.command == "run":
-            return _run(words, program)
-        if words.command == "system":
-            return _system(words)
-        if words.command == "races":
-            return _races(words)
-        if words.command == "relay":
-            _relay(words)
-        else:
-            look(words.tenant, words.port, words.host)
-            snapshot(words.tenant, words.port, sys.stdout, words.host)
+        return _done(words, program)
     except (NoCollector, NoJournal, Refused, OSError) as fault:
-        print(f"itc_trace: {fault}", file=sys.stderr)
+        say(f"itc_trace: {in_words(fault)}")
         return WORDS_REFUSED
+
+
+def _looked(words: argparse.Namespace, program: list[str]) -> int:
+    """Does what a command is for that looks for races, and writes the baseline if one is asked for and races were looked for."""
+    words.looking = _looking(words)
+    status = _run(words, program) if words.command == "run" else _system(words) if words.command == "system" else _races(words)
+    if words.write_baseline is not None and words.looking.has_looked:
+        write_baseline(words.write_baseline, words.looking.met)
+        count = len(words.looking.met)
+        say(f"itc_trace: {words.write_baseline} has {count} race{'' if count == 1 else 's'}: --baseline {words.write_baseline} fails on others only")
+    return status
+
+
+def _read(words: argparse.Namespace) -> list[tuple[str, str]]:
+    """The files that are read for a list of races. A baseline may be written anew."""
+    baseline = [words.baseline] if words.baseline is not None and words.baseline != words.write_baseline else []
+    return [(file, file) for file in (*words.benign, *baseline)]
+
+
+def _done(words: argparse.Namespace, program: list[str]) -> int:
+    """Does what a command is for. Its status."""
+    if words.command in LOOKING:
+        return _looked(words, program)
+    if words.command == "relay":
+        _relay(words)
+    else:
+        host = _host(words)
+        look(words.tenant, words.port, host)
+        taken = io.StringIO()
+        snapshot(words.tenant, words.port, taken, host)
+        return 0 if write(taken.getvalue()) else UNWRITTEN
     return 0

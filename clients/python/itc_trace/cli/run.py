@@ -25,6 +25,8 @@ from .ending import Child, Ended, ends_by_signals, is_asked_to_end
 from ..record.environment import OWN_TENANT
 from ..record.faults import WORDS_REFUSED, Fault, look
 from .launch import RAISED, REFUSED
+from .output_files import check_outputs
+from .saying import say
 from .statuses import OWN_STATUSES, forget_status, keep_status, own_status
 from ..report.merging import Merged
 from ..processes.part_collectors import PartCollectors
@@ -69,6 +71,10 @@ class Run:
     """After so many events a new part of the trace begins."""
     is_shaken: bool = True
     """Whether the runs from the second one on are shaken."""
+    inputs: list[tuple[str, str]] = field(default_factory=list)
+    """The files that are read for the list of races, each with the word for it."""
+    baseline: str | None = None
+    """Where the races that were found are written, to be known."""
     status_file: str | None = None
     """Where the verdict and the program's status are written apart."""
 
@@ -99,7 +105,7 @@ def run(asked: Run) -> int:
         with ends_by_signals():
             return _run_once(asked, asked.seed) if asked.runs == 1 else _run_often(asked)
     except Ended as ended:
-        _say(f"itc_trace: incomplete: {ended}")
+        say(f"itc_trace: incomplete: {ended}")
         return keep_status(asked.status_file, Verdict.INCOMPLETE, None)
 
 
@@ -112,14 +118,22 @@ def _check(asked: Run) -> None:
         raise Fault(f"there is no program {program}: name a file, or -m and a module")
     elif not os.path.isdir(program):
         _check_syntax(program)
-    if asked.status_file is not None:
-        check_writable(asked.status_file)
-    for number in range(1, asked.runs + 1):
-        for file in (asked.of(number).export, asked.of(number).journal, asked.of(number).picture):
-            if file is not None:
-                check_writable(file)
+    _check_outputs(asked)
     if asked.port is not None:
         look(asked.tenant, asked.port, asked.host)
+
+
+def _check_outputs(asked: Run) -> None:
+    inputs = list(asked.inputs)
+    if asked.words[0] != "-m":
+        inputs.append(("the program", asked.words[0]))
+    for number in range(1, asked.runs + 1):
+        one = asked.of(number)
+        beside = f"{one.export}.journal" if one.export is not None and one.journal is None else None
+        check_outputs((
+            ("--status-file", asked.status_file), ("--write-baseline", asked.baseline), ("--export", one.export), ("--journal", one.journal), ("--picture", one.picture),
+            ("the journal of --export", beside),
+        ), inputs)
 
 
 def _check_module(name: str) -> None:
@@ -147,19 +161,6 @@ def _check_syntax(program: str) -> None:
         raise Fault(f"{program} cannot be run: {error}: name a program of Python") from error
 
 
-def check_writable(file: str) -> None:
-    was_there = os.path.exists(file)
-    if was_there and not os.path.isfile(file):
-        raise Fault(f"{file} cannot be written: it is no regular file, which is read again at the end")
-    try:
-        with open(file, "ab"):
-            pass
-    except OSError as error:
-        raise Fault(f"{file} cannot be written: {error.strerror}") from error
-    if not was_there:
-        os.unlink(file)
-
-
 def _run_once(asked: Run, seed: int | None) -> int:
     outcome = _outcome(asked, seed)
     if outcome is None:
@@ -168,9 +169,9 @@ def _run_once(asked: Run, seed: int | None) -> int:
     verdict = races.verdict(asked.fail_on_possible)
     is_ambiguous = not verdict and outcome.status in OWN_STATUSES
     if verdict or races.possible or is_ambiguous or not asked.quiet:
-        _say(told(races, outcome.picture, asked.looking) + own_status(verdict, outcome.status))
+        say(told(races, outcome.picture, asked.looking) + own_status(verdict, outcome.status))
         if asked.watched is None and _is_untouched(races) and not outcome.has_raised:
-            _say(UNTOUCHED)
+            say(UNTOUCHED)
     return keep_status(asked.status_file, verdict, outcome.status)
 
 
@@ -186,12 +187,12 @@ def _run_often(asked: Run) -> int:
             return WORDS_REFUSED
         merged.add(outcome.races, outcome.status, seed)
         if not asked.quiet:
-            _say(f"itc_trace: run {number} of {asked.runs}{_by_seed(seed)}: {outcome.races.found()}")
+            say(f"itc_trace: run {number} of {asked.runs}{_by_seed(seed)}: {outcome.races.found()}")
         if is_asked_to_end():
             break
     verdict = merged.verdict(asked.fail_on_possible)
     if verdict or merged.has_possible or not asked.quiet:
-        _say(merged.text(said_beside(merged.examples(), asked.looking)) + own_status(verdict, merged.status))
+        say(merged.text(said_beside(merged.examples(), asked.looking)) + own_status(verdict, merged.status))
     return keep_status(asked.status_file, verdict, merged.status)
 
 
@@ -317,7 +318,7 @@ def draw(export: str, about: list[str], picture: str, races: Races) -> bool:
     """Draws the trace with its races, and what the words name beside. Gives whether it did."""
     command = os.environ.get("ITC_PICTURE") or find_in_repository("picture")
     if command is None:
-        _say("itc_trace: no picture: the command of that name is in the repository of itc_trace")
+        say("itc_trace: no picture: the command of that name is in the repository of itc_trace")
         return False
     with tempfile.NamedTemporaryFile("w", suffix=".races", encoding="utf-8") as rows:
         rows.write(race_rows(races))
@@ -326,7 +327,7 @@ def draw(export: str, about: list[str], picture: str, races: Races) -> bool:
         with open(export, "rb") as given, open(picture, "wb") as page:
             drawn = subprocess.run(words, stdin=given, stdout=page, stderr=subprocess.PIPE, encoding="utf-8", errors="replace", check=False)
     if drawn.returncode:
-        _say(f"itc_trace: no picture: {(drawn.stderr.splitlines() or [words[0]])[-1]}")
+        say(f"itc_trace: no picture: {(drawn.stderr.splitlines() or [words[0]])[-1]}")
     return drawn.returncode == 0
 
 
@@ -339,13 +340,6 @@ def draw_tenant(tenant: str, port: int, host: str, lines: Iterable[str], picture
         whole = [line for line in lines if line.endswith("\n")]  # The last one of a program that still runs may be cut off.
         Path(journal).write_text("".join(whole), encoding="utf-8")
         return draw(export, ["--labels", journal], picture, races)
-
-
-def _say(text: str) -> None:
-    """Writes to standard error, if there still is one."""
-    if sys.stderr is not None:
-        with contextlib.suppress(OSError):
-            print(text, file=sys.stderr, flush=True)
 
 
 def said_beside(races: Races, looking: Looking) -> list[str]:
@@ -380,4 +374,4 @@ def _is_untouched(races: Races) -> bool:
 def tell_if_untouched(races: Races) -> None:
     """Says on standard error what a program has to do for its races to be found, where nothing was touched."""
     if _is_untouched(races):
-        _say(UNTOUCHED)
+        say(UNTOUCHED)

@@ -36,7 +36,8 @@ from ..record.journal import NoJournal, read_whole
 from ..session import Refused
 from .ending import name_of
 from .launch import REFUSED
-from .run import check_writable, draw, draw_parts, environment_of_package, told
+from .run import draw, draw_parts, environment_of_package, told
+from .saying import say
 from .statuses import forget_status, keep_status, own_status
 from .system_file import Described, System
 from ..model.verdict import END_OF_ALL, Cause, Unseen
@@ -312,7 +313,7 @@ class Running:
             elif process.described.is_traced and not written:
                 self._miss(Cause.JOURNAL, f"process {process.name} reported nothing")
             if len(written) > 1:
-                print(f"itc_trace: process {process.name} reported {len(written)} times: it was started again", file=sys.stderr)
+                say(f"itc_trace: process {process.name} reported {len(written)} times: it was started again")
             for path in written:
                 lines += self._lines_of(process, path)
         return [*lines, END_OF_ALL]
@@ -342,9 +343,6 @@ ENDED_AS_A_SERVICE = Unseen(Cause.KILLED, "the program was ended by SIGTERM").ro
 
 def run_system(system: System, looking: Looking, fail_on_possible: bool = False, status_file: str | None = None) -> int:
     """The verdict's status, and where that is 0 the first status of a process that was not 0."""
-    for file in (system.export, system.picture, status_file):
-        if file is not None:
-            check_writable(file)
     forget_status(status_file)
     with tempfile.TemporaryDirectory(prefix="itc_trace_") as folder, PartCollectors(system.tenant) as collectors:
         parts = RelayParts(lambda: ask_for_port(collectors.asked_at), os.path.join(folder, BORDERS))
@@ -362,7 +360,7 @@ def run_system(system: System, looking: Looking, fail_on_possible: bool = False,
             races.unseen = [*running.unseen, *races.unseen]
             picture = _keep(system, collectors.port, lines, folder, races)
         verdict = races.verdict(fail_on_possible)
-        print(told(races, picture, looking) + own_status(verdict, running.status), file=sys.stderr, flush=True)
+        say(told(races, picture, looking) + own_status(verdict, running.status))
         return keep_status(status_file, verdict, running.status)
 
 

@@ -12,7 +12,9 @@ from typing import Any
 
 from ..record.environment import MOST_PORT, OWN_TENANT
 from ..record.faults import Fault
+from .parser import TENANT
 
+NEVER_EMPTY = ("ready", "tenant", "export", "picture")
 NAME = re.compile(r"[A-Za-z0-9][A-Za-z0-9_-]{0,63}")
 
 
@@ -71,6 +73,8 @@ def read_system(file: str) -> System:
         *(_path(folder, reading.text(told, key, "the file")) for key in ("export", "picture")),
     )
     reading.nothing_else(told, ("process", "tenant", "export", "picture"), "the file")
+    if not TENANT.fullmatch(system.tenant):
+        raise Fault(f"{file}: the file: tenant is {system.tenant!r}: it has 1 to 24 letters, digits or _")
     reading.check_order(system.processes)
     return system
 
@@ -90,6 +94,11 @@ def _described(reading: _Reading, name: str, told: Any, folder: str) -> Describe
     command = reading.texts(told, "command", where)
     if not command:
         raise Fault(f'{reading.file}: {where} has no command: give it one, as command = ["python3", "{name}.py"]')
+    if any("\0" in word for word in command):
+        raise Fault(f"{reading.file}: {where}: command has a zero byte, which no word can have")
+    for one, other in (("ready", "port"), ("watch", "watch_nothing")):
+        if told.get(one) and told.get(other):
+            raise Fault(f"{reading.file}: {where}: {one} and {other} cannot both be given")
     port = told.get("port")
     if port is not None and (not isinstance(port, int) or isinstance(port, bool) or not 1 <= port <= MOST_PORT):
         raise Fault(f"{reading.file}: {where}: port is a number from 1 to {MOST_PORT}")
@@ -112,6 +121,8 @@ class _Reading:
         value = told.get(key)
         if value is not None and not isinstance(value, str):
             raise Fault(f"{self.file}: {where}: {key} is a text")
+        if value == "" and key in NEVER_EMPTY:
+            raise Fault(f"{self.file}: {where}: {key} is empty")
         return value
 
     def texts(self, told: dict[str, Any], key: str, where: str) -> list[str]:
@@ -129,7 +140,8 @@ class _Reading:
     def table(self, told: dict[str, Any], key: str, where: str) -> dict[str, Any]:
         value = told.get(key)
         if not isinstance(value, dict) or not value:
-            raise Fault(f"{self.file}: {where} has no table {key}")
+            example = ": begin it by a line [process.NAME]" if key == "process" else ""
+            raise Fault(f"{self.file}: {where} has no table {key}{example}")
         return value
 
     def nothing_else(self, told: dict[str, Any], keys: tuple[str, ...], where: str) -> None:

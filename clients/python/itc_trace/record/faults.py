@@ -2,8 +2,12 @@
 
 from __future__ import annotations
 
+import contextlib
 import re
 import socket
+import sys
+import threading
+from collections.abc import Iterator
 
 from .collector import HOST
 from ..session import LONGEST_ANSWER, Refused, Session
@@ -15,6 +19,9 @@ TASK_EXISTS, NO_TENANT, DESK_TAKEN, NO_PLACE = 402, 420, 421, 422
 FULL = (413, 414, 415)
 REPLY = re.compile(r"\d{3}( |$)")
 MOST_SHOWN = 40
+SILENT_SECONDS = 5.0
+NO_ROOM = "all its sessions may be taken: start it with more --workers, or end a program that reports or asks"
+WAITS = f"waits for the collector at port {{port}}: {NO_ROOM}"
 
 
 class Fault(ConnectionError):
@@ -63,17 +70,57 @@ def _advice(code: int, tenant: str, port: int) -> str:
 
 def look_for_collector(port: int, host: str = HOST) -> None:
     """Makes sure that somebody listens at the port."""
-    try:
-        socket.create_connection((host, port)).close()
-    except ConnectionRefusedError as refused:
-        raise Fault(nobody_listens(port)) from refused
+    with _reached(port, host):
+        socket.create_connection((host, port), LONGEST_ANSWER).close()
 
 
 def look(tenant: str, port: int, host: str = HOST) -> None:
     """Makes sure that the collector has this tenant, before anything is run."""
     try:
-        Session(tenant, port, "view", host, LONGEST_ANSWER).close()
-    except ConnectionRefusedError as refused:
-        raise Fault(nobody_listens(port)) from refused
+        with _reached(port, host), told_if_it_takes_long(WAITS.format(port=port)):
+            Session(tenant, port, "view", host, LONGEST_ANSWER).close()
     except Refused as refused:
         raise Fault(refusal(refused.reply, tenant, port)) from refused
+
+
+@contextlib.contextmanager
+def _reached(port: int, host: str) -> Iterator[None]:
+    """Says in words why a collector cannot be reached."""
+    try:
+        yield
+    except ConnectionRefusedError as refused:
+        raise Fault(nobody_listens(port)) from refused
+    except socket.gaierror as unknown:
+        raise Fault(f"there is no host {host}: name one by --host, or its address") from unknown
+    except TimeoutError as late:
+        raise Fault(f"the collector at port {port} of {host} does not answer: {NO_ROOM}") from late
+    except ConnectionError as ended:
+        advice = "name the port of a collector that runs"
+        raise Fault(f"what listens at port {port} ended the connection: {advice}") from ended
+    except OSError as fault:
+        raise Fault(f"port {port} of {host} cannot be reached: {fault.strerror or fault}") from fault
+
+
+@contextlib.contextmanager
+def told_if_it_takes_long(what: str) -> Iterator[None]:
+    """Says on standard error what is waited for, once it has taken some seconds."""
+    timer = threading.Timer(SILENT_SECONDS, _tell, (what,))
+    timer.daemon = True
+    timer.start()
+    try:
+        yield
+    finally:
+        timer.cancel()
+
+
+def _tell(what: str) -> None:
+    if sys.__stderr__ is not None:
+        with contextlib.suppress(OSError, ValueError):
+            print(f"itc_trace: {what}", file=sys.__stderr__, flush=True)
+
+
+def in_words(fault: Exception) -> str:
+    """What a fault says to a person: of a file, which one, and not the number of the error."""
+    if isinstance(fault, OSError) and fault.strerror and not isinstance(fault, Fault):
+        return f"{fault.filename}: {fault.strerror}" if fault.filename is not None else fault.strerror
+    return str(fault)

@@ -1,0 +1,135 @@
+"""The options of the commands, from which their help, their manual and their completions are made, too."""
+
+from __future__ import annotations
+
+from ..record.collector import HOST
+from ..record.dividing import LEAVE
+from ..record.environment import OWN_TENANT
+from .parser import MOST_PORT, Parser, file, name, number, port, tenant
+from .run import MOST_SEED
+from .table import COMMANDS
+
+NEW_SEED = -1
+MOST_RUNS = 10_000
+LEAST_PART = 100
+
+
+def parser(called: str) -> Parser:
+    """The parser of the commands of the package, by the name that the command line is called by."""
+    made = Parser(prog=called, description=f"The commands: `{called} run|system|races|relay|snapshot ..`.")
+    commands = made.add_subparsers(dest="command", required=True, parser_class=Parser)
+    for command, add in ADDING.items():
+        made.commands[command] = commands.add_parser(command, help=COMMANDS[command])
+        add(made.commands[command])
+    return made
+
+
+def _add_system(parser: Parser) -> None:
+    parser.add_argument("file", type=file, metavar="FILE", help="the TOML file that describes them")
+    _add_file(parser, "--export", "keep the trace there, and its journal beside it")
+    _add_file(parser, "--picture", "draw the trace there")
+    _add_status_file(parser)
+    _add_fail_on(parser)
+    _add_looking(parser)
+
+
+def _add_races(parser: Parser) -> None:
+    parser.usage = "%(prog)s [OPTIONS] EXPORT|--port PORT TENANT JOURNAL.."
+    _add_port(parser, is_required=False)
+    _add_fail_on(parser)
+    _add_looking(parser)
+    parser.add_argument("trace", type=file, metavar="EXPORT|TENANT",
+                        help="an export, or with --port a tenant of the collector there")
+    _add_file(parser, "--picture", "draw the trace there, with its races")
+    parser.add_argument("journal", type=file, nargs="*", metavar="JOURNAL",
+                        help="the journal of each process; EXPORT.journal, if none is named; "
+                             "that of a run in parts may be EXPORT")
+
+
+def _add_relay(parser: Parser) -> None:
+    parser.add_argument("--listen", type=_listened_at, required=True, metavar="PORT",
+                        help="the port that the processes report to")
+    _add_port(parser)
+
+
+def _add_snapshot(parser: Parser) -> None:
+    _add_port(parser)
+    parser.add_argument("tenant", type=tenant, metavar="TENANT", help="the tenant whose trace is written")
+
+
+def _add_file(parser: Parser, option: str, told: str) -> None:
+    parser.add_argument(option, type=file, metavar="FILE", help=told)
+
+
+def _add_port(parser: Parser, is_required: bool = True) -> None:
+    parser.add_argument("--port", type=port, required=is_required, metavar="PORT", help="the port of the collector")
+    _add_host(parser)
+
+
+def _add_host(parser: Parser) -> None:
+    parser.add_argument("--host", type=name, metavar="HOST", help=f"where the collector is reached ({HOST})")
+
+
+def _add_fail_on(parser: Parser) -> None:
+    parser.add_argument("--fail-on", choices=("race", "possible"), default="race",
+                        help="end with 66 where there is a race, or where one is possible (race)")
+
+
+def _add_status_file(parser: Parser) -> None:
+    _add_file(parser, "--status-file", "write the verdict and the program's own status there, apart")
+
+
+def _add_looking(parser: Parser) -> None:
+    parser.add_argument("--strict", action="store_true", help="two tasks of one loop race as two threads do")
+    parser.add_argument("--benign", type=file, metavar="FILE", action="append", default=[],
+                        help="races that are meant: a thing and places a line")
+    _add_file(parser, "--baseline", "races that are known: fail on others only")
+    _add_file(parser, "--write-baseline", "write the races that were found there, for --baseline")
+
+
+def _add_run(parser: Parser) -> None:
+    parser.add_argument("--port", type=port, metavar="PORT",
+                        help="report to the collector at this port, and start none")
+    _add_host(parser)
+    parser.add_argument("--tenant", type=tenant, default=OWN_TENANT, help=f"the tenant to report for ({OWN_TENANT})")
+    parser.add_argument("--process", type=name, help="the name of this process among others that report for the tenant")
+    _add_file(parser, "--export", "keep the trace there, and its journal beside it")
+    _add_file(parser, "--journal", "keep the journal there")
+    _add_file(parser, "--picture", "draw the trace there")
+    _add_status_file(parser)
+    _add_fail_on(parser)
+    _add_looking(parser)
+    parser.add_argument("--runs", type=_runs, default=1, metavar="N",
+                        help="run the program N times, all but the first shaken")
+    shaking = parser.add_mutually_exclusive_group()
+    shaking.add_argument("--shake", type=_seed, nargs="?", const=NEW_SEED, metavar="SEED",
+                         help="perturb the schedule of each run; --shake=SEED as this seed did")
+    shaking.add_argument("--no-shake", action="store_true", help="leave the schedule of each run as it is")
+    parser.add_argument("--part-events", type=_part_events, default=LEAVE.events, metavar="N",
+                        help=f"begin a new part of the trace after N events ({LEAVE.events})")
+    parser.add_argument("--quiet", action="store_true", help="write nothing where there is no race")
+    watching = parser.add_mutually_exclusive_group()
+    watching.add_argument("--watch", type=name, metavar="PACKAGE", action="append",
+                          help="watch an installed package, too")
+    watching.add_argument("--watch-nothing", action="store_true", help="note only what is shared or touched by hand")
+    parser.usage = "%(prog)s [OPTIONS] PROGRAM|-m MODULE [ARGS..]"
+
+
+def _listened_at(word: str) -> int:
+    return number(word, 0, MOST_PORT)
+
+
+def _runs(word: str) -> int:
+    return number(word, 1, MOST_RUNS)
+
+
+def _part_events(word: str) -> int:
+    return number(word, LEAST_PART, LEAVE.events)
+
+
+def _seed(word: str) -> int:
+    return number(word, 0, MOST_SEED - 1)
+
+
+ADDING = {"run": _add_run, "system": _add_system, "races": _add_races, "relay": _add_relay, "snapshot": _add_snapshot}
+"""What adds the words of each command."""
