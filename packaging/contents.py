@@ -14,7 +14,7 @@ PACKAGE = "itc_trace"
 PROGRAM = TOP / "release" / "itc_trace"
 SUMMARY = "Finds the races of programs by the order of their events"
 MAINTAINER = "Hometturi maintainers <maintainers@users.noreply.hometturi.example>"
-ENTRY = "itc_trace.command:main"
+ENTRY = "itc_trace.cli.command:main"
 
 
 class File(NamedTuple):
@@ -44,7 +44,6 @@ def files() -> Iterator[File]:
     for path in sorted(source.rglob("*")):
         if path.suffix in (".py", ".c") or path.name == "py.typed":
             yield File(f"{PACKAGE}/{path.relative_to(source)}", path.read_bytes())
-    yield File(f"{PACKAGE}/command.py", (TOP / "packaging" / "command.py").read_bytes())
     yield File(f"{PACKAGE}/itc_trace", released_program(), is_command=True)
     yield File(f"{PACKAGE}/picture", (TOP / "picture").read_bytes(), is_command=True)
     yield File(f"{PACKAGE}/browser/picture.html", (TOP / "browser" / "picture.html").read_bytes())

@@ -18,7 +18,7 @@ from contents import MAINTAINER, SUMMARY, TOP, files, glibc, released_program, v
 from words import of_the_command, of_the_program
 
 MODULES = "usr/lib/python3/dist-packages"
-COMMAND = "#!/usr/bin/python3\nimport sys\n\nfrom itc_trace.command import main\n\nsys.exit(main())\n"
+COMMAND = "#!/usr/bin/python3\nimport sys\n\nfrom itc_trace.cli.command import main\n\nsys.exit(main())\n"
 DATE = "315532800"
 
 

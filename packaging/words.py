@@ -15,7 +15,7 @@ from typing import NamedTuple
 from contents import PROGRAM, TOP
 
 sys.path.insert(0, str(TOP / "clients" / "python"))
-from itc_trace.cli import table
+from itc_trace.cli import program, table
 from itc_trace.cli.commands import parser
 
 COMMAND = re.compile(r"^  (\w+) +(\S.*)$", re.M)
@@ -74,9 +74,9 @@ def of_the_program() -> CommandLine:
 def of_the_command() -> CommandLine:
     """The command line of the package, which has the program's commands, too."""
     own = _parsers()
-    told = {one.name: one for one in commands()}
+    of_program = {one.name for one in commands()}
     listed = [
-        _of_parser(name, text, own[name]) if name in own else told[name]._replace(text=text) if name in told else _of_picture(name, text)
+        _of_parser(name, text, own[name]) if name in own else _of_program(name, text) if name in of_program else _of_picture(name, text)
         for name, text in table.COMMANDS.items()
     ]
     general = [Option("-h", "--help", "", "Print help"), Option("-V", "--version", "", "Print version")]
@@ -86,6 +86,11 @@ def of_the_command() -> CommandLine:
 def _parsers() -> dict[str, argparse.ArgumentParser]:
     chosen = next(one for one in parser("itc-trace")._actions if isinstance(one, argparse._SubParsersAction))
     return dict(chosen.choices)
+
+
+def _of_program(name: str, text: str) -> Command:
+    told = program.help_of(str(PROGRAM), name)
+    return Command(name, text, options(told), told)
 
 
 def _of_parser(name: str, text: str, parser: argparse.ArgumentParser) -> Command:
@@ -100,7 +105,7 @@ def _of_action(action: argparse.Action) -> Option:
 
 
 def _of_picture(name: str, text: str) -> Command:
-    environment = {**os.environ, "COLUMNS": "100"}
+    environment = {**os.environ, "COLUMNS": "100", "ITC_TRACE_PICTURE_NAME": f"itc-trace {name}"}
     told = subprocess.run([sys.executable, TOP / name, "--help"], capture_output=True, text=True, check=True, env=environment).stdout
     found = re.findall(r"(?m)^  (?:(-\w), )?(--[\w-]+)(?: ([A-Z]+))?  +(\S.*)$", told)
     return Command(name, text, [Option(*one) for one in found], told)

@@ -11,8 +11,8 @@ COMMANDS = {
     "relay": "let many processes report to one tenant",
     "serve": "take the reports of programs, and answer which events are in order",
     "replay": "take the lines of a trace on standard input",
-    "check": "say whether standard input is an export",
-    "load": "serve the trace of an export on standard input",
+    "check": "say whether a file, or standard input, is an export",
+    "load": "write the requests that make an export, of a file or standard input",
 }
 OPTIONS = ("--help", "-h", "--version", "-V", "help")
 
