@@ -45,6 +45,14 @@ class Checks(unittest.TestCase):
         self.assertEqual((status, lines[-1]), (0, "7 passed, 0 failed"), lines)
         self.assertIn(SKIPPED, lines)
 
+    def test_the_packages_that_would_run_what_was_skipped_are_told_in_one_line(self) -> None:
+        further = "skipped: the completion of fish: there is no fish here"
+        named = "skipped: clients: there is no pyflakes3 here: apt-get install -y pyflakes3"
+        _, lines = told_of(SKIPPED, further, named, further, "clients: 7 passed", whole=False)
+        self.assertEqual(lines[-3], "to run what was skipped: apt-get install -y golang-go fish pyflakes3")
+        _, lines = told_of("clients: 7 passed", whole=False)
+        self.assertFalse([line for line in lines if "apt-get" in line])
+
 
 if __name__ == "__main__":
     unittest.main()

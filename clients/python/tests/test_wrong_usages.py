@@ -2,30 +2,19 @@
 
 from __future__ import annotations
 
-import http.server
 import json
 import os
 import subprocess
 import sys
 import tempfile
-import threading
 import unittest
 from pathlib import Path
 
-from itc_trace.cli.commands import OPTIONS_OF_RUN, parser
+from itc_trace.record.collector import find_program
 
-from .support import PACKAGE, kept_port, run_python
+from .support import PACKAGE, run_python
+from .usages_files import ports, write_files, write_trace
 
-RACING = """import threading
-stock = {"left": 2}
-def sell():
-    stock["left"] -= 1
-threads = [threading.Thread(target=sell) for _ in range(2)]
-for thread in threads:
-    thread.start()
-for thread in threads:
-    thread.join()
-"""
 BY_SOCKET = """import socket, threading
 stock = {"left": 2}
 ours, theirs = socket.socketpair()
@@ -51,163 +40,58 @@ for _ in range(20):
         thread.join()
 """
 PICTURE = PACKAGE.parent.parent / "picture"
-EXPORT = (
-    '{"events":4096,"messages":2048,"tasks":512,"tenant":"x","version":2}\n'
-    '{"event":1,"kind":"local","name":"-","preds":[],"stamp":"[1;1]","task":"root"}\n'
-)
-
-USAGES: list[tuple[str, int, str]] = [
-    ("run", 2, "run wants a program"),
-    ("run -m", 2, "run wants a program"),
-    ("run nope.py", 2, "there is no program nope.py"),
-    ("run folder", 2, "there is no __main__ in folder"),
-    ("run -m nope", 2, "there is no module nope"),
-    ("run random", 2, "random cannot be run"),
-    ("run --port x shop.py", 2, "invalid int value: 'x'"),
-    ("run --port FREE shop.py", 2, "nobody listens at port"),
-    ("run --port HTTP shop.py", 2, "is no collector, as it answers '<!DOCTYPE HTML>'"),
-    ("run --runs 0 shop.py", 2, "0 is no number from 1 to 10000"),
-    ("run --runs x shop.py", 2, "x is no number from 1 to 10000"),
-    ("run --shake=x shop.py", 2, "x is no number from 0"),
-    ("run --part-events 1 shop.py", 2, "1 is no number from 100"),
-    ("run --fail-on never shop.py", 2, "invalid choice: 'never'"),
-    ("run --nope shop.py", 2, "unrecognized arguments"),
-    ("run --export", 2, "expected one argument"),
-    ("run --export /nope/x shop.py", 2, "/nope/x cannot be written"),
-    ("run --picture folder shop.py", 2, "folder cannot be written"),
-    ("run --journal /dev/full shop.py", 2, "/dev/full cannot be written"),
-    ("run --status-file /nope/x shop.py", 2, "/nope/x cannot be written"),
-    ("run --benign nope shop.py", 2, "nope cannot be read"),
-    ("run --benign garbage shop.py", 2, "garbage:1: garbage is no place"),
-    ("run --benign random shop.py", 2, "random cannot be read: it is no text"),
-    ("run --benign folder shop.py", 2, "folder cannot be read"),
-    ("system", 2, "the following arguments are required: file"),
-    ("system nope.toml", 2, "nope.toml cannot be read"),
-    ("system folder", 2, "folder cannot be read"),
-    ("system random", 2, "random is no TOML"),
-    ("system shop.py", 2, "shop.py is no TOML"),
-    ("system empty", 2, "the file has no table process"),
-    ("system --export /nope/x system.toml", 2, "/nope/x cannot be written"),
-    ("races", 2, "the following arguments are required"),
-    ("races nope", 2, "races wants the journal"),
-    ("races nope empty", 2, "nope"),
-    ("races g.export random", 2, "random is no journal"),
-    ("races g.export shop.py", 2, "shop.py is no journal"),
-    ("races --port FREE trace empty", 2, "nobody listens at port"),
-    ("races --port HTTP trace empty", 2, "is no collector"),
-    ("snapshot", 2, "the following arguments are required"),
-    ("snapshot --port FREE trace", 2, "nobody listens at port"),
-    ("snapshot --port HTTP trace", 2, "is no collector"),
-    ("relay", 2, "the following arguments are required"),
-    ("relay --listen x --port 1", 2, "invalid int value: 'x'"),
-    ("relay --listen 0 --port FREE", 2, "nobody listens at port"),
-    ("nope", 2, "invalid choice: 'nope'"),
-    ("", 2, "the following arguments are required: command"),
-]
-"""What is typed, the status, and words of what is answered. FREE is a port where nobody listens, HTTP one of a server of another kind."""
-
-DRAWINGS: list[tuple[str, int, str]] = [
-    ("nope", 2, "picture: nope cannot be read: No such file or directory"),
-    ("folder", 2, "picture: folder cannot be read: Is a directory"),
-    ("empty", 2, "picture: empty is empty"),
-    ("</dev/null", 2, "picture: standard input is empty"),
-    ("<&-", 2, "picture: standard input is closed"),
-    ("random", 2, "picture: no export: line 1, reason 1"),
-    ("--labels nope g.export", 2, "picture: nope cannot be read"),
-    ("--labels random g.export", 2, "picture: random: line 1 is no line of a journal"),
-    ("--labels shop.py g.export", 2, "picture: shop.py: line 1 is no line of a journal"),
-    ("--labels word g.export", 2, "picture: word: line 1 breaks off"),
-    ("--races random g.export", 2, "picture: random: line 1 is no line of a list of races"),
-    ("--races empty g.export", 2, "picture: empty is empty: it is no list of races"),
-    ("--races folder g.export", 2, "picture: folder cannot be read"),
-    ("--parts word g.export", 2, "picture: --parts lists the exports: name no other"),
-    ("--parts word --labels word", 2, "picture: --labels is of one export"),
-    ("--parts empty", 2, "picture: empty is empty: it lists no parts"),
-    ("g.export >/dev/full", 3, "picture: the page cannot be written: No space left on device"),
-    ("g.export >&-", 3, "picture: the page cannot be written: standard output is closed"),
-    ("--nope", 2, "unrecognized arguments: --nope"),
-    ("--labels", 2, "expected one argument"),
-]
+TABLES = sorted((PACKAGE / "tests" / "usages").glob("*.txt"))
+"""For each command what is typed, with the status and the first line of what is said."""
 
 
-EACH = """
-import json, os, sys, tempfile
-from itc_trace.cli import commands
-
-def answer(words):
-    with tempfile.TemporaryFile() as output, tempfile.TemporaryFile() as error:
-        child = os.fork()
-        if child == 0:
-            os.dup2(output.fileno(), 1)
-            os.dup2(error.fileno(), 2)
-            sys.argv = ["itc_trace", *words]
-            try:
-                status = commands.main()
-            except SystemExit as fault:
-                status = fault.code
-            except BaseException:
-                import traceback
-                traceback.print_exc()
-                status = 1
-            sys.stdout.flush()
-            sys.stderr.flush()
-            os._exit(status)
-        status = os.waitstatus_to_exitcode(os.waitpid(child, 0)[1])
-        said = []
-        for file in (output, error):
-            file.seek(0)
-            said.append(file.read().decode())
-        return status, *said
-
-os.chdir(sys.argv[1])
-print(json.dumps([answer(words) for words in json.loads(sys.argv[2])]))
-"""
-"""Runs each command in a process that has imported the package already, and tells its status and what it wrote."""
+def answers(typed: list[str], folder: Path) -> list[str]:
+    """A line of a table for each usage: the status, the usage and the first line that is said."""
+    with ports() as places:
+        command = [sys.executable, str(PACKAGE / "tests" / "answers.py"), json.dumps(places)]
+        ran = subprocess.run(command, input="".join(f"{usage}\n" for usage in typed), capture_output=True, text=True, cwd=folder, check=True,
+                             env={**os.environ, "PYTHONPATH": str(PACKAGE), "ITC_TRACE": find_program()}, timeout=3000)
+        told = [json.loads(line) for line in ran.stdout.splitlines()]
+    places["FOLDER"] = str(folder)
+    return [f"{status} | {usage} | {_first_line(error or output, places)}" for usage, (status, output, error) in zip(typed, told, strict=True)]
 
 
-class _Quiet(http.server.BaseHTTPRequestHandler):
-    def log_message(self, *_: object) -> None:
-        pass
+def _first_line(said: str, places: dict[str, str]) -> str:
+    line = (said.splitlines() or [""])[-1 if "Traceback" in said else 0]
+    for word, place in (*places.items(), ("PROGRAM", find_program())):
+        line = line.replace(place, word)
+    return line
+
+
+def usages_of(table: Path) -> list[str]:
+    return [line.split(" | ")[1] for line in table.read_text().splitlines()]
 
 
 class Usages(unittest.TestCase):
+    maxDiff = None
+
     def setUp(self) -> None:
         self.folder = Path(self.enterContext(tempfile.TemporaryDirectory()))
-        (self.folder / "folder").mkdir()
-        for name, text in (("shop.py", RACING), ("empty", ""), ("garbage", "][ garbage :::\n"), ("g.export", EXPORT), ("word", "labels"),
-                           ("system.toml", '[process.a]\ncommand = ["true"]\ntraced = false\n')):
-            (self.folder / name).write_text(text)
-        (self.folder / "random").write_bytes(bytes(range(255, 0, -1)) * 4)
+        write_files(self.folder)
 
     def run_here(self, *words: str) -> "subprocess.CompletedProcess[str]":
         environment = {**os.environ, "PYTHONPATH": str(PACKAGE)}
         command = [sys.executable, "-m", "itc_trace", *words]
         return subprocess.run(command, capture_output=True, text=True, env=environment, cwd=self.folder, timeout=600, check=False)
 
-    def test_each_is_answered_in_words(self) -> None:
-        server = http.server.HTTPServer(("127.0.0.1", 0), _Quiet)
-        threading.Thread(target=server.serve_forever, daemon=True).start()
-        self.addCleanup(server.server_close)
-        self.addCleanup(server.shutdown)
-        ports = {"FREE": str(self.enterContext(kept_port())), "HTTP": str(server.server_address[1])}
-        asked = [[ports.get(word, word) for word in typed.split()] for typed, _, _ in USAGES]
-        ran = run_python("-c", EACH, str(self.folder), json.dumps(asked))
-        self.assertEqual(ran.returncode, 0, ran.stderr)
-        answers = json.loads(ran.stdout)
-        self.assertEqual(len(answers), len(USAGES))
-        for (typed, status, told), (ended, output, error) in zip(USAGES, answers, strict=True):
-            with self.subTest(typed=typed):
-                self.assertEqual((ended, output), (status, ""), error)
-                self.assertIn(told, error.splitlines()[-1])
-                self.assertNotIn("Traceback", error)
+    def test_each_is_answered_as_the_tables_say(self) -> None:
+        write_trace(self.folder)
+        for table in TABLES:
+            due = table.read_text().splitlines()
+            with self.subTest(command=table.stem):
+                self.assertEqual(answers(usages_of(table), self.folder), due)
 
-    def test_each_of_the_picture_is_answered_in_words(self) -> None:
-        for typed, status, told in DRAWINGS:
-            with self.subTest(typed=typed):
-                words = f"'{sys.executable}' '{PICTURE}' {typed}"
-                ran = subprocess.run(["sh", "-c", words], capture_output=True, text=True, cwd=self.folder, timeout=600, check=False)
-                self.assertEqual((ran.returncode, ran.stdout), (status, ""), ran.stderr)
-                self.assertIn(told, ran.stderr.splitlines()[-1])
+    def test_no_answer_is_a_traceback_or_nothing(self) -> None:
+        for table in TABLES:
+            for line in table.read_text().splitlines():
+                status, usage, said = line.split(" | ", 2)
+                self.assertNotRegex(said, r"\A\w*(Error|Exception)\b", usage)
+                self.assertIn(status, ("0", "1", "2", "3", "66", "67"), usage)
+                self.assertTrue(said or "2>" in usage or status == "0", usage)
 
     def test_a_picture_of_a_file_is_that_of_its_content(self) -> None:
         by_file, by_input = (
@@ -216,10 +100,6 @@ class Usages(unittest.TestCase):
         )
         self.assertEqual(by_file, by_input)
         self.assertTrue(by_file.startswith(b"<!"))
-
-    def test_the_options_of_run_are_known(self) -> None:
-        told = set(parser("x")._subparsers._group_actions[0].choices["run"]._option_string_actions)  # type: ignore[union-attr, index, call-overload]
-        self.assertEqual({f"--{one}" for one in OPTIONS_OF_RUN}, {one for one in told if one.startswith("--")} - {"--help"})
 
     def test_an_option_behind_the_program_is_told(self) -> None:
         told = "itc_trace: shop.py gets --picture: put it before shop.py if it is for run, or put -- before the program\n"
@@ -301,5 +181,18 @@ class Usages(unittest.TestCase):
         self.assertEqual((first, second), ("itc_trace: compiles the hooks of watched modules, once for this Python: it takes some seconds\n", ""))
 
 
+def write_tables(named: list[str]) -> None:
+    """Writes what is said now: to be read, line by line, before it is kept."""
+    with tempfile.TemporaryDirectory() as name:
+        write_files(Path(name))
+        write_trace(Path(name))
+        for table in [one for one in TABLES if one.stem in named or not named]:
+            typed = [line.split(" | ")[1] if " | " in line else line for line in table.read_text().splitlines()]
+            table.write_text("".join(f"{line}\n" for line in answers(typed, Path(name))))
+
+
 if __name__ == "__main__":
-    unittest.main()
+    if sys.argv[1:2] == ["--write"]:
+        write_tables(sys.argv[2:])
+    else:
+        unittest.main()
