@@ -1,8 +1,10 @@
 // The checks of what a page shows first: the race, its reason, both touches and what came before; or that there is none.
 import assert from "node:assert/strict";
-import { exportOf, file, pictureOf } from "./program.mjs";
+import { readFileSync } from "node:fs";
+import { join } from "node:path";
+import { exportOf, file, pictureOf, TOP } from "./program.mjs";
 import { race, rows, side } from "./racing.mjs";
-import { opened, press, shown, text } from "./tab.mjs";
+import { opened, placeOf, press, shown, text } from "./tab.mjs";
 import { LOST_UPDATE } from "./traces.mjs";
 
 const head = (races, unseen = []) => ({ races, possible: 0, unseen });
@@ -106,6 +108,25 @@ export async function firstRace(tab) {
   assert.deepEqual([await text(tab, "#title"), await tab.run(() => document.getElementById("races").hidden), await tab.run(isWhole)], ["Trace of x", true, true]);
 }
 
+const SIZES = [[1280, 800], [900, 600]];
+
+/** Neither the map nor the line that tells how to move lies over an event of the race, whatever the size of the window. */
+export async function uncovered(tab) {
+  const path = join(TOP, "browser/checks/stored/day"), words = ["--labels", `${path}.journal`, "--races", `${path}.races`];
+  const drawn = pictureOf("uncovered.html", readFileSync(`${path}.export`), words);
+  for (const [width, height] of SIZES) {
+    await tab.send("Emulation.setDeviceMetricsOverride", { width, height, deviceScaleFactor: 1, mobile: false });
+    await opened(tab, drawn);
+    assert.deepEqual(await tab.run(inView), { all: true, isNear: true, folds: [], race: true, own: true });
+    assert.deepEqual(await tab.run(() => ["map", "hint"].map((id) => document.getElementById(id).hidden)), [false, false]);
+    for (const event of await tab.run(() => [page.view.chosen, page.view.other])) {
+      const over = await tab.run((x, y) => document.elementFromPoint(x, y)?.closest("#map, #hint, #legend")?.id ?? "", ...await placeOf(tab, event));
+      assert.equal(over, "", `event ${event} at ${width} by ${height}`);
+    }
+  }
+  await tab.send("Emulation.setDeviceMetricsOverride", { width: SIZES[0][0], height: SIZES[0][1], deviceScaleFactor: 1, mobile: false });
+}
+
 const ROW = { thing: null, file: null, line: 0 };
 const TOUCHES = [{ ...ROW, event: 4, task: "alice", thing: "#1", name: "stock", kind: "lookup", file: "shop.py", line: 6, label: "lookup stock" },
   { ...ROW, event: 4, task: "alice", thing: "#1", name: "stock", kind: "making", file: "shop.py", line: 6, label: "making stock" },
@@ -125,6 +146,9 @@ export async function words(tab) {
   assert.deepEqual(await told(), [["", true, true], ["read stock['left'] +2", false, false], ["", true, true], ["replace an entry of stock", false, false]]);
   assert.deepEqual(await tab.run(() => page.eventTip(4)), ["look up in stock, shop.py:6", "make stock, shop.py:6", "read stock['left'], shop.py:6", "Event 4, alice: local"]);
   const lock = { ...ROW, event: 4, task: "root", kind: "send", label: "run loop" };
+  const path = { ...ROW, event: 4, task: "root", kind: "send", label: "release lock (/home/somebody/shop.py:13)" };
+  await opened(tab, pictureOf("path.html", exportOf(["spawn root a", "local root", "local a", "send root m1"]), ["--labels", file("path.journal", rows([path]))]));
+  assert.deepEqual(await tab.run(() => [page.view.wordsOfMessages.get("m1"), page.labelInPicture(4)]), ["release lock (shop.py:13)", "release lock (shop.py:13)"]);
   await opened(tab, pictureOf("loop.html", exportOf(["spawn root a", "spawn root ended_tasks_1", "local a", "send root m1", "send root m2"]),
     ["--labels", file("loop.journal", rows([lock, { ...lock, event: 5, label: "send GET /stock" }]))]));
   const lists = await tab.run(() => ["unread", "open"].map((id) => document.querySelector(`#${id} summary`).textContent));

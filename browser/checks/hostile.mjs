@@ -13,7 +13,7 @@ const row = (event, more = {}) =>
   ({ event, task: MARKUP, thing: MARKUP, kind: MARKUP, file: MARKUP, line: HUGE, label: MARKUP, name: MARKUP, ...more });
 
 /** The seconds of the processor that the page takes, which other work beside does not count. */
-async function processorSeconds(tab, act) {
+export async function processorSeconds(tab, act) {
   await tab.send("Performance.enable", { timeDomain: "threadTicks" });
   const used = async () => (await tab.send("Performance.getMetrics")).metrics.find(({ name }) => name === "ProcessTime").value;
   const begin = await used();
@@ -56,6 +56,39 @@ async function oddRows(tab) {
     return [words.every((isTold) => isTold), page.svg().startsWith("<svg")];
   });
   assert.deepEqual(told, [true, true]);
+  await nothingRan(tab);
+}
+
+// Each turns around what stands behind it, shows nothing, or would end a line or a text of a shell.
+const UNSEEN = ["\u202e", "\u2066", "\u200f", "\u200b", "\ufeff", "\u0000", "\u0007", "\u001b", "\u007f", "\u009b", "\u2028"];
+const ARABIC = "\u0645\u062e\u0632\u0646", MEBIBYTE = 2 ** 20;
+
+/** A character that nobody sees is seen, wherever a text comes from. Text that is written from right to left stays as it is. A name of a
+ * mebibyte is clipped in the picture, and the panel stays as wide as it is. */
+async function oddTexts(tab) {
+  const odd = `${ARABIC}${UNSEEN.join("x")}.py`, long = "long ".repeat(MEBIBYTE / 5), seen = odd.replace(/[^x.py\u0600-\u06ff]/g, "\ufffd");
+  const line = { event: 4, task: odd, thing: odd, kind: "read", file: odd, line: 6, label: `read ${odd}`, name: odd };
+  const touch = (event) => ({ ...side(event, odd, "read", 11), file: odd, function: odd, text: [odd, long] });
+  const list = rows([race(odd, [touch(4), touch(7)], { made: odd, why: odd }), race(long, [touch(4), touch(7)], { made: long, why: long })]);
+  await opened(tab, pageOf("odd_texts.html", exportOf(LOST_UPDATE), { labels: rows([line, { ...line, event: 5, label: long, file: long }]),
+    carriedRaces: list, carriedAbout: JSON.stringify({ program: odd }) }));
+  const told = await tab.run(() => {
+    const drawn = [], { context } = page.view;
+    context.fillText = (words) => drawn.push(words);
+    page.view.draw();
+    delete context.fillText;
+    return { text: `${document.body.innerText}${document.title}${drawn.join()}${page.svg()}`, longest: Math.max(...drawn.map(({ length }) => length)),
+      tip: page.eventTip(4).join() };
+  });
+  for (const one of UNSEEN) assert.ok(!`${told.text}${told.tip}`.includes(one), `U+${one.codePointAt(0).toString(16)}`);
+  assert.ok(told.text.includes(seen) && told.tip.includes(seen), told.tip);
+  assert.ok(told.longest < 200, `a text of ${told.longest} letters is drawn`);
+  await tab.key("n");
+  const width = await tab.run(() => {
+    page.view.draw();
+    return [document.documentElement.scrollWidth, window.innerWidth, document.getElementById("panel").scrollWidth, document.getElementById("panel").clientWidth];
+  });
+  assert.ok(width[0] <= width[1] && width[2] <= width[3], `${width}`);
   await nothingRan(tab);
 }
 
@@ -119,6 +152,7 @@ async function emptyFiles(tab) {
 
 export async function hostileFiles(tab) {
   await oddRows(tab);
+  await oddTexts(tab);
   const told = [await manyRows(tab), await manyClocks(tab)];
   await manyRaces(tab);
   await emptyFiles(tab);

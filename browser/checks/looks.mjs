@@ -38,6 +38,37 @@ const colours = (tab) => tab.run(() => {
     marks: [...named("border", "focus"), ...COLOURS.map((colour, place) => [`standing ${place}`, numbers(colour)]), ["race", numbers(palette.race)]] };
 });
 
+// What people see who lack one kind of cone, as Machado, Oliveira and Fernandes have it (2009), by linear red, green and blue.
+const SIGHTS = { all: [[1, 0, 0], [0, 1, 0], [0, 0, 1]],
+  "no long ones": [[0.152286, 1.052583, -0.204868], [0.114503, 0.786281, 0.099216], [-0.003882, -0.048116, 1.051998]],
+  "no middle ones": [[0.367322, 0.860646, -0.227968], [0.280085, 0.672501, 0.047413], [-0.01182, 0.04294, 0.968881]],
+  "no short ones": [[1.255528, -0.076749, -0.178779], [-0.078411, 0.930809, 0.147602], [0.004733, 0.691367, 0.3039]] };
+const LEAST_DIFFERENCE = 8;
+
+/** The colour as a point of CIELAB, as somebody with this sight sees it. */
+function seenAs(colour, sight) {
+  const light = [1, 3, 5].map((at) => Number.parseInt(colour.slice(at, at + 2), 16) / 255)
+    .map((value) => value <= 0.04045 ? value / 12.92 : ((value + 0.055) / 1.055) ** 2.4);
+  const [red, green, blue] = sight.map((row) => Math.min(1, Math.max(0, row.reduce((sum, part, at) => sum + part * light[at], 0))));
+  const root = (value) => value > 0.008856 ? Math.cbrt(value) : 7.787 * value + 16 / 116;
+  const x = root((0.4124 * red + 0.3576 * green + 0.1805 * blue) / 0.9505), y = root(0.2126 * red + 0.7152 * green + 0.0722 * blue);
+  const z = root((0.0193 * red + 0.1192 * green + 0.9505 * blue) / 1.089);
+  return [116 * y - 16, 500 * (x - y), 200 * (y - z)];
+}
+
+/** The colours of any two processes differ, in the light and in the dark, also for people who do not see all colours. */
+async function processColours(tab) {
+  for (const list of await tab.run(() => [LIGHT.processes, DARK.processes])) {
+    for (const [name, sight] of Object.entries(SIGHTS)) {
+      const points = list.map((colour) => seenAs(colour, sight));
+      points.forEach((one, place) => points.slice(0, place).forEach((other, otherPlace) => {
+        const difference = Math.hypot(...one.map((value, at) => value - other[at]));
+        assert.ok(difference >= LEAST_DIFFERENCE, `${list[place]} and ${list[otherPlace]} differ by ${difference.toFixed(1)}: ${name}`);
+      }));
+    }
+  }
+}
+
 /** Light and dark, all that is written and drawn stands out, and the page follows when the system changes between them. */
 async function schemes(tab) {
   await opened(tab, inWork("busy.html"));
@@ -82,5 +113,6 @@ async function narrow(tab) {
 
 export async function looks(tab) {
   await schemes(tab);
+  await processColours(tab);
   await narrow(tab);
 }

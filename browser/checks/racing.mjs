@@ -35,7 +35,7 @@ export async function races(tab) {
   assert.deepEqual([await chosen(tab), await text(tab, "#reason")], ["Race on stock", "Nothing orders them."]);
   const sides = await tab.run(() => [...document.querySelectorAll("#sides button")].map((button) => button.textContent));
   assert.deepEqual(sides, ["alice reads shop.py:11 in buy: event\u00a04", "bob writes shop.py:12 in buy: event\u00a07"]);
-  assert.match(await text(tab, "#chosen"), /a Shop made at shop\.py:3; 3 times/);
+  assert.match(await text(tab, "#chosen"), /Seen 3 times, on a Shop made at shop\.py:3/);
   assert.equal(await tab.run(() => location.hash), "#event=4&other=7");
   const sources = await tab.run(() => [...document.querySelectorAll("#chosen figure")].map((figure) =>
     [figure.firstChild.textContent, figure.lastChild.textContent, figure.querySelector("strong").textContent]));

@@ -1,7 +1,9 @@
 // The greatest trace: how long it takes to open, and how long a step of scrolling or zooming takes.
 import assert from "node:assert/strict";
 import { readFileSync } from "node:fs";
+import { processorSeconds } from "./hostile.mjs";
 import { exportOf, file, lists, pictureOf } from "./program.mjs";
+import { shown } from "./tab.mjs";
 import { greatest, seeded, unjoined } from "./traces.mjs";
 
 const MOST_OPENING = 2000, MOST_OPENING_UNJOINED = 3000, MOST_STEP = 50;
@@ -118,4 +120,41 @@ async function pastIsRight(tab, reports) {
     assert.deepEqual(shown, past[place]);
     assert.ok(time < MOST_STEP, `choosing event ${event} took ${time} ms`);
   }
+}
+
+const FRAMES = 60, MOST_OF_FRAME = 1000 / 30, TURNS = 3;
+const ZOOMS = [["all of it", 1], ["a third", 3], ["a tenth", 10], ["near", 40]];
+
+/** Moves the picture in each of so many frames, and tells how many there were in a second. */
+const animate = async (frames) => {
+  const { canvas } = page.view, begin = performance.now();
+  for (let frame = 0; frame < frames; frame++) {
+    const back = frame % 20 < 10 ? 1 : -1, turn = { deltaX: 40 * back, deltaY: frame % 2 === 0 ? 5 * back : 0, ctrlKey: frame % 2 === 0 };
+    canvas.dispatchEvent(new WheelEvent("wheel", { ...turn, clientX: 400, clientY: 300, cancelable: true }));
+    await new Promise((resolve) => requestAnimationFrame(resolve));
+  }
+  return 1000 * frames / (performance.now() - begin);
+};
+
+/** The picture of 16384 events of 2047 tasks moves and zooms in frames that take the processor less than a thirtieth of a second each. How
+ * many there were in a second is told, but other work beside decides that, too. */
+export async function frames(tab) {
+  await shown(tab, pictureOf("frames.html", exportOf(greatest(seeded(3)))));
+  await tab.until(() => page.verdict !== null);
+  await tab.run(() => page.choose(8000));
+  const told = [];
+  for (const [words, factor] of ZOOMS) {
+    const times = [], rates = [];
+    await tab.run((zoom) => {
+      page.view.whole();
+      page.view.zoom(zoom);
+    }, factor);
+    for (let turn = 0; turn < TURNS && !(Math.min(...times) < MOST_OF_FRAME); turn++) {
+      times.push(1000 / FRAMES * await processorSeconds(tab, async () => rates.push(await tab.run(animate, FRAMES))));
+    }
+    const [time, rate] = [Math.min(...times), Math.max(...rates)];
+    told.push(`${words}: ${time.toFixed(1)} ms of the processor a frame, ${rate.toFixed(0)} frames a second`);
+    assert.ok(time < MOST_OF_FRAME, told.at(-1));
+  }
+  return told.join("; ");
 }

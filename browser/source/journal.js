@@ -1,9 +1,14 @@
 // Reading a journal
 
-/** The object of JSON that the line is, or null. */
+// Control characters, and those that show nothing or turn what stands behind them around, as text from right to left does by itself.
+const UNSEEN = /[\u0000-\u0008\u000b\u000c\u000e-\u001f\u007f-\u009f\u061c\u200b\u200e\u200f\u2028-\u202e\u2060-\u2069\ufeff]/g;
+const MAY_HAVE_UNSEEN = /\\[ubf]|[^ -~\t\r\n]/;
+const inSight = (_, value) => typeof value === "string" ? value.replace(UNSEEN, "\ufffd") : value;
+
+/** The object of JSON that the line is, or null. Each character of its texts is to be seen. */
 function objectIn(line) {
   try {
-    const value = JSON.parse(line);
+    const value = JSON.parse(line, MAY_HAVE_UNSEEN.test(line) ? inSight : undefined);
     return typeof value === "object" && !Array.isArray(value) ? value : null;
   } catch {
     return null;
@@ -18,10 +23,13 @@ const BARE_LABELS = new Set(["touch", "send to another process", "receive from a
 const OTHER_WORDS = [["making ", "make "], ["lookup ", "look up in "], ["replacement ", "replace an entry of "]];
 const RANKS = new Map([["write", 0], ["read", 1], ["replacement", 3], ["lookup", 4], ["making", 5]]);
 
-/** A label in the words of a program. */
+const PLACE_IN_LABEL = /\(([^()]*:\d+)\)/g;
+
+/** A label in the words of a program. A place in it, as `lock (/home/x/shop.py:6)`, has no folders. */
 function programWords(label) {
   const [from, to] = OTHER_WORDS.find(([start]) => label.startsWith(start)) ?? ["", ""];
-  return BARE_LABELS.has(label) ? "" : to + label.slice(from.length);
+  const rest = label.slice(from.length).replace(PLACE_IN_LABEL, (_, place) => `(${fileName(place)})`);
+  return BARE_LABELS.has(label) ? "" : to + rest;
 }
 
 /** What a message carries, by the label of who sends it, or nothing where that says only that it is sent. */

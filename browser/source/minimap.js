@@ -1,5 +1,7 @@
 // The map in the corner
 
+const MAP_MARGIN = 8;
+
 /** The whole picture in little, with the part that is in view. A pointer on it moves the view. It is hidden while all is in view. */
 class Minimap {
   constructor(view, canvas) {
@@ -27,6 +29,14 @@ class Minimap {
     view.top = partY * layout.height - view.room / view.high / 2;
     view.keepInside();
     view.ask();
+  }
+
+  /** Tells the view how much of its lower end the map takes. */
+  measure() {
+    const { view, canvas } = this, wasHidden = canvas.hidden;
+    canvas.hidden = false;
+    view.mapHeight = canvas.clientHeight > 0 ? canvas.clientHeight + 2 * MAP_MARGIN : 0;
+    canvas.hidden = wasHidden;
   }
 
   follow() {

@@ -12,6 +12,11 @@ const Moving = (Base) => class extends Base {
     return Math.max(1, this.height - this.head - 2 * MARGIN);
   }
 
+  /** How much of the lower end the map hides. Nothing while all is in view. */
+  get foot() {
+    return this.isWhole ? 0 : Math.min(this.mapHeight, this.room / 2);
+  }
+
   get laneHeight() {
     return this.high;
   }
@@ -71,7 +76,7 @@ const Moving = (Base) => class extends Base {
     this.high = Math.min(GREATEST_LANE, Math.max(this.leastHigh, this.high));
     const room = ROOM / this.scale, most = layout.columns + room - this.width / this.scale;
     this.left = Math.max(1 - room, Math.min(this.left, most));
-    this.top = Math.max(0, Math.min(this.top, layout.height - this.room / this.high));
+    this.top = Math.max(0, Math.min(this.top, layout.height - (this.room - this.foot) / this.high));
   }
 
   pan(byX, byY) {
@@ -131,9 +136,11 @@ const Moving = (Base) => class extends Base {
     const [least, most] = [Math.min(...times), Math.max(...times)], [upper, lower] = [Math.min(...lanes), Math.max(...lanes) + 1];
     const aside = Math.min(120, this.width / 4);
     this.scale = Math.max(this.leastScale, Math.min(READ_SCALE, (this.width - 2 * aside) / Math.max(1, most - least)));
-    this.high = Math.max(this.leastHigh, Math.min(LANE, this.room / (lower - upper)));
+    const isAll = this.scale <= this.leastScale && Math.min(LANE, this.room / (lower - upper)) <= this.leastHigh;
+    const free = this.room - (isAll ? 0 : Math.min(this.mapHeight, this.room / 2));
+    this.high = Math.max(this.leastHigh, Math.min(LANE, free / (lower - upper)));
     this.left = (least + most) / 2 - this.width / this.scale / 2;
-    this.top = (upper + lower) / 2 - this.room / this.high / 2;
+    this.top = (upper + lower) / 2 - free / this.high / 2;
     this.keepInside();
     this.ask();
   }

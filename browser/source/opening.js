@@ -83,7 +83,7 @@ const Opening = (Base) => class extends Base {
     const words = isEmpty ? "the export has no event, so nothing is drawn." : isFaulty ? this.faultWords() : this.countWords() + (verdict === null ? "" : ` Checked: ${verdict}.`);
     const progress = verdict === null ? `Not yet checked: ${this.compared} of ${trace.events} lines compared.` : "";
     if (verdict !== null && fault !== null && this.isShown) at("title").classList.add("racy");
-    tell(name === "" ? words : `${name}: ${words}`, progress, this.compared / Math.max(1, trace.events));
+    tell(name === "" ? words[0].toUpperCase() + words.slice(1) : `${name}: ${words}`, progress, this.compared / Math.max(1, trace.events));
     at("notice").classList.toggle("faulty", isFaulty);
   }
 

@@ -45,6 +45,15 @@ class Page extends Parting(Panes(Reaching(Racing(WithLabels(Search(Panel(Tips(Ch
     this.buttons = new Map();
   }
 
+  /** Tells how to move, which takes some of the room. */
+  tellHint() {
+    const { view, map } = this, isWhole = view.isWhole;
+    at("hint").hidden = this.isHinted;
+    view.resize();
+    map.measure();
+    if (isWhole) view.whole();
+  }
+
   /** Shows what there is to see first: what the address says, else the first race, else the whole. */
   begin() {
     if (!this.isShown) return;
@@ -52,7 +61,7 @@ class Page extends Parting(Panes(Reaching(Racing(WithLabels(Search(Panel(Tips(Ch
     this.tellParts();
     if (this.program === "") this.program = programOf(this.labels) || fileName(this.races[0]?.sides[0].file ?? "");
     this.describeRaces();
-    at("hint").hidden = this.isHinted;
+    this.tellHint();
     const words = new URLSearchParams(location.hash.slice(1)), asked = wholeNumber(words.get("part") ?? "1");
     if (asked === this.part && (words.has("event") || words.has("time"))) this.readAddress();
     const isHere = ({ sides }) => sides.some(({ part }) => part === this.part), first = this.races.findIndex(isHere);

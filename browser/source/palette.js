@@ -5,7 +5,7 @@
 const LIGHT = { standings: ["#1f2933", "#004488", "#d55e00", "#cc79a7", "#000000"], paper: "#ffffff", veil: "rgb(255 255 255 / 86%)",
   lane: "#9aa5b1", edge: "#52606d", pale: "#c3cbd3", name: "#102a43", message: "#243b53", race: "#b00020", onConcurrent: "#000000",
   chain: "#6a3d9a", ruler: "#f1f4f7", fold: "#e4e7eb", bars: "#66727f",
-  processes: ["#0072b2", "#b36b00", "#00795a", "#8f4a7c", "#2f7fa8", "#6b6300"] };
+  processes: ["#0072b2", "#b36b00", "#00795a", "#8f4a7c", "#332288", "#4d4700"] };
 const DARK = { standings: ["#e4e7eb", "#6fb1ff", "#ff9f4a", "#f0a6cf", "#ffffff"], paper: "#12181f", veil: "rgb(18 24 31 / 86%)",
   lane: "#66727f", edge: "#a7b3c0", pale: "#3d4956", name: "#d9e8f6", message: "#c3d4e6", race: "#ff8a80", onConcurrent: "#12181f",
   chain: "#c9a6ff", ruler: "#1c242d", fold: "#2b3642", bars: "#a7b3c0",

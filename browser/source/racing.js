@@ -111,7 +111,7 @@ const Racing = (Base) => class extends Base {
     section.append(element("h2", {}, `${isPossible ? "Possible race" : "Race"} on ${thing}`),
       element("p", { id: "reason" }, `${why.slice(0, 1).toUpperCase()}${why.slice(1)}.`),
       element("ul", { id: "sides" }, ...sides.map((side) => element("li", {}, this.sideButton(side)))),
-      element("p", { className: "quiet" }, `${made === "" ? "" : `${made}; `}${timesOf(race)}`));
+      element("p", { className: "quiet" }, `Seen ${timesOf(race)}${made === "" ? "" : `, on ${made}`}`));
   }
 
   sideButton(side) {

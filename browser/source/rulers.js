@@ -98,7 +98,7 @@ const Measuring = (Base) => class extends Base {
     const first = clocks.mostTold(), half = Math.min(6, this.high / 6);
     for (let place = 0; place < count; place++) {
       const event = marks[place], clock = clocks.clockOf[event], skew = clock < 0 || clock === first ? null : clocks.skew(clock, first);
-      if (skew === null) continue;
+      if (skew === null || !Number.isFinite(skew.most - skew.least)) continue;
       const ends = [skew.most, skew.least].map((ahead) => this.x(layout.clockAxis.placeOf(clocks.times[event] - ahead)));
       const from = Math.max(-10, ends[0]), to = Math.min(this.width + 10, ends[1]), y = Math.round(this.y(layout.lane(event)) + this.radius * 2.2 + 3);
       context.fillStyle = this.colourOfLane(layout.lane(event)) ?? palette.edge;

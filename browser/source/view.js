@@ -28,6 +28,7 @@ class View extends Measuring(Crowding(Banding(Labelling(Drawing(Looking(Moving(O
     this.top = 0;
     this.scale = 60;
     this.width = this.height = 1;
+    this.mapHeight = 0;
     this.isAsked = false;
     this.drawn = () => {};
   }
