@@ -1,6 +1,8 @@
 // The checks of the picture as a whole: all of it in view, the map, the rulers, processes, the wall clock, keys and panes.
 import assert from "node:assert/strict";
-import { exportOf, file, inWork, pictureOf } from "./program.mjs";
+import { readFileSync } from "node:fs";
+import { join } from "node:path";
+import { exportOf, file, inWork, pictureOf, TOP } from "./program.mjs";
 import { alike, pictureOfAlike } from "./first_glance.mjs";
 import { race, rows, side } from "./racing.mjs";
 import { opened, placeOf, press, shown, text } from "./tab.mjs";
@@ -92,6 +94,23 @@ export async function processes(tab) {
   assert.match(await tab.run(() => location.hash), /time=clock/);
   const skew = await tab.run(() => page.view.skewOf("store") + page.view.skewOf("till"));
   assert.match(skew, /; clock .* (ahead|behind), ± /);
+  await unboundedSkew(tab);
+}
+
+/** A skew that messages do not bound from both sides has no bar, which would look like a lane. */
+async function unboundedSkew(tab) {
+  const path = join(TOP, "browser/checks/stored/day");
+  await opened(tab, pictureOf("day.html", readFileSync(`${path}.export`), ["--labels", `${path}.journal`]), "#time=clock");
+  const [longest, count, width] = await tab.run(() => {
+    const { view } = page, bars = [];
+    view.findRange();
+    const marks = view.findMarks();
+    view.context.fillRect = (x, y, wide) => bars.push(wide);
+    view.drawSkews(marks);
+    delete view.context.fillRect;
+    return [Math.max(...bars), bars.length, view.width];
+  });
+  assert.ok(count > 0 && longest < width, `a bar of ${longest} in a picture of ${width}`);
 }
 
 const RACES = [race("stock", [side(4, "alice", "read", 11), side(7, "bob", "write", 12)]), race("price", [side(6, "alice", "write", 12), side(7, "bob", "write", 12)])];
