@@ -16,23 +16,11 @@ _TRACED = (
     descriptors, fork_warnings, tracebacks,
 )
 
-_patches: Patches | None = None
-
 
 def put_all() -> None:
     """Puts all traced methods in place. They note nothing until tracing begins."""
-    global _patches
-    if _patches is None:
-        _patches = Patches()
+    if not state.is_patched:
         state.is_patched = True
+        patches = Patches()
         for module in _TRACED:
-            module.put(_patches)
-
-
-def take_all_back() -> None:
-    """Gives the library its own methods back. What was made meanwhile goes on, and notes nothing."""
-    global _patches
-    if _patches is not None:
-        _patches.take_back()
-        _patches = None
-        state.is_patched = False
+            module.put(patches)

@@ -1,4 +1,4 @@
-"""Puts traced methods in the place of the library's own, and takes them back."""
+"""Puts traced methods in the place of the library's own."""
 
 from __future__ import annotations
 
@@ -10,21 +10,15 @@ from weakref import WeakValueDictionary
 
 from ..model.frames import INTERNAL
 
-_MISSING: Any = object()
 STAND_INS: WeakValueDictionary[int, CodeType] = WeakValueDictionary()
 """The code of each function that stands in the place of another one, by its identity."""
 
 
 class Patches:
-    """What was changed, to be changed back."""
-
-    def __init__(self) -> None:
-        self._saved: list[tuple[Any, str, Any]] = []
-        self._endings: list[Callable[[], None]] = []
+    """How attributes of the library are replaced."""
 
     def put(self, owner: Any, name: str, value: Any) -> None:
         """Gives the class or module another attribute."""
-        self._saved.append((owner, name, vars(owner).get(name, _MISSING)))
         setattr(owner, name, value)
 
     def wrap(self, owner: Any, name: str, make: Callable[[Any], Any]) -> None:
@@ -44,19 +38,6 @@ class Patches:
             if type(names) is dict and other is not module and not is_ours(other):
                 for found in [key for key, one in names.items() if one is old]:
                     self.put(other, found, value)
-
-    def when_taken_back(self, end: Callable[[], None]) -> None:
-        self._endings.append(end)
-
-    def take_back(self) -> None:
-        for end in self._endings:
-            end()
-        while self._saved:
-            owner, name, value = self._saved.pop()
-            if value is _MISSING:
-                delattr(owner, name)
-            else:
-                setattr(owner, name, value)
 
 
 def is_ours(module: Any) -> bool:

@@ -23,7 +23,6 @@ def put(patches: Patches) -> None:
     patches.wrap(weakref.finalize, "__init__", _begin_finalizer)
     patches.wrap(weakref.finalize, "__call__", _call_finalizer)
     patches.wrap(weakref.finalize, "detach", _detach_finalizer)
-    patches.when_taken_back(_places.clear)
 
 
 def _create(original: Any) -> Any:

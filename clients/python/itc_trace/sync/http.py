@@ -51,7 +51,6 @@ if hasattr(os, "register_at_fork"):
 
 
 def put(patches: Patches) -> None:
-    patches.when_taken_back(_asked.clear)
     once_imported("http.client", lambda module: _put_client(patches, module))
     once_imported("http.server", lambda module: _put_server(patches, module))
 

@@ -22,12 +22,6 @@ def once_imported(name: str, put: Callable[[ModuleType], None]) -> None:
         sys.meta_path.insert(0, _finder)
 
 
-def forget_all() -> None:
-    _waiting.clear()
-    if _finder in sys.meta_path:
-        sys.meta_path.remove(_finder)
-
-
 class _Finder:
     """Finds a module that is waited for as the others do, and has it patched as soon as it was executed."""
 

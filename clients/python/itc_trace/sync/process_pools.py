@@ -25,7 +25,6 @@ _MESSAGE = "_itc_message"
 
 
 def put(patches: Patches) -> None:
-    patches.when_taken_back(_done.clear)
     patches.wrap(Future, "set_result", _set_result)
     patches.wrap(Future, "set_exception", _set_exception)
     once_imported("concurrent.futures.process", lambda module: _put_pools(patches, module))

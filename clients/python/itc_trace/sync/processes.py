@@ -15,7 +15,7 @@ from ..model.lock_identity import LockIdentity
 from ..record.noting import mark, take
 from ..model.frames import frame_at, is_internal
 from .base import Patches
-from .later import forget_all, once_imported
+from .later import once_imported
 from .locks import gave, took
 from .shared_locks import has_taken, is_giving, slot_of
 
@@ -37,7 +37,6 @@ _PLAIN_MAKERS = {name: getattr(threading, name) for name in ("Lock", "RLock")}
 
 
 def put(patches: Patches) -> None:
-    patches.when_taken_back(forget_all)
     once_imported("multiprocessing.synchronize", lambda module: _put_locks(patches, module))
     once_imported("multiprocessing.managers", lambda module: _put_managers(patches, module))
 

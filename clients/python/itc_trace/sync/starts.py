@@ -26,7 +26,6 @@ FOR_THE_SERVER = "ignore"
 def put(patches: Patches) -> None:
     if not hasattr(os, "fork"):
         return
-    patches.when_taken_back(_forked.clear)
     patches.wrap(os, "fork", _fork)
     for name in ("wait", "waitpid", "wait3", "wait4"):
         patches.wrap(os, name, _wait)
