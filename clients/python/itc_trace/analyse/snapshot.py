@@ -13,7 +13,7 @@ from .trace import Asked
 EVENTS_AT_ONCE = 256
 TRIES = 200
 REST = 0.05
-NO_PLACE, NO_MEMORY = "422", "507"
+NO_PLACE = "422"
 
 
 def snapshot(tenant: str, port: int, output: TextIO, host: str = HOST) -> int:
