@@ -122,7 +122,7 @@ async function pastIsRight(tab, reports) {
   }
 }
 
-const FRAMES = 60, MOST_OF_FRAME = 1000 / 30, TURNS = 3;
+const FRAMES = 60, MOST_OF_FRAME = 1000 / 30, TURNS = 3, MOST_OF_OPENING = 1000, OPENINGS = 6;
 const ZOOMS = [["all of it", 1], ["a third", 3], ["a tenth", 10], ["near", 40]];
 
 /** Moves the picture in each of so many frames, and tells how many there were in a second. */
@@ -136,13 +136,29 @@ const animate = async (frames) => {
   return 1000 * frames / (performance.now() - begin);
 };
 
-/** The picture of 16384 events of 2047 tasks moves and zooms in frames that take the processor less than a thirtieth of a second each. How
- * many there were in a second is told, but other work beside decides that, too. */
+/** How much of the processor the page takes until it is shown, the least of some times. */
+async function opening(tab, html) {
+  const times = [];
+  for (let turn = 0; turn < OPENINGS && !(Math.min(...times) < MOST_OF_OPENING); turn++) {
+    await tab.navigate("about:blank");
+    times.push(1000 * await processorSeconds(tab, async () => {
+      await tab.navigate(`file://${html}`);
+      await tab.until(() => typeof page !== "undefined" && page.isShown === true && (page.worker !== null || page.verdict !== null));
+      await tab.frame();
+    }));
+  }
+  return Math.min(...times);
+}
+
+/** The picture of 16384 events of 2047 tasks is shown within a second of the processor. It moves and zooms in frames that take the
+ * processor less than a thirtieth of a second each. How many there were in a second is told, but other work beside decides that, too. */
 export async function frames(tab) {
-  await shown(tab, pictureOf("frames.html", exportOf(greatest(seeded(3)))));
+  const html = pictureOf("frames.html", exportOf(greatest(seeded(3)))), time = await opening(tab, html);
+  const told = [`shown after ${time.toFixed(0)} ms of the processor`];
+  assert.ok(time < MOST_OF_OPENING, told[0]);
+  await shown(tab, html);
   await tab.until(() => page.verdict !== null);
   await tab.run(() => page.choose(8000));
-  const told = [];
   for (const [words, factor] of ZOOMS) {
     const times = [], rates = [];
     await tab.run((zoom) => {
