@@ -101,6 +101,17 @@ class Usages(unittest.TestCase):
         self.assertEqual(by_file, by_input)
         self.assertTrue(by_file.startswith(b"<!"))
 
+    def test_a_picture_does_not_fill_the_terminal(self) -> None:
+        screen, terminal = os.openpty()
+        command = [sys.executable, str(PICTURE), "g.export"]
+        ran = subprocess.run(command, stdout=terminal, stderr=subprocess.PIPE, text=True, cwd=self.folder, check=False)
+        os.close(terminal)
+        self.assertEqual(ran.returncode, 2)
+        self.assertTrue(ran.stderr.startswith("picture: the page would fill the terminal: write it"), ran.stderr)
+        with self.assertRaises(OSError):  # Nothing was written there.
+            os.read(screen, 1)
+        os.close(screen)
+
     def test_an_option_behind_the_program_is_told(self) -> None:
         told = "itc_trace: shop.py gets --picture: put it before shop.py if it is for run, or put -- before the program\n"
         self.assertIn(told, self.run_here("run", "shop.py", "--picture", "x.html").stderr)
