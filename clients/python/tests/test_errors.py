@@ -2,14 +2,18 @@
 
 from __future__ import annotations
 
+import io
 import json
+import socket
 import subprocess
 import sys
 import tempfile
 import unittest
+import unittest.mock
 from pathlib import Path
 
 from itc_trace import Collector, Session, Verdict, touch, tracing
+from itc_trace.record import faults
 from itc_trace.record.collector import find_program
 from itc_trace.record.journal import NoJournal, read_whole
 from itc_trace.model.verdict import BREAKS_OFF, END_ROW, Cause, Unseen, end_row
@@ -233,6 +237,23 @@ class Journals(unittest.TestCase):
             ran = run_traced(program.name)
         self.assertEqual((ran.returncode, ran.stdout), (Verdict.INCOMPLETE, "ran\n"), ran.stderr)
         self.assertIn("tracing stops: the journal cannot be written: File too large", ran.stderr)
+
+
+class Waiting(unittest.TestCase):
+    def test_a_collector_without_room_is_waited_for_with_a_word(self) -> None:
+        said = io.StringIO()
+        silent = unittest.mock.patch.multiple(faults, SILENT_SECONDS=0.05, LONGEST_ANSWER=1.0)
+        with socket.create_server(("127.0.0.1", 0)) as door, silent, unittest.mock.patch.object(sys, "__stderr__", said):
+            port = door.getsockname()[1]
+            with self.assertRaisesRegex(faults.Fault, f"port {port} of 127.0.0.1 does not answer: all its sessions may be taken"):
+                faults.look("trace", port)
+        self.assertEqual(said.getvalue(), f"itc_trace: {faults.WAITS.format(port=port)}\n")
+
+    def test_one_that_answers_at_once_is_not_told_of(self) -> None:
+        said = io.StringIO()
+        with Collector("trace") as collector, unittest.mock.patch.object(sys, "__stderr__", said):
+            faults.look("trace", collector.port)
+        self.assertEqual(said.getvalue(), "")
 
 
 class OwnTracing(unittest.TestCase):
