@@ -17,6 +17,7 @@ from typing import Any
 from unittest import mock
 
 from itc_trace.watch import kept, learned, making, passed_over, places, placing, stored
+from itc_trace.watch.helper import COMPILES
 
 from .support import PACKAGE
 
@@ -374,7 +375,7 @@ class Runs(Case):
         for name in ("PYTHONDONTWRITEBYTECODE", "PYTHONPYCACHEPREFIX"):
             environment.pop(name, None)
         done = subprocess.run(words, capture_output=True, text=True, env=environment, timeout=300, check=False)
-        return done.returncode, done.stdout, done.stderr
+        return done.returncode, done.stdout, done.stderr.replace(f"{COMPILES}\n", "")  # Whoever runs first is told so.
 
     def test_a_second_run_tells_what_the_first_one_told(self) -> None:
         (self.folder / "settings.py").write_text("debug = ''\nrows = []\n")

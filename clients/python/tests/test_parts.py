@@ -6,7 +6,9 @@ import contextlib
 import os
 import random
 import unittest
+from collections import deque
 from collections.abc import Callable, Iterator
+from types import SimpleNamespace
 from typing import Any
 from unittest import mock
 
@@ -16,6 +18,9 @@ from itc_trace.record import dividing
 from itc_trace.analyse.across_parts import AcrossParts
 from itc_trace.record.dividing import Border, Divider, Limits, Report
 from itc_trace.record.journal import Row
+from itc_trace.record.reports import Outstanding
+from itc_trace.record.tracer import Tracer
+from itc_trace.record.waiting import Waiter
 from itc_trace.analyse.parts import Part, collected, find_in_parts
 from itc_trace.session import Refused
 from itc_trace.analyse.trace import Asked, Trace
@@ -262,6 +267,20 @@ WRONG: list[tuple[Any, str, Callable[..., Any]]] = [
     (AcrossParts, "move_on", _dropped_if_one_knows),
     (AcrossParts, "move_on", _kept_as_one),
 ]
+
+
+class Borders(unittest.TestCase):
+    def test_rows_of_a_part_are_written_before_its_border_may_be(self) -> None:
+        """Else they would stand in the next part, with numbers of the one before."""
+        tracer: Any = object.__new__(Tracer)
+        row, count = (Outstanding("", "main", kind, "", None, 0, "") for kind in ("local", "count"))
+        count.waiter = Waiter()
+        tracer._reports = SimpleNamespace(is_over=False, outstanding=deque([row, count]))
+        tracer._row = lambda event, report: f"{event} of {report.kind}\n"
+        written: list[tuple[str, bool]] = []
+        tracer._write_rows = lambda rows: written.append((rows, count.waiter.is_answered))
+        tracer._take([b"201 7", b"200 7"])
+        self.assertEqual((written, count.waiter.is_answered), ([("7 of local\n", False)], True))
 
 
 class WrongRules(unittest.TestCase):

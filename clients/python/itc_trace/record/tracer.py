@@ -460,7 +460,7 @@ class Tracer:
                 if not more:
                     break
                 *replies, rest = (rest + more).split(b"\n")
-                self._write_rows("".join([self._replied(reply) for reply in replies]))
+                self._take(replies)
                 if self._all_sent and not self._reports.outstanding:
                     self._ended.answer(True)
                     return
@@ -473,20 +473,29 @@ class Tracer:
         finally:
             ended.answer(True)
 
+    def _take(self, replies: list[bytes]) -> None:
+        """Writes the rows of what was taken. Only then whoever waits for all of them goes on, as to write a border."""
+        waiting: list[Waiter] = []
+        try:
+            self._write_rows("".join([self._replied(reply, waiting) for reply in replies]))
+        finally:
+            for waiter in waiting:
+                waiter.answer(True)
+
     def _write_rows(self, rows: str) -> None:
         try:
             self._journal.write(rows)
         except OSError as fault:
             self.lose_journal(fault)
 
-    def _replied(self, reply: bytes) -> str:
-        """The journal's row of a report that was taken, else nothing."""
+    def _replied(self, reply: bytes, waiting: list[Waiter]) -> str:
+        """The journal's row of a report that was taken, else nothing. Adds who waits for all rows up to here."""
         if self._reports.is_over:
             return ""
         report = self._reports.outstanding.popleft()
         is_taken = reply.startswith(b"201 ")
         if report.kind == "count" and report.waiter is not None:
-            report.waiter.answer(True)
+            waiting.append(report.waiter)
             return ""
         if report.waiter is not None:
             report.waiter.answer(is_taken)
