@@ -60,11 +60,7 @@ Most are names of the library's own that no stub has, fields that the rewriting 
 is known at run time alone.
 """
 WIDTH = 120
-UNBROKEN = frozenset({
-    "cli.commands", "cli.ending", "cli.launch", "cli.run", "cli.sentinel", "cli.statuses", "cli.system",
-    "cli.system_file", "cli.traced_process", "watch.on_stack", "watch.passed_over", "watch.rewrite", "watch.scopes",
-    "watch.stored",
-})
+UNBROKEN = frozenset({"watch.rewrite"})
 """Modules that have longer lines yet."""
 
 

@@ -37,14 +37,18 @@ from .system_file import read_system
 LOOKING = ("run", "system", "races")
 """The commands that look for races."""
 EXPORT_BEGINS = b'{"events":'
-OPTIONS_OF_PYTHON = {"-c": "a file, or -m and a module, but no text of a program", "-": "a file, or -m and a module, but no standard input"}
+OPTIONS_OF_PYTHON = {
+    "-c": "a file, or -m and a module, but no text of a program",
+    "-": "a file, or -m and a module, but no standard input",
+}
 """What is typed before a program as python3 takes it, and what `run` takes instead."""
 
 
 def _divided(words: list[str], options: Parser) -> tuple[list[str], list[str]]:
     """The words of `run` up to the program, and the program's own."""
     flags, place = options.flags(), 1
-    while place < len(words) and words[0] == "run" and words[place].startswith("-") and words[place] not in ("-m", "--"):
+    is_run = words[:1] == ["run"]
+    while is_run and place < len(words) and words[place].startswith("-") and words[place] not in ("-m", "--"):
         place += 1 if words[place] in flags or "=" in words[place] else 2
     if words[:1] != ["run"]:
         place = len(words)
@@ -60,10 +64,11 @@ def _run(words: argparse.Namespace, program: list[str]) -> int:
     if not words.is_program_marked:
         _tell_of_options_behind(program, words.options)
     return run(Run(
-        program, words.port, words.tenant, words.process, words.export, words.journal, words.picture, _host(words), quiet=words.quiet,
-        fail_on_possible=words.fail_on == "possible", runs=words.runs, is_shaken=not words.no_shake,
+        program, words.port, words.tenant, words.process, words.export, words.journal, words.picture, _host(words),
+        quiet=words.quiet, fail_on_possible=words.fail_on == "possible", runs=words.runs, is_shaken=not words.no_shake,
         seed=random.SystemRandom().randrange(MOST_SEED) if words.shake == NEW_SEED else words.shake,
-        part_events=words.part_events, status_file=words.status_file, watched=None if words.watch_nothing else words.watch or [],
+        part_events=words.part_events, status_file=words.status_file,
+        watched=None if words.watch_nothing else words.watch or [],
         looking=words.looking, inputs=_read(words), baseline=words.write_baseline,
     ))
 
@@ -117,7 +122,8 @@ def _system(words: argparse.Namespace) -> int:
     system.export, system.picture = words.export or system.export, words.picture or system.picture
     beside = None if system.export is None else f"{system.export}.journal"
     outputs = (
-        ("--export", system.export), ("the journal of --export", beside), ("--picture", system.picture), ("--status-file", words.status_file),
+        ("--export", system.export), ("the journal of --export", beside), ("--picture", system.picture),
+        ("--status-file", words.status_file),
         ("--write-baseline", words.write_baseline),
     )
     check_outputs(outputs, [(words.file, words.file), *_read(words)])
@@ -135,7 +141,10 @@ def _races(words: argparse.Namespace) -> int:
     if not words.journal and words.port is None and os.path.isfile(f"{words.trace}.journal"):
         words.journal = [f"{words.trace}.journal"]
     if not words.journal:
-        raise Fault(f"races wants the journal of each process, behind {words.trace}: `run --export` and `run --journal` write it")
+        raise Fault(
+            f"races wants the journal of each process, behind {words.trace}: "
+            "`run --export` and `run --journal` write it"
+        )
     _check_outputs(words)
     if words.port is None:
         with loaded(words.trace) as collector:
@@ -158,7 +167,8 @@ def _tenant(word: str) -> str:
 
 
 def _journal_in_parts(words: argparse.Namespace) -> str | None:
-    """The journal of a run in parts, if it is that: given for the export, behind it, or beside the export that is named."""
+    """The journal of a run in parts, if it is that: given for the export, behind it,
+    or beside the export that is named."""
     if words.port is not None or len(words.journal) > 1:
         return None
     given = words.journal or [words.trace, f"{words.trace}.journal"]
@@ -195,7 +205,9 @@ def _relay(words: argparse.Namespace) -> None:
     try:
         relay(words.listen, words.port, host)
     except OSError as fault:
-        raise Fault(f"port {words.listen} cannot be listened at: {fault.strerror}: choose another by --listen") from fault
+        raise Fault(
+            f"port {words.listen} cannot be listened at: {fault.strerror}: choose another by --listen"
+        ) from fault
 
 
 def _tell_of_options_behind(program: list[str], options: Parser) -> None:
@@ -208,7 +220,10 @@ def _tell_of_options_behind(program: list[str], options: Parser) -> None:
     for word in program[1:]:
         option = word.partition("=")[0]
         if option.startswith("--") and option in options.options() and option.removeprefix("--").encode() not in source:
-            say(f"itc_trace: {program[0]} gets {option}: put it before {program[0]} if it is for run, or put -- before the program")
+            say(
+                f"itc_trace: {program[0]} gets {option}: put it before {program[0]} if it is for run, "
+                "or put -- before the program"
+            )
 
 
 def main(name: str = "python3 -m itc_trace") -> int:
@@ -228,13 +243,20 @@ def main(name: str = "python3 -m itc_trace") -> int:
 
 
 def _looked(words: argparse.Namespace, program: list[str]) -> int:
-    """Does what a command is for that looks for races, and writes the baseline if one is asked for and races were looked for."""
+    """Does what a command is for that looks for races,
+    and writes the baseline if one is asked for and races were looked for."""
     words.looking = _looking(words)
-    status = _run(words, program) if words.command == "run" else _system(words) if words.command == "system" else _races(words)
+    if words.command == "run":
+        status = _run(words, program)
+    else:
+        status = _system(words) if words.command == "system" else _races(words)
     if words.write_baseline is not None and words.looking.has_looked:
         write_baseline(words.write_baseline, words.looking.met)
         count = len(words.looking.met)
-        say(f"itc_trace: {words.write_baseline} has {count} race{'' if count == 1 else 's'}: --baseline {words.write_baseline} fails on others only")
+        say(
+            f"itc_trace: {words.write_baseline} has {count} race{'' if count == 1 else 's'}: "
+            f"--baseline {words.write_baseline} fails on others only"
+        )
     return status
 
 

@@ -26,7 +26,9 @@ class Ended(Exception):
 def ends_by_signals() -> Iterator[None]:
     """Within the block the first signal to end raises `Ended`, unless a program runs, which is ended."""
     _asked.clear()
-    before = {number: signal.signal(number, _end_here) for number in SIGNALS if signal.getsignal(number) == signal.SIG_DFL}
+    before = {
+        number: signal.signal(number, _end_here) for number in SIGNALS if signal.getsignal(number) == signal.SIG_DFL
+    }
     try:
         yield
     finally:
@@ -52,7 +54,8 @@ def name_of(number: int) -> str:
 
 
 class Child:
-    """The process of a program that is run to its end. A signal to end this process is handed on to that one, which takes its own time.
+    """The process of a program that is run to its end. A signal to end this process is handed on to that one, which
+    takes its own time.
 
     One that was sent to the whole group is not: the program has it already.
     """
@@ -61,9 +64,12 @@ class Child:
         self._told = Path(told)
         self._process: subprocess.Popen[bytes] | None = None
         self._sentinel = Sentinel()
-        before = {number: signal.signal(number, self._end) for number in SIGNALS if signal.getsignal(number) == _end_here}
+        before = {
+            number: signal.signal(number, self._end) for number in SIGNALS if signal.getsignal(number) == _end_here
+        }
         self._process = subprocess.Popen(words, env=environment)
-        before[signal.SIGINT] = signal.signal(signal.SIGINT, signal.SIG_IGN)  # The program is told of it too, and decides.
+        # The program is told of it too, and decides.
+        before[signal.SIGINT] = signal.signal(signal.SIGINT, signal.SIG_IGN)
         try:
             if _asked:
                 self._end(_asked[-1], None)

@@ -53,7 +53,9 @@ def main() -> None:
         watch.watch_loaded(folders, packages)
     shaking = None if seed is None else Shaking(seed)
     try:
-        traced = Tracing(**configuration, shaking=shaking, parts=parts, child=None if child is None else ChildProcess(*child)).start()
+        traced = Tracing(
+            **configuration, shaking=shaking, parts=parts, child=None if child is None else ChildProcess(*child),
+        ).start()
     except OSError as fault:  # Another session reports, say.
         _refuse(tell, str(fault))
     Ending(traced).begin(folders, packages)
@@ -88,7 +90,9 @@ def _refuse(tell: Callable[[str], object], text: str) -> NoReturn:
 
 
 def _parts(asked_at: int, events: int) -> Parts:
-    return Parts(partial(ask_for_port, asked_at), LEAVE._replace(events=events), partial(ask_for_port, asked_at, SHARED))
+    return Parts(
+        partial(ask_for_port, asked_at), LEAVE._replace(events=events), partial(ask_for_port, asked_at, SHARED),
+    )
 
 
 class _NotRun(Exception):
@@ -134,13 +138,19 @@ def _run_file(words: list[str]) -> None:
     call(path, program)
     with open(path, "rb") as file:
         source = file.read()
-    module.__dict__.update(__file__=path, __builtins__=builtins, __annotations__={}, __cached__=None, __loader__=SourceFileLoader("__main__", path))
+    module.__dict__.update(
+        __file__=path, __builtins__=builtins, __annotations__={}, __cached__=None,
+        __loader__=SourceFileLoader("__main__", path),
+    )
     plain = compile(source, path, "exec", dont_inherit=True)
     exec(watch.code_of(source, path, plain), module.__dict__)
 
 
 def _show(error: BaseException) -> None:
-    """Shows an error of the program, without the frames of this package. If the program's own hook fails, both errors are shown."""
+    """Shows an error of the program, without the frames of this package.
+
+    If the program's own hook fails, both errors are shown.
+    """
     leave_out_of(error)
     trace = _own_trace(error)
     try:

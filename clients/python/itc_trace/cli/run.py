@@ -131,7 +131,8 @@ def _check_outputs(asked: Run) -> None:
         one = asked.of(number)
         beside = f"{one.export}.journal" if one.export is not None and one.journal is None else None
         check_outputs((
-            ("--status-file", asked.status_file), ("--write-baseline", asked.baseline), ("--export", one.export), ("--journal", one.journal), ("--picture", one.picture),
+            ("--status-file", asked.status_file), ("--write-baseline", asked.baseline), ("--export", one.export),
+            ("--journal", one.journal), ("--picture", one.picture),
             ("the journal of --export", beside),
         ), inputs)
 
@@ -221,7 +222,10 @@ def _outcome(asked: Run, seed: int | None) -> Outcome | None:
         if child.signal_name and not _is_killed(races):
             killed = Unseen(Cause.KILLED, f"the program was ended by {child.signal_name}")
             races.unseen = [killed, *(one for one in races.unseen if one != BREAKS_OFF)]
-        picture = draw_parts(parts, asked.picture, races, _name_of(asked)) if is_divided else _keep(asked, port, journal, work, races)
+        if is_divided:
+            picture = draw_parts(parts, asked.picture, races, _name_of(asked))
+        else:
+            picture = _keep(asked, port, journal, work, races)
         return Outcome(child.status, races, child.told == RAISED, picture)
 
 
@@ -253,12 +257,15 @@ def _port(asked: Run, collectors: PartCollectors | None, part: int = 1) -> int:
 
 def _run_program(asked: Run, collectors: PartCollectors | None, journal: str, told: str, seed: int | None) -> Child:
     configuration = {
-        "port": _port(asked, collectors), "tenant": asked.tenant, "journal": os.path.abspath(journal), "process": asked.process, "host": asked.host,
+        "port": _port(asked, collectors), "tenant": asked.tenant, "journal": os.path.abspath(journal),
+        "process": asked.process, "host": asked.host,
         "watched": asked.watched,
         "told": told, "seed": seed,
         "parts": (None if collectors is None or asked.process is not None else collectors.asked_at, asked.part_events),
     }
-    words = [sys.executable, *options_of_interpreter(), "-m", "itc_trace.cli.launch", json.dumps(configuration), *asked.words]
+    words = [
+        sys.executable, *options_of_interpreter(), "-m", "itc_trace.cli.launch", json.dumps(configuration), *asked.words
+    ]
     return Child(words, environment_of_package(), told)
 
 
@@ -325,7 +332,10 @@ def draw(export: str, about: list[str], picture: str, races: Races) -> bool:
         rows.flush()
         words = [command, *about, "--races", rows.name]
         with open(export, "rb") as given, open(picture, "wb") as page:
-            drawn = subprocess.run(words, stdin=given, stdout=page, stderr=subprocess.PIPE, encoding="utf-8", errors="replace", check=False)
+            drawn = subprocess.run(
+                words, stdin=given, stdout=page, stderr=subprocess.PIPE, encoding="utf-8", errors="replace",
+                check=False,
+            )
     if drawn.returncode:
         say(f"itc_trace: no picture: {(drawn.stderr.splitlines() or [words[0]])[-1]}")
     return drawn.returncode == 0
@@ -337,7 +347,8 @@ def draw_tenant(tenant: str, port: int, host: str, lines: Iterable[str], picture
         export, journal = os.path.join(work, "export"), os.path.join(work, "journal")
         with open(export, "w", encoding="ascii", newline="\n") as output:
             snapshot(tenant, port, output, host)
-        whole = [line for line in lines if line.endswith("\n")]  # The last one of a program that still runs may be cut off.
+        # The last one of a program that still runs may be cut off.
+        whole = [line for line in lines if line.endswith("\n")]
         Path(journal).write_text("".join(whole), encoding="utf-8")
         return draw(export, ["--labels", journal], picture, races)
 

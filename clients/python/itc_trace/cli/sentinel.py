@@ -1,4 +1,5 @@
-"""A process beside a program, by which it is known whether a signal came to the whole group of processes or to this one alone."""
+"""A process beside a program, by which it is known whether a signal came
+to the whole group of processes or to this one alone."""
 
 from __future__ import annotations
 
@@ -24,7 +25,9 @@ class Sentinel:
             return
         before = signal.pthread_sigmask(signal.SIG_BLOCK, signal.valid_signals())
         with contextlib.suppress(OSError):  # Without it nothing is known of a signal.
-            self._process = subprocess.Popen(COMMAND, stdin=subprocess.PIPE, stdout=subprocess.DEVNULL, stderr=subprocess.DEVNULL)
+            self._process = subprocess.Popen(
+                COMMAND, stdin=subprocess.PIPE, stdout=subprocess.DEVNULL, stderr=subprocess.DEVNULL,
+            )
         signal.pthread_sigmask(signal.SIG_SETMASK, before)
 
     def has(self, number: int) -> bool:

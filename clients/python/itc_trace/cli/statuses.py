@@ -24,7 +24,10 @@ def forget_status(file: str | None) -> None:
 
 
 def keep_status(file: str | None, verdict: Verdict, own: int | None) -> int:
-    """The status of the command. It is written to the file as a whole, with the verdict and the program's own status."""
+    """The status of the command.
+
+    It is written to the file as a whole, with the verdict and the program's own status.
+    """
     status = int(verdict) or own or 0
     if file is not None:
         with open(f"{file}.new", "w", encoding="ascii") as written:

@@ -68,9 +68,14 @@ def listens(port: int) -> bool:
 
 
 class Process:
-    """A process of the system, from its start to its end. What it writes is handed on with its name before each line."""
+    """A process of the system, from its start to its end.
 
-    def __init__(self, described: Described, words: list[str], environment: dict[str, str], told: SimpleQueue[Any]) -> None:
+    What it writes is handed on with its name before each line.
+    """
+
+    def __init__(
+        self, described: Described, words: list[str], environment: dict[str, str], told: SimpleQueue[Any],
+    ) -> None:
         self.described = described
         self.name = described.name
         self.status: int | None = None
@@ -161,8 +166,12 @@ class Running:
 
     def _look_at_services(self) -> None:
         """If there are services alone, nobody comes after them who would wait until they are ready."""
-        if all(described.is_service for described in self._system.processes) and self._are_ready([one.name for one in self.processes]):
-            _write_line("itc_trace: all processes are services, and run until this command is ended, as by Ctrl-C", sys.stderr)
+        if all(described.is_service for described in self._system.processes) and self._are_ready(
+            [one.name for one in self.processes]
+        ):
+            _write_line(
+                "itc_trace: all processes are services, and run until this command is ended, as by Ctrl-C", sys.stderr,
+            )
 
     def _wait_for_end(self) -> None:
         is_silent = True
@@ -172,13 +181,18 @@ class Running:
                 is_silent = not self._tell_left()
 
     def _tell_left(self) -> bool:
-        """Says which processes others came after still run, if nothing else does: they may be services. Gives whether it did."""
+        """Says which processes others came after still run, if nothing else does: they may be services.
+
+        Gives whether it did.
+        """
         before = {name for described in self._system.processes for name in described.after}
         left = [process.name for process in self.processes if process.is_running and not process.described.is_service]
         is_told = len(left) < len(self.processes) and before.issuperset(left)
         if is_told:
             _write_line(
-                f"itc_trace: waiting for the end of {', '.join(left)}: with service = true a process is ended once the others have", sys.stderr)
+                f"itc_trace: waiting for the end of {', '.join(left)}: "
+                "with service = true a process is ended once the others have", sys.stderr,
+            )
         return is_told
 
     def _are_running(self) -> bool:
@@ -194,9 +208,15 @@ class Running:
 
     def _start(self, described: Described) -> Process:
         if described.port is not None and listens(described.port):
-            raise Fault(f"process {described.name}: somebody listens at port {described.port} already: end that program, or name another port")
+            raise Fault(
+                f"process {described.name}: somebody listens at port {described.port} already: "
+                "end that program, or name another port"
+            )
         said = Reporting(self._port, self._system.tenant, described.name, self._journal(described.name))
-        environment = {**environment_of_package(), "PYTHONUNBUFFERED": "1", **described.environment, **said.variables(), PARTS: "1"}
+        environment = {
+            **environment_of_package(), "PYTHONUNBUFFERED": "1", **described.environment, **said.variables(),
+            PARTS: "1",
+        }
         is_python = PYTHON.fullmatch(os.path.basename(described.command[0])) is not None
         words = self._traced(described, said) if described.is_traced and is_python else described.command
         return Process(described, words, environment, self._told)
@@ -208,7 +228,10 @@ class Running:
         while place < len(words) and words[place].startswith("-") and words[place] not in ("-m", "-c", "-"):
             place += 2 if words[place] in FLAGS_WITH_A_WORD else 1
         if place >= len(words) or words[place] in ("-c", "-"):
-            raise Fault(f"process {said.process}: only a program in a file or a module can be traced: name one, or set traced = false")
+            raise Fault(
+                f"process {said.process}: only a program in a file or a module can be traced: "
+                "name one, or set traced = false"
+            )
         configuration = {
             "port": said.port, "tenant": said.tenant, "journal": said.journal, "process": said.process, "host": HOST,
             "watched": described.watched, "told": self._told_by(described.name), "seed": None,
@@ -229,12 +252,17 @@ class Running:
                     return False
                 if not process.is_running or waited > READY_SECONDS:
                     late = f"was not ready within {READY_SECONDS:.0f} s: {process.lacks()}"
-                    self._miss(Cause.KILLED, f"process {process.name} {late if process.is_running else 'ended before it was ready'}")
+                    self._miss(
+                        Cause.KILLED,
+                        f"process {process.name} {late if process.is_running else 'ended before it was ready'}",
+                    )
                     self._is_cut_short = True
                     return False
                 if is_silent and waited > SILENT_SECONDS:
                     is_silent = False
-                    _write_line(f"itc_trace: waiting until process {process.name} is ready: {process.lacks()} yet", sys.stderr)
+                    _write_line(
+                        f"itc_trace: waiting until process {process.name} is ready: {process.lacks()} yet", sys.stderr,
+                    )
                 self._next(LOOK_AGAIN)
         return True
 
@@ -250,7 +278,10 @@ class Running:
         return True
 
     def _is_over(self) -> bool:
-        """Whether nothing runs but services. If there never is anything else, they go on, unless one of them was not ready."""
+        """Whether nothing runs but services.
+
+        If there never is anything else, they go on, unless one of them was not ready.
+        """
         are_all_services = all(described.is_service for described in self._system.processes)
         is_left = any(process.is_running and not process.described.is_service for process in self.processes)
         return not is_left and (self._is_cut_short or not are_all_services)
@@ -283,7 +314,9 @@ class Running:
     def _kill_all(self) -> None:
         for process in self.processes:
             if process.status is None:  # One that has ended may not be told of yet.
-                self._miss(Cause.KILLED, f"process {process.name} did not end within {GRACE_SECONDS:.0f} s, and was killed")
+                self._miss(
+                    Cause.KILLED, f"process {process.name} did not end within {GRACE_SECONDS:.0f} s, and was killed",
+                )
             process.end(signal.SIGKILL)
 
     @contextlib.contextmanager
@@ -333,7 +366,9 @@ class Running:
         for one in missing:
             self._miss(Cause.JOURNAL, one.text.replace("the journal", f"the journal of process {process.name}", 1))
         is_ended_by_us = process.described.is_service and process.is_ended_by_us
-        yield from (line for line in lines if line.endswith("\n") and not (is_ended_by_us and line == ENDED_AS_A_SERVICE))
+        yield from (
+            line for line in lines if line.endswith("\n") and not (is_ended_by_us and line == ENDED_AS_A_SERVICE)
+        )
 
 
 BORDERS = "borders"
@@ -364,7 +399,9 @@ def run_system(system: System, looking: Looking, fail_on_possible: bool = False,
         return keep_status(status_file, verdict, running.status)
 
 
-def _races_in_parts(system: System, looking: Looking, lines: list[str], folder: str, port: int, exports: str | None) -> Races:
+def _races_in_parts(
+    system: System, looking: Looking, lines: list[str], folder: str, port: int, exports: str | None,
+) -> Races:
     """The races of a system whose trace was divided. Each part has an export of its own, if one is asked for."""
     borders = os.path.join(folder, BORDERS)
     journal = f"{system.export}.journal" if system.export is not None else os.path.join(folder, "journal")

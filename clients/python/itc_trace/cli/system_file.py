@@ -83,14 +83,18 @@ def _path(folder: str, name: str | None) -> str | None:
     return None if name is None else os.path.join(folder, name)
 
 
+KEYS_OF_PROCESS = (
+    "command", "ready", "port", "after", "directory", "environment", "traced", "service", "watch", "watch_nothing",
+)
+
+
 def _described(reading: _Reading, name: str, told: Any, folder: str) -> Described:
     where = f"process {name}"
     if not NAME.fullmatch(name):
         raise Fault(f"{reading.file}: {where}: a name has letters, digits, _ and -, and at most 64 of them")
     if not isinstance(told, dict):
         raise Fault(f"{reading.file}: {where} is no table")
-    reading.nothing_else(
-        told, ("command", "ready", "port", "after", "directory", "environment", "traced", "service", "watch", "watch_nothing"), where)
+    reading.nothing_else(told, KEYS_OF_PROCESS, where)
     command = reading.texts(told, "command", where)
     if not command:
         raise Fault(f'{reading.file}: {where} has no command: give it one, as command = ["python3", "{name}.py"]')
@@ -104,7 +108,8 @@ def _described(reading: _Reading, name: str, told: Any, folder: str) -> Describe
         raise Fault(f"{reading.file}: {where}: port is a number from 1 to {MOST_PORT}")
     environment = reading.table(told, "environment", where) if "environment" in told else {}
     return Described(
-        name, command, os.path.join(folder, reading.text(told, "directory", where) or ""), reading.text(told, "ready", where), port,
+        name, command, os.path.join(folder, reading.text(told, "directory", where) or ""),
+        reading.text(told, "ready", where), port,
         reading.texts(told, "after", where), {key: reading.text(environment, key, where) or "" for key in environment},
         reading.flag(told, "traced", where, True), reading.flag(told, "service", where, False),
         None if reading.flag(told, "watch_nothing", where, False) else reading.texts(told, "watch", where),
@@ -154,7 +159,9 @@ class _Reading:
         for process in processes:
             for name in process.after:
                 if name not in names:
-                    raise Fault(f"{self.file}: process {process.name} comes after {name}, and there is no process of that name")
+                    raise Fault(
+                        f"{self.file}: process {process.name} comes after {name}, and there is no process of that name"
+                    )
         try:
             TopologicalSorter({process.name: process.after for process in processes}).prepare()
         except CycleError as error:

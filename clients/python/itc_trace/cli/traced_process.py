@@ -27,7 +27,8 @@ ENDING_SIGNALS = [getattr(signal, name) for name in ("SIGTERM", "SIGHUP") if has
 
 
 def begin_as_child(process: ChildProcess) -> None:
-    """In a process that `multiprocessing` has started anew, before it imports the program: from here on it is traced."""
+    """In a process that `multiprocessing` has started anew, before it imports the program:
+    from here on it is traced."""
     if process.packages is not None:
         watch.watch_loaded(process.folders, process.packages)
     traced = _tracing_of(process)
@@ -73,7 +74,9 @@ class Ending:
             if _handler_of(number) == signal.SIG_DFL:
                 _set_handler(number, self._end_by)
         if hasattr(os, "register_at_fork"):
-            os.register_at_fork(before=self._hold_signals, after_in_parent=self._let_signals, after_in_child=self._in_child)
+            os.register_at_fork(
+                before=self._hold_signals, after_in_parent=self._let_signals, after_in_child=self._in_child,
+            )
 
     def begin(self, folders: list[str], packages: list[str] | None, names: str | None = None) -> None:
         """From here on the end of this process is looked after, and its children are traced."""
@@ -122,7 +125,8 @@ class Ending:
         def replace(*words: Any, **named: Any) -> Any:
             if os.getpid() != self._process or words and not os.access(words[0], os.X_OK):
                 return original(*words, **named)
-            if not self._traced.is_child or watch.program_of(words[1] if len(words) > 1 else (), os.getcwd()) is not None:
+            command = words[1] if len(words) > 1 else ()
+            if not self._traced.is_child or watch.program_of(command, os.getcwd()) is not None:
                 self._traced.tell(ANOTHER_PROGRAM)
             journal = self._traced.journal
             self.finish()
@@ -135,7 +139,8 @@ class Ending:
         setattr(os, name, like(original, replace))
 
     def _show_no_handler(self) -> None:
-        """The program sees the effect of a signal by itself where the package has a handler, and asks for that one by this effect."""
+        """The program sees the effect of a signal by itself where the package has a handler,
+        and asks for that one by this effect."""
 
         def shown(handler: Any) -> Any:
             return signal.SIG_DFL if handler == self._end_by else handler
@@ -145,7 +150,8 @@ class Ending:
             return shown(_set_handler(signalnum, self._end_by if is_ours else handler))
 
         def interrupt_main(signum: int = signal.SIGINT, /) -> None:
-            if _handler_of(signum) != self._end_by:  # A signal that the program does not handle is not simulated, either.
+            # A signal that the program does not handle is not simulated, either.
+            if _handler_of(signum) != self._end_by:
                 _interrupt(signum)
 
         signal.signal = like(_set_handler, set_handler)

@@ -1,9 +1,11 @@
 """Gives a hook what an expression keeps on the stack of its frame while the rest of the expression is evaluated.
 
-A syntax tree has no word for such a value. A constant stands there instead, and an instruction takes its place in the compiled code,
-which copies the value. So no name is bound, and whatever frees the value in the plain program frees it here.
+A syntax tree has no word for such a value. A constant stands there instead, and an instruction takes its place in the
+compiled code, which copies the value. So no name is bound, and whatever frees the value in the plain program frees it
+here.
 
-How deep the value lies is asked of the compiler: it compiles the form of the expression, in which KEPT is the value, and HERE the copy.
+How deep the value lies is asked of the compiler: it compiles the form of the expression, in which KEPT is the value,
+and HERE the copy.
 """
 
 from __future__ import annotations
@@ -65,9 +67,11 @@ def place_of_wanted(hook: Any) -> int | None:
 
 
 def form_of_call(node: ast.Call, function: str, hooked: int | None = None) -> str:
-    """The form of a call that is kept within another one, for the hook at one of its arguments, or else for the function itself.
+    """The form of a call that is kept within another one, for the hook at one of its arguments, or else for the
+    function itself.
 
-    The arguments are counted with those that have names. Their number and their stars say how the compiler puts them on the stack.
+    The arguments are counted with those that have names. Their number and their stars say how the compiler puts them on
+    the stack.
     """
     words = ["*a" if isinstance(one, ast.Starred) else "a" for one in node.args]
     words += [f"k{place}=a" if one.arg is not None else "**a" for place, one in enumerate(node.keywords)]
@@ -81,7 +85,10 @@ def form_of_call(node: ast.Call, function: str, hooked: int | None = None) -> st
 
 @functools.lru_cache(maxsize=None)
 def form_of_argument(kept: int, hooked: int) -> str:
-    """The form of a call with a hook at one of its arguments, for the value of one before it. The hook is given those before that first."""
+    """The form of a call with a hook at one of its arguments, for the value of one before it.
+
+    The hook is given those before that first.
+    """
     words = ["a"] * hooked
     words[kept] = KEPT
     return f"function({', '.join(words)}, hook(a, {'a, ' * kept}{HERE}))"

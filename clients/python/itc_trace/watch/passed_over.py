@@ -11,10 +11,15 @@ from .learned import Learned
 
 BUILT_IN = frozenset(("exec", "eval", "memoryview"))
 _FUNCTIONS = frozenset(("mmap.mmap", "weakref.proxy"))
-_CHANGING = frozenset("append appendleft extend extendleft insert add discard remove pop popleft popitem update setdefault clear".split())
+_CHANGING = frozenset(
+    "append appendleft extend extendleft insert add discard remove pop popleft popitem update setdefault clear".split()
+)
 _CALLERS = frozenset("enter enterabs add_signal_handler add_reader add_writer".split())
 """Methods of the library that call what they are given, and are not followed."""
-_FOLLOWED = ("threading.", "concurrent.futures.", "asyncio.", "multiprocessing.", "functools.", "itertools.", "operator.", "contextlib.")
+_FOLLOWED = (
+    "threading.", "concurrent.futures.", "asyncio.", "multiprocessing.", "functools.", "itertools.", "operator.",
+    "contextlib.",
+)
 _FOLLOWED_ALONE = frozenset(("weakref.finalize", "atexit.register", "_thread.start_new_thread"))
 _MODULES = frozenset(("ctypes", "numpy", "pandas", "multiprocessing.shared_memory"))
 
@@ -31,7 +36,8 @@ def look_at_call(node: ast.Call, learned: Learned, is_builtin: Callable[[str], b
 
 
 def look_at_handed(node: ast.Call, learned: Learned, is_foreign: Callable[[ast.expr], bool], name: str | None) -> None:
-    """Keeps a method that changes a container, and that is handed to a function of the library which is not followed."""
+    """Keeps a method that changes a container,
+    and that is handed to a function of the library which is not followed."""
     is_method = isinstance(node.func, ast.Attribute) and node.func.attr in _CALLERS
     is_followed = name is not None and (name.startswith(_FOLLOWED) or name in _FOLLOWED_ALONE)
     if is_followed or not is_method and (name is None or not is_foreign(node.func)):

@@ -1,4 +1,5 @@
-"""Which variables of a module several tasks may share: what its functions and its own code bind, and who captures it."""
+"""Which variables of a module several tasks may share: what its functions and its own code bind,
+and who captures it."""
 
 from __future__ import annotations
 
@@ -12,21 +13,30 @@ from .learned import Learned
 
 FUNCTIONS = (ast.FunctionDef, ast.AsyncFunctionDef, ast.Lambda)
 COMPREHENSIONS = (ast.ListComp, ast.SetComp, ast.DictComp, ast.GeneratorExp)
-STARTERS = frozenset("start submit create_task ensure_future run_in_executor run_coroutine_threadsafe start_new_thread map".split())
+STARTERS = frozenset(
+    "start submit create_task ensure_future run_in_executor run_coroutine_threadsafe start_new_thread map".split()
+)
 """Methods behind which another task may be there."""
 
 MODULE, FUNCTION, CLASS, COMPREHENSION = "module", "function", "class", "comprehension"
 FIRST_BINDING, LATER_BINDING = 1, 2
 
 SCOPED, LATE = 1, 2
-"""What an expression has inside: variables of its own or a slice, and what may take its time or run code of the program."""
+"""What an expression has inside: variables of its own or a slice,
+and what may take its time or run code of the program."""
 SCOPED_KINDS = (*COMPREHENSIONS, ast.Lambda, ast.Slice)
 LATE_KINDS = (ast.Call, ast.Await, ast.Yield, ast.YieldFrom)
-WITHOUT_NODES = frozenset("id attr arg ctx op ops kind level module type_comment type_ignores simple is_async conversion rest kwd_attrs".split())
+WITHOUT_NODES = frozenset(
+    "id attr arg ctx op ops kind level module type_comment type_ignores simple is_async conversion rest "
+    "kwd_attrs".split()
+)
 """Fields of nodes that have no other nodes, or none with a place in the source."""
 
 DELEGATING = frozenset(("__getattr__", "__getattribute__"))
-"""Methods by which an object may give what another one has. Where a source defines one, it is among the fields that are stored."""
+"""Methods by which an object may give what another one has.
+
+Where a source defines one, it is among the fields that are stored.
+"""
 
 
 class Scope:
@@ -56,7 +66,8 @@ class Scope:
         self.is_after_start = False
         """Whether another task may be there already, where the source is looked at now."""
         self.calls_and_bindings: list[tuple[bool, str]] = []
-        """What follows the first call of a function that may start a task: each such call, and each name that is bound once."""
+        """What follows the first call of a function that may start a task: each such call,
+        and each name that is bound once."""
         self.shared: dict[str, bool] = {}
         self.local: dict[str, bool] = {}
         self.foreign: dict[str, bool] = {}
@@ -113,7 +124,10 @@ class Scope:
         return scope
 
     def bind(self, name: str, is_repeated: bool) -> None:
-        """Counts a binding. One that stands in a loop, or in another scope than the variable's own, counts as several."""
+        """Counts a binding.
+
+        One that stands in a loop, or in another scope than the variable's own, counts as several.
+        """
         owner = self.owner(name) if name in self.globals or name in self.nonlocals else self
         owner.bound[name] += LATER_BINDING if is_repeated or owner is not self else FIRST_BINDING
 
@@ -163,7 +177,9 @@ class Scopes:
             return owner.bound[name] > 0
         if owner.kind == MODULE and owner.is_open and name not in owner.defined and name not in owner.imported:
             return owner.bound[name] > 0 or not self.learned.is_builtin(name)
-        return name in owner.captured and (owner.kind == COMPREHENSION or owner.kind != CLASS and owner.bound[name] > FIRST_BINDING)
+        return name in owner.captured and (
+            owner.kind == COMPREHENSION or owner.kind != CLASS and owner.bound[name] > FIRST_BINDING
+        )
 
     # The walk
 
@@ -311,7 +327,8 @@ class Scopes:
         """Another task may be there once this was called: by its name, or as it is of another module of the program."""
         if isinstance(function, ast.Attribute):
             name = function.attr
-            of_program = isinstance(function.value, ast.Name) and self._is_of_program(function.value.id) or name in STARTERS
+            owner = function.value
+            of_program = isinstance(owner, ast.Name) and self._is_of_program(owner.id) or name in STARTERS
         else:
             name = function.id
             of_program = self._is_of_program(name)
@@ -371,7 +388,10 @@ class Scopes:
         return inside
 
     def _with_type_parameters(self, node: Any) -> Scope:
-        """The scope that a definition stands in. One with parameters for types has a scope around it, which has their names."""
+        """The scope that a definition stands in.
+
+        One with parameters for types has a scope around it, which has their names.
+        """
         parameters = getattr(node, "type_params", None)
         if not parameters:
             return self._scope
@@ -446,11 +466,11 @@ def _visit_of(kind: type) -> Visit:
     return visit
 
 
-def fields_of(kind: type) -> tuple[str, ...]:
+def fields_of(kind: type[ast.AST]) -> tuple[str, ...]:
     """The fields of a node that may have other nodes."""
     names = _FIELDS.get(kind)
     if names is None:
-        names = _FIELDS[kind] = tuple(name for name in kind._fields if name not in WITHOUT_NODES)  # type: ignore[attr-defined]
+        names = _FIELDS[kind] = tuple(name for name in kind._fields if name not in WITHOUT_NODES)
     return names
 
 
@@ -485,7 +505,8 @@ def _count_later(scope: Scope, starting: set[str]) -> None:
 
 
 def _starting_functions(called_by: dict[str, set[str]]) -> set[str]:
-    """The functions, methods and classes of a module that may start a task: by a starter, or by a call of another one of them."""
+    """The functions, methods and classes of a module that may start a task: by a starter,
+    or by a call of another one of them."""
     found = {name for name, names in called_by.items() if names & STARTERS}
     more = found
     while more:

@@ -1,7 +1,9 @@
-"""Finds what other modules of the program store: variables of modules, as `config.debug = True` does, and fields that may have methods.
+"""Finds what other modules of the program store: variables of modules, as `config.debug = True` does, and fields that
+may have methods.
 
-A module may be imported before the one that stores into it. So the sources of a folder are looked through, as texts, before the first
-module of it is rewritten. A name that is found without need costs a hook, and nothing else. What is found is kept for other runs.
+A module may be imported before the one that stores into it. So the sources of a folder are looked through, as texts,
+before the first module of it is rewritten. A name that is found without need costs a hook, and nothing else. What is
+found is kept for other runs.
 """
 
 from __future__ import annotations
@@ -54,7 +56,10 @@ class Source(NamedTuple):
 
 
 def look_through(folder: str) -> None:
-    """Keeps the names that the sources of a folder, and of the folders in it, store into what they import. Each folder is read once."""
+    """Keeps the names that the sources of a folder, and of the folders in it, store into what they import.
+
+    Each folder is read once.
+    """
     if folder not in _seen:
         folders: set[str] = set()
         sources = list(islice(_sources_in(folder, folders), MOST_FILES + 1))
@@ -69,7 +74,9 @@ def look_through(folder: str) -> None:
 def _sources_in(folder: str, folders_seen: set[str]) -> Iterator[Source]:
     """Not more than so many, and none of what is hidden or installed."""
     for place, folders, names in islice(os.walk(folder), MOST_FOLDERS):
-        folders[:] = [one for one in folders if not one.startswith((".", "__")) and one not in ("site-packages", "dist-packages")]
+        folders[:] = [
+            one for one in folders if not one.startswith((".", "__")) and one not in ("site-packages", "dist-packages")
+        ]
         folders_seen.add(place)
         for name in names:
             if name.endswith(".py"):
@@ -84,7 +91,10 @@ def _sources_in(folder: str, folders_seen: set[str]) -> Iterator[Source]:
 def _stored_in(folder: str, sources: list[Source]) -> tuple[set[str], set[str]]:
     if len(sources) < FEWEST_KEPT:
         return _stored_by_all(sources)
-    kept = Kept(os.path.join(folder, "__init__.py"), "names", repr([tuple(one) for one in sources]).encode("utf-8", "surrogateescape"))
+    kept = Kept(
+        os.path.join(folder, "__init__.py"), "names",
+        repr([tuple(one) for one in sources]).encode("utf-8", "surrogateescape"),
+    )
     found: tuple[set[str], set[str]] | None = kept.found(lambda made: True)
     if found is None:
         found = _stored_by_all(sources)
