@@ -10,11 +10,15 @@ import java.util.Set;
  * wait for. It is looked at with the tracer's lock held.
  */
 final class Gone {
-    /** So many messages are kept before it is looked which of them nobody can receive any more. */
-    private static final int MOST_KEPT = 6_000;
+    /**
+     * After so many more it is looked which of those that are kept are gone. A part of a trace has room for 2048 tasks, and each message
+     * that goes on from part to part takes its task along.
+     */
+    private static final int MANY = 1_000;
 
     private final ReferenceQueue<Object> queue = new ReferenceQueue<>();
     private final Set<Watched> kept = new HashSet<>();
+    private int limit = MANY;
 
     private static final class Watched extends PhantomReference<Object> {
         private final String line;
@@ -41,9 +45,15 @@ final class Gone {
             kept.remove(gone);
             lines.append(((Watched) gone).line).append('\n');
         }
+        limit = Math.min(limit, kept.size() + MANY);
     }
 
+    /** Whether so many are kept that a collection of garbage has to look which of them are gone. */
     boolean areMany() {
-        return kept.size() > MOST_KEPT;
+        if (kept.size() <= limit) {
+            return false;
+        }
+        limit = kept.size() + MANY;
+        return true;
     }
 }
