@@ -54,8 +54,8 @@ breaks_amid cause before after taken taken' tenant count rows loads breaks =
     inr (record { cause = cause; told = refl; count = count; rows = rows; loads = loads; is_export = is_export loads; breaks = breaks })
 
 -- a write fault that is told is one
-pub write_fault_is : (result : Result Loaded StreamFault) (cause : ExportFault) → IsErrAnd result (λ fault. fault ≡ stream_fault_of_export cause) → result ≡ Err Write → cause ≡ export.Write
+pub write_fault_is : {T : Type 0} (result : Result T StreamFault) (cause : ExportFault) → IsErrAnd result (λ fault. fault ≡ stream_fault_of_export cause) → result ≡ Err Write → cause ≡ export.Write
 write_fault_is result export.Write is told = refl
-write_fault_is result export.Memory is told =
-    let no : Write ≡ Memory = subst (λ (found : Result Loaded StreamFault). IsErrAnd found (λ fault. fault ≡ Memory)) told is in
+write_fault_is {T} result export.Memory is told =
+    let no : Write ≡ Memory = subst (λ (found : Result T StreamFault). IsErrAnd found (λ fault. fault ≡ Memory)) told is in
     absurd (cc)

@@ -8,7 +8,7 @@ use Rattle.trace_export.specs.declared.loaded.Loaded.{Loaded}
 use Rattle.trace_export.proofs.LoadedWhole.{breaks_amid, loads_done_whole, rows_named, write_fault_is}
 use Rattle.trace_export.proofs.Rerunning.{HasItsName}
 use Rattle.trace_export.proofs.WrittenRows.{IfErr-equal}
-use Rattle.trace_export.proofs.loading.load.Goals as goal
+use Rattle.trace_export.proofs.loading.load_whole.Goals as goal
 
 pub write_requests-requires : goal.write_requests-requires
 write_requests-requires g c =
@@ -36,8 +36,8 @@ returns-in_err-write_requests-in-Done-clause-faults g c = record {
   write_failed = search rules;
 }
 
-pub returns-in-Done-clause-loads : goal.returns-in-Done-clause-loads
-returns-in-Done-clause-loads g c =
+pub returns-in_ok-write_requests-in-Done-clause-loads : goal.returns-in_ok-write_requests-in-Done-clause-loads
+returns-in_ok-write_requests-in-Done-clause-loads g c =
     let rows = c.in_ok-follower.follower.ledger.rows in
     let loads = subst (λ (loaded : Loaded). LoadsAs (g.R.Source.seen c.args.reader.now) (g.R.Source.seen c.take_in.new.reader) loaded rows) c.in-Done.is c.in_ok-follower.ensures.loads in
     let writes = subst (λ (these : List Row). WritesLines (g.W.Sink.seen c.args.writer.now) (g.W.Sink.seen c.write_requests.new.writer) (request_lines c.args.tenant.now these)) c.rows.ensures.rows
