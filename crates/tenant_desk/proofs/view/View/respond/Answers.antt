@@ -21,6 +21,14 @@ invariant_of-self-in-Err c =
     (λ reader. IsOfDesk inside.seen.book inside.limits (known_at reader.place)) c.self.invariant.1 in
     (c.self.invariant.0, c.in-Err.ensures _ _ of)
 
+pub invariant_of-self-in-Err-2 : goal.invariant_of-self-in-Err-2
+invariant_of-self-in-Err-2 c =
+    let inside = c.self.inside in
+    let is : inside.reader ≡ Some c.in-Some.reader = sym c.take.ensures.value ∙ c.in-Some.is in
+    let of = value_there inside.reader c.in-Some.reader is
+    (λ reader. IsOfDesk inside.seen.book inside.limits (known_at reader.place)) c.self.invariant.1 in
+    (c.self.invariant.0, c.in-Err.ensures _ _ of)
+
 pub answer_published-requires : goal.answer_published-requires
 answer_published-requires c =
     let seen = c.events-events.ensures ∙ ap (λ (one : Published). one.events) c.get.ensures in
