@@ -11,3 +11,4 @@ mod Vectors
 mod NumberTexts
 mod Words
 mod Requests
+mod NameWords

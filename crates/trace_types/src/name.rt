@@ -1,13 +1,13 @@
 //! Names of tenants, tasks and messages.
-ghost use Rattle.std.specs.Prelude.{◌≡◌, ◌≤◌, ◌↔◌, IsTrue, IfSome, IsSome, length, nat_eq};
+ghost use Rattle.std.specs.Prelude.{◌≡◌, ◌≤◌, ◌↔◌, ◌++◌, IsTrue, IfSome, IsSome, length, nat_eq};
 ghost use Rattle.std.specs.Cmp.{on_equiv, on_per, partial_equiv_from_equiv};
 ghost use Rattle.std.specs.Cmp.Lexicographic.{pointwise, nat_list_eq_equiv};
 ghost use Rattle.std.specs.Cmp.Rules.{hashing};
 ghost use Rattle.std.specs.Hash as fed;
 ghost use Rattle.std.proofs.Common.{rules};
 ghost use Rattle.std.specs.List.{list_all};
-ghost use Rattle.trace_types.specs.text.Name.{is_name, is_name_byte, root};
-ghost use Rattle.trace_types.specs.text.NamePadding.{padded};
+ghost use Rattle.trace_types.specs.text.Name.{is_name, is_name_byte, is_same, root};
+ghost use Rattle.trace_types.specs.text.NamePadding.{padded, word_at, words_of};
 
 use std::hash::{Hash, Hasher};
 use std::marker::Model;
@@ -75,6 +75,16 @@ impl Name {
     {
         &self.bytes[..self.len as usize]
     }
+
+    /// Whether this is the text of the name. It looks at the length and the last byte first, by which most names differ.
+    #[inline(always)]
+    pub(crate) fn is(&self, text: &[u8]) -> bool
+        ensures same { result ≡ is_same self.now text.now }
+        ensures name { IsTrue result → IsTrue (is_name text.now) }
+    {
+        let own = self.as_bytes();
+        own.len() == text.len() && own[own.len() - 1] == text[own.len() - 1] && own == text
+    }
 }
 
 fn is_name(text: &[u8]) -> bool
@@ -105,15 +115,44 @@ fn padded(text: &[u8]) -> [u8; Name::MOST]
     bytes
 }
 
+/// The word of the eight bytes from this place on.
+#[inline(always)]
+fn word_at(bytes: &[u8; Name::MOST], start: usize) -> u64
+    requires { start ≤ 16 }
+    ensures { result ≡ word_at start bytes.now }
+{
+    let rest = &bytes[start..];
+    match rest.first_chunk::<8>() {
+        Some(word) => u64::from_ne_bytes(*word),
+        None => unreachable!(),
+    }
+}
+
+/// The bytes as three words.
+#[inline(always)]
+fn words(bytes: &[u8; Name::MOST]) -> (u64, u64, u64)
+    ensures { result ≡ words_of bytes.now }
+{
+    (word_at(bytes, 0), word_at(bytes, 8), word_at(bytes, 16))
+}
+
+/// Whether the bytes are the same. It compares them as three words.
+#[inline(always)]
+fn are_same(one: &[u8; Name::MOST], other: &[u8; Name::MOST]) -> bool
+    ensures { result ≡ pointwise nat_eq one.now other.now }
+{
+    words(one) == words(other)
+}
+
 impl PartialEq for Name {
     ghost eq = { pointwise nat_eq };
 
     ghost laws = { partial_equiv_from_equiv nat_list_eq_equiv };
 
-    /// Compares all bytes, some words at a time: behind the text both names have zeros.
+    /// Compares all bytes: behind the text both names have zeros.
     #[inline(always)]
     fn eq(&self, other: &Name) -> bool {
-        self.len == other.len && self.bytes == other.bytes
+        self.len == other.len && are_same(&self.bytes, &other.bytes)
     }
 }
 
@@ -122,11 +161,16 @@ impl Eq for Name {
 }
 
 impl Hash for Name {
-    ghost hash_input = { λ text. fed.slice fed.u8 text };
+    ghost hash_input = { λ text. let words = words_of (padded text) in fed.u64 words.0 ++ fed.u64 words.1 ++ fed.u64 words.2 };
 
     ghost respects_eq = { Prim.search (hashing, rules) };
 
+    /// Hashes the bytes as three words: behind the text each name has zeros.
+    #[inline(always)]
     fn hash<H: Hasher>(&self, state: &mut H) {
-        self.as_bytes().hash(state);
+        let (first, second, third) = words(&self.bytes);
+        state.write_u64(first);
+        state.write_u64(second);
+        state.write_u64(third);
     }
 }

@@ -109,7 +109,7 @@ fn place_of(names: &[Name], text: &[u8]) -> Option<usize>
     ensures name { IfSome result (λ _. IsTrue (is_name text.now)) }
 {
     for (place, name) in names.iter().enumerate() {
-        if name.as_bytes() == text {
+        if name.is(text) {
             return Some(place);
         }
     }
