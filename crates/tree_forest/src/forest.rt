@@ -14,7 +14,7 @@ use trace_types::Memory;
 /// How many maps there are, each behind a lock of its own.
 const SHARDS: usize = 16;
 
-/// For each digest the row that was last added under it.
+/// For each digest the row that was last added under it. Until that is known, it is the row that was next.
 type Shard = HashMap<u64, usize>;
 
 /// Keeps values for all threads, each in a row that stays as long as the forest.
@@ -84,13 +84,14 @@ impl<T: Shape + Drop> Forest<T> {
         ensures home { IfOk result (λ tree. IsOf self.now tree) }
     {
         let digest = value.digest();
-        if let Some(index) = self.index_of(rt, digest)
-            && let Some(tree) = self.found(index, value)?
-        {
+        let index = self.index_under(rt, digest)?;
+        if let Some(tree) = self.found(index, value)? {
             return Ok(tree);
         }
         let row = self.added(rt, value)?;
-        self.remember(rt, digest, row.index())?;
+        if row.index() != index {
+            self.remember(rt, digest, row.index())?;
+        }
         let kept = self.table.value(&row).share(self.alloc)?;
         Ok(Tree::of(self, self.alloc, kept, row))
     }
@@ -100,9 +101,14 @@ impl<T: Shape + Drop> Forest<T> {
         &self.shards[(digest % SHARDS as u64) as usize]
     }
 
-    /// The row that was last added under the digest.
-    fn index_of<R: Wait>(&self, rt: &R, digest: u64) -> Option<usize> {
-        self.shard(digest).lock(rt).get(&digest).copied()
+    /// The row to which the digest leads. A digest that leads to none leads to the next row from now on, which is that of
+    /// the value if no other thread adds a row first.
+    #[inline(always)]
+    fn index_under<R: Wait>(&self, rt: &R, digest: u64) -> Result<usize, Memory> {
+        let next = self.table.count();
+        let mut rows = self.shard(digest).lock(rt);
+        let entry = rows.entry(digest).map_err(|_| Memory)?;
+        Ok(*entry.or_insert(next))
     }
 
     /// The tree of the row, if the row has this value. It takes no lock.
@@ -131,6 +137,7 @@ impl<T: Shape + Drop> Forest<T> {
     }
 
     /// Has the digest lead to this row from now on.
+    #[inline(never)]
     fn remember<R: Wait>(&self, rt: &R, digest: u64, index: usize) -> Result<(), Memory> {
         self.shard(digest).lock(rt).insert(digest, index)?;
         Ok(())
