@@ -7,7 +7,7 @@ use crate::fault::Fault;
 use crate::show::show;
 use line_protocol::{Sink, Source};
 use std::alloc::{AllocError, Global};
-use trace_export::{Verdict, check};
+use trace_export::{Verdict, check_at_exit};
 
 /// Checks the export that the reader gives, tells the verdict, and answers the status.
 pub(crate) fn check_input<R: Source, W: Sink, E: Sink>(
@@ -33,7 +33,8 @@ pub(crate) fn check_input<R: Source, W: Sink, E: Sink>(
     }
 }
 
-/// Checks the export that the reader gives, writes the verdict, and answers the status for the verdict.
+/// Checks the export that the reader gives, writes the verdict, and answers the status for the verdict. The memory of its lines is
+/// left to the end of the process.
 fn tell_verdict<R: Source, W: Sink>(
     alloc: Global,
     reader: &mut R,
@@ -48,7 +49,7 @@ fn tell_verdict<R: Source, W: Sink>(
         IsFailure (R.seen reader.old) (R.seen reader.new) (W.seen writer.old) (W.seen writer.new) fault
         × ChecksInPart R.seen fault reader.old reader.new (W.seen writer.old) (W.seen writer.new)) }
 {
-    let verdict = check(alloc, reader)?;
+    let verdict = check_at_exit(alloc, reader)?;
     let line = verdict_line(alloc, verdict).map_err(|_| Fault::Memory)?;
     show(writer, line.as_str())?;
     Ok(verdict_status(verdict))

@@ -3,8 +3,8 @@
 //! Use it to run the program with other streams than the standard ones.
 //!
 //! The contract that carries it is that of [`run`], the definition `Runs` in `specs/`. It says what was done by the
-//! contracts of `replay` and `replay_export` of `trace_world`, of `check` and `load` of `trace_export`, and of `TcpDoor`
-//! of `tcp_door`. What words ask for is defined in `Demand` and `Reading` of `command_line`.
+//! contracts of `replay` and `replay_export` of `trace_world`, of `check_at_exit` and `load_at_exit` of `trace_export`,
+//! and of `TcpDoor` of `tcp_door`. What words ask for is defined in `Demand` and `Reading` of `command_line`.
 //!
 //! ```
 //! use collector::run;

@@ -8,7 +8,7 @@ use crate::fault::Fault;
 use crate::show::show;
 use line_protocol::{Sink, Source, flush};
 use std::alloc::{AllocError, Global};
-use trace_export::{Loaded, Reason, load};
+use trace_export::{Loaded, Reason, load_at_exit};
 use trace_types::Name;
 
 /// Loads the export that the reader gives, and answers the status. It tells why the export is not loaded, if it is not.
@@ -43,7 +43,7 @@ pub(crate) fn load_input<T, R: Source, W: Sink, E: Sink>(
 }
 
 /// Loads the export that the reader gives, and hands on what was written. It gives the line that tells why the export is not
-/// loaded, if it is not.
+/// loaded, if it is not. The memory of its tenant is left to the end of the process.
 fn load_export<T, R: Source, W: Sink>(
     rt: &T,
     alloc: Global,
@@ -64,7 +64,7 @@ fn load_export<T, R: Source, W: Sink>(
     let Some(name) = Name::read(tenant.as_bytes()) else {
         return Err(Fault::Tenants);
     };
-    let loaded = load(rt, alloc, reader, &name, writer)?;
+    let loaded = load_at_exit(rt, alloc, reader, &name, writer)?;
     flush(writer).map_err(|_| Fault::Write)?;
     match loaded {
         Loaded::Done(_) => Ok(None),

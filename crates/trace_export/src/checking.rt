@@ -7,6 +7,7 @@ use crate::checked::Checked;
 use crate::{CheckFault, Reason, Verdict};
 use line_protocol::{Buffer, Line, Source};
 use std::alloc::Global;
+use std::mem::ManuallyDrop;
 use tenant_ledger::Stack;
 use trace_types::Memory;
 
@@ -38,6 +39,39 @@ pub fn check<R: Source>(alloc: Global, reader: &mut R) -> Result<Verdict, CheckF
     ensures read { IsErrOf result CheckFault.Read ↔ ((R.seen reader.old).failures < (R.seen reader.new).failures) }
     ensures too_long { IsErrOf result CheckFault.TooLong → (R.seen reader.new).reads ≡ (R.seen reader.old).reads + 2 ^ 30 }
 {
+    let (_checked, verdict) = take_in(alloc, reader)?;
+    Ok(verdict)
+}
+
+/// Checks as [`check`] does, and leaves the memory of a verdict's lines to the end of the process. Use it if the process ends
+/// next: to give the trees back one by one would only take time.
+pub fn check_at_exit<R: Source>(alloc: Global, reader: &mut R) -> Result<Verdict, CheckFault>
+    ensures verdict { IfOk result (Judges (R.seen reader.old) (R.seen reader.new)) }
+
+    // How much is read.
+    ensures reads { (R.seen reader.new).reads ≤ (R.seen reader.old).reads + 2 ^ 30 }
+    ensures ends { StopsAtEnd (R.seen reader.old) (R.seen reader.new) }
+    ensures stops { IfOk result (StopsReading R.seen reader.old reader.new) }
+
+    // When each fault comes. A failed read is never passed over.
+    ensures read { IsErrOf result CheckFault.Read ↔ ((R.seen reader.old).failures < (R.seen reader.new).failures) }
+    ensures too_long { IsErrOf result CheckFault.TooLong → (R.seen reader.new).reads ≡ (R.seen reader.old).reads + 2 ^ 30 }
+{
+    let (checked, verdict) = take_in(alloc, reader)?;
+    // It is not dropped.
+    let _ = ManuallyDrop::new(checked);
+    Ok(verdict)
+}
+
+/// Takes in all lines, or those before the first faulty one, and gives what is kept of them with the verdict.
+fn take_in<R: Source>(alloc: Global, reader: &mut R) -> Result<(Checked, Verdict), CheckFault>
+    ensures verdict { IfOk result (λ done. Judges (R.seen reader.old) (R.seen reader.new) done.1) }
+    ensures reads { (R.seen reader.new).reads ≤ (R.seen reader.old).reads + 2 ^ 30 }
+    ensures ends { StopsAtEnd (R.seen reader.old) (R.seen reader.new) }
+    ensures stops { IfOk result (λ done. StopsReading R.seen reader.old reader.new done.1) }
+    ensures read { IsErrOf result CheckFault.Read ↔ ((R.seen reader.old).failures < (R.seen reader.new).failures) }
+    ensures too_long { IsErrOf result CheckFault.TooLong → (R.seen reader.new).reads ≡ (R.seen reader.old).reads + 2 ^ 30 }
+{
     let mut lines = Buffer::with_bounds(alloc, MOST_BYTES, MOST_READS)?;
     let mut checked = Checked::new(alloc)?;
     let mut stack = Stack::new();
@@ -47,7 +81,7 @@ pub fn check<R: Source>(alloc: Global, reader: &mut R) -> Result<Verdict, CheckF
         let (next, verdict) = judge(checked, alloc, found, lines.line())?;
         checked = next;
         if let Some(verdict) = verdict {
-            return Ok(verdict);
+            return Ok((checked, verdict));
         }
     }
 }

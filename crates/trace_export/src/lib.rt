@@ -49,13 +49,13 @@ mod stamp_texts;
 mod verdict;
 
 pub use check_fault::CheckFault;
-pub use checking::check;
+pub use checking::{check, check_at_exit};
 pub use export_fault::ExportFault;
 pub use exporting::export_rows;
 pub use header::Header;
 pub use line_protocol::StreamFault as LoadFault;
 pub use loaded::Loaded;
-pub use loading::load;
+pub use loading::{load, load_at_exit};
 pub use reason::Reason;
 pub use stamp_texts::StampTexts;
 pub use verdict::Verdict;

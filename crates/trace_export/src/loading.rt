@@ -12,6 +12,7 @@ use crate::requests::write_requests;
 use crate::{LoadFault, Loaded, Reason};
 use line_protocol::{Buffer, Line, Sink, Source};
 use std::alloc::Global;
+use std::mem::ManuallyDrop;
 use tenant_ledger::Stack;
 use trace_types::{Memory, Name};
 
@@ -43,13 +44,58 @@ pub fn load<T, R: Source, W: Sink>(
     // When each fault comes. A failed read or write is never passed over.
     ensures faults { PassesNoFaultOver (R.seen reader.old) (R.seen reader.new) (W.seen writer.old) (W.seen writer.new) result }
 {
+    let (_follower, loaded) = load_whole(rt, alloc, reader, tenant, writer)?;
+    Ok(loaded)
+}
+
+/// Loads as [`load`] does, and leaves the memory of what is loaded to the end of the process. Use it if the process ends next:
+/// to give the trees back one by one would only take time.
+pub fn load_at_exit<T, R: Source, W: Sink>(
+    rt: &T,
+    alloc: Global,
+    reader: &mut R,
+    tenant: &Name,
+    writer: &mut W,
+) -> Result<Loaded, LoadFault>
+    ensures loads { IfOk result (Loads (R.seen reader.old) (R.seen reader.new) (W.seen writer.old) (W.seen writer.new) tenant.now) }
+    ensures fault { IfErr result (λ fault. BreaksLoading fault (R.seen reader.old) (R.seen reader.new) (W.seen writer.old) (W.seen writer.new) tenant.now) }
+
+    // How much is read.
+    ensures reads { (R.seen reader.new).reads ≤ (R.seen reader.old).reads + 2 ^ 30 }
+    ensures ends { StopsAtEnd (R.seen reader.old) (R.seen reader.new) }
+    ensures stops { IfOk result (StopsLoading R.seen reader.old reader.new) }
+
+    // When each fault comes. A failed read or write is never passed over.
+    ensures faults { PassesNoFaultOver (R.seen reader.old) (R.seen reader.new) (W.seen writer.old) (W.seen writer.new) result }
+{
+    let (follower, loaded) = load_whole(rt, alloc, reader, tenant, writer)?;
+    // It is not dropped.
+    let _ = ManuallyDrop::new(follower);
+    Ok(loaded)
+}
+
+/// Loads as [`load`] does, and gives what the lines lead to with what loading answers.
+fn load_whole<T, R: Source, W: Sink>(
+    rt: &T,
+    alloc: Global,
+    reader: &mut R,
+    tenant: &Name,
+    writer: &mut W,
+) -> Result<(Follower, Loaded), LoadFault>
+    ensures loads { IfOk result (λ done. Loads (R.seen reader.old) (R.seen reader.new) (W.seen writer.old) (W.seen writer.new) tenant.now done.1) }
+    ensures fault { IfErr result (λ fault. BreaksLoading fault (R.seen reader.old) (R.seen reader.new) (W.seen writer.old) (W.seen writer.new) tenant.now) }
+    ensures reads { (R.seen reader.new).reads ≤ (R.seen reader.old).reads + 2 ^ 30 }
+    ensures ends { StopsAtEnd (R.seen reader.old) (R.seen reader.new) }
+    ensures stops { IfOk result (λ done. StopsLoading R.seen reader.old reader.new done.1) }
+    ensures faults { PassesNoFaultOver (R.seen reader.old) (R.seen reader.new) (W.seen writer.old) (W.seen writer.new) result }
+{
     let (follower, loaded) = take_in(rt, alloc, Follower::new(alloc, &None)?, reader)?;
     match loaded {
         Loaded::Done(events) => {
             write_requests(alloc, tenant, follower.ledger.rows(), writer)?;
-            Ok(Loaded::Done(events))
+            Ok((follower, Loaded::Done(events)))
         }
-        Loaded::No(line, reason) => Ok(Loaded::No(line, reason)),
+        Loaded::No(line, reason) => Ok((follower, Loaded::No(line, reason))),
     }
 }
 

@@ -10,9 +10,9 @@ use Rattle.trace_export.specs.ReadTo.{StopsAtLine}
 use Rattle.trace_export.specs.declared.header.Header.{Header}
 use Rattle.trace_export.proofs.Judging.{FoundRight, FindsOn, counts_more, export_bounds, found_count, found_none, judges_over, judged_right, line_count, stops_over, was_read_to_end}
 use Rattle.trace_export.proofs.Stopping.{stops_next}
-use Rattle.trace_export.proofs.checking.check.Goals as goal
-use Rattle.trace_export.proofs.checking.check.Given.{Over}
-use Rattle.trace_export.proofs.checking.check.Goals.{After-judge}
+use Rattle.trace_export.proofs.checking.take_in.Goals as goal
+use Rattle.trace_export.proofs.checking.take_in.Given.{Over}
+use Rattle.trace_export.proofs.checking.take_in.Goals.{After-judge}
 
 -- all reads that were made
 reads_so_far : (g : Over) (c : After-judge g) → Reads (g.R.Source.seen c.args.reader.now) (g.R.Source.seen c.next_line.new.source) (fresh_within export_bounds) c.next_line.new.self 0

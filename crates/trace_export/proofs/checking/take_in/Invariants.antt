@@ -4,7 +4,7 @@ use Rattle.line_protocol.specs.LineReading.{Reads, work_left}
 use Rattle.trace_export.specs.Checked.{IsKept, header_in, placing_in}
 use Rattle.trace_export.specs.ReadTo.{StopsAtLine}
 use Rattle.trace_export.proofs.Judging.{FoundRight, export_bounds, line_count}
-use Rattle.trace_export.proofs.checking.check.Given as goal
+use Rattle.trace_export.proofs.checking.take_in.Given as goal
 
 abbrev pub invariant-loop-checked : goal.invariant-loop-checked
 invariant-loop-checked g l = record {

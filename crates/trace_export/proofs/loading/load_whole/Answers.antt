@@ -8,7 +8,7 @@ use Rattle.trace_export.specs.declared.loaded.Loaded.{Loaded}
 use Rattle.trace_export.proofs.LoadedWhole.{breaks_amid, loads_done_whole, rows_named, write_fault_is}
 use Rattle.trace_export.proofs.Rerunning.{HasItsName}
 use Rattle.trace_export.proofs.WrittenRows.{IfErr-equal}
-use Rattle.trace_export.proofs.loading.load.Goals as goal
+use Rattle.trace_export.proofs.loading.load_whole.Goals as goal
 
 pub write_requests-requires : goal.write_requests-requires
 write_requests-requires g c =
