@@ -2,6 +2,7 @@
 use Rattle.std.specs.Prelude.{◌≡◌, ℕ, suc, ◌+◌, ◌-◌, ◌*◌, ◌<◌, ◌≤◌, ◌↔◌, ◌⊎◌, List, [], length, map, All, Contains, Option, None}
 use Rattle.std.specs.List.{slice_index_or}
 use Rattle.trace_types.specs.clock.EventTree.{EventTree}
+use Rattle.trace_types.specs.clock.Join.{join}
 use Rattle.event_tree.specs.Comparison.{IsBelow}
 use Rattle.event_tree.specs.declared.point.RaisedPoint.{RaisedPoint}
 use Rattle.trace_export.specs.Bits.{HasBit}
@@ -67,6 +68,12 @@ pub record IsKeptGraph (graph : Graph) : Type 0 where
   pub chained : length graph.chains.before.items ≡ length graph.reaching.items
   pub ends_room : 16384 < 64 * length graph.chains.tails.items
   pub points : ArePoints graph.hints.points.items graph.placed.items
+
+-- the tree is that of the one event, or the join of those of the two
+abbrev pub IsJoinOf : Placing → List ℕ → EventTree → Type 0
+IsJoinOf placing events tree =
+    ((length events ≡ 1) × (tree ≡ listed_tree placing (slice_index_or events 0 0)))
+    ⊎ ((length events ≡ 2) × (tree ≡ join (listed_tree placing (slice_index_or events 0 0)) (listed_tree placing (slice_index_or events 1 0))))
 
 -- it is made of all events
 abbrev pub IsWhole : Graph → Type 0

@@ -1,10 +1,11 @@
 //! What is kept of right lines, with which the next one is compared.
-ghost use Rattle.std.specs.Prelude.{◌≡◌, ℕ, suc, ◌+◌, ◌*◌, ◌<◌, ◌≤◌, ◌++◌, ◌∷◌, ◌↔◌, ◌⊎◌, ◌-◌, [], IfErr, IfOk, IsTrue, length, vec_len, vec_capacity, All, Contains, OnOk, false};
+ghost use Rattle.std.specs.Prelude.{◌≡◌, ℕ, suc, ◌+◌, ◌*◌, ◌<◌, ◌≤◌, ◌++◌, ◌∷◌, ◌↔◌, ◌⊎◌, ◌-◌, [], IfErr, IfNone, IfOk, IfSome, IsTrue, length, vec_len, vec_capacity, All, Contains, OnOk, false};
+ghost use Rattle.trace_types.specs.clock.EventTree.{Leaf};
 ghost use Rattle.trace_types.specs.tenant.Rows.{history_of};
 ghost use Rattle.trace_export.specs.Bits.{HasBit};
-ghost use Rattle.trace_export.specs.Edges.{IsPlaced, AreOrderedAlike, listed_preds, placed_at};
+ghost use Rattle.trace_export.specs.Edges.{IsPlaced, AreOrderedAlike, listed_preds, listed_tree, placed_at};
 ghost use Rattle.trace_export.specs.Following.{placing_of};
-ghost use Rattle.trace_export.specs.Graph.{AreEarlier, HaveRoom, IsKeptGraph, IsReachedBy, IsWhole, rows_of, reaching_row};
+ghost use Rattle.trace_export.specs.Graph.{AreEarlier, HaveRoom, IsJoinOf, IsKeptGraph, IsReachedBy, IsWhole, rows_of, reaching_row};
 ghost use Rattle.trace_export.specs.Raised.{IsPointOf};
 ghost use Rattle.trace_export.specs.Verdict.{IsOrderedNext};
 
@@ -80,6 +81,7 @@ impl Graph {
             × (¬ AreOrderedAlike (self.old.placed.items ++ placed ∷ []) other (suc (length self.old.placed.items))))) }
         ensures same { IfOk result (λ added. added ≡ false → self.new.placed.items ≡ self.old.placed.items) }
         ensures memory { IfErr result (λ _. (self.new.placed.items ≡ self.old.placed.items) × IsKeptGraph self.new) }
+        ensures given_back { self.old.hints.are_kept ≡ false → self.new.hints.are_kept ≡ false }
     {
         self.complete(alloc)?;
         let reaching = self.reached_by(alloc, placed.preds.as_slice())?;
@@ -123,6 +125,8 @@ impl Graph {
     /// Gives back what is kept for speed alone, and keeps none of it from now on. It says whether there was anything.
     pub(crate) fn give_back(&mut self, alloc: Global) -> bool
         requires graph { IsKeptGraph self.old }
+        ensures told { result ≡ self.old.hints.are_kept }
+        ensures given_back { self.new.hints.are_kept ≡ false }
         ensures placed { self.new.placed.items ≡ self.old.placed.items }
         ensures graph { IsKeptGraph self.new }
     {
@@ -135,6 +139,7 @@ impl Graph {
         ensures placed { self.new.placed ≡ self.old.placed }
         ensures graph { IsKeptGraph self.new }
         ensures whole { OnOk result (IsWhole self.new) }
+        ensures given_back { self.old.hints.are_kept ≡ false → self.new.hints.are_kept ≡ false }
     {
         while self.reaching.len() < self.placed.len() {
             self.add_row(alloc)?;
@@ -150,6 +155,7 @@ impl Graph {
         ensures placed { self.new.placed ≡ self.old.placed }
         ensures graph { IsKeptGraph self.new }
         ensures one { OnOk result (length self.new.reaching.items ≡ suc (length self.old.reaching.items)) }
+        ensures hints { self.new.hints ≡ self.old.hints }
     {
         let preds = self.placed[self.reaching.len()].preds.share();
         let row = self.reached_by(alloc, preds.as_slice())?;
@@ -165,6 +171,7 @@ impl Graph {
         ensures placed { self.new.placed ≡ self.old.placed }
         ensures reaching { self.new.reaching ≡ self.old.reaching }
         ensures graph { IsKeptGraph self.new }
+        ensures given_back { self.old.hints.are_kept ≡ false → self.new.hints.are_kept ≡ false }
     {
         for place in self.hints.len()..self.placed.len() {
             if !self.hints.are_kept() {
@@ -184,6 +191,7 @@ impl Graph {
         ensures graph { IsKeptGraph self.new }
         ensures placed { self.new.placed.items ≡ self.old.placed.items }
         ensures reaching { self.new.reaching.items ≡ self.old.reaching.items }
+        ensures hints { self.new.hints ≡ self.old.hints }
         ensures room { OnOk result ((vec_len self.new.placed < vec_capacity self.new.placed) × (vec_len self.new.reaching < vec_capacity self.new.reaching)
             × (vec_len self.new.chains.before < vec_capacity self.new.chains.before)) }
     {
@@ -273,7 +281,9 @@ impl Graph {
     }
 
     /// The join of the trees of these events. It is 0 everywhere if one of them is not there, or if memory runs out.
-    pub(crate) fn join_of(&self, alloc: Global, preds: &Preds) -> EvTree {
+    pub(crate) fn join_of(&self, alloc: Global, preds: &Preds) -> EvTree
+        ensures { (result ≡ Leaf 0) ⊎ IsJoinOf self.now.placed.items preds.now result }
+    {
         match self.try_join(alloc, preds) {
             Some(join) => join,
             None => EvTree::leaf(0),
@@ -281,7 +291,9 @@ impl Graph {
     }
 
     /// The join of the trees of these events, if they are there and memory does not run out.
-    fn try_join(&self, alloc: Global, preds: &Preds) -> Option<EvTree> {
+    fn try_join(&self, alloc: Global, preds: &Preds) -> Option<EvTree>
+        ensures { IfSome result (IsJoinOf self.now.placed.items preds.now) }
+    {
         match *preds.as_slice() {
             [one] => self.tree_of(one)?.share(alloc).ok(),
             [first, second] => self.tree_of(first)?.join(alloc, self.tree_of(second)?).ok(),
@@ -290,9 +302,14 @@ impl Graph {
     }
 
     /// The tree of the event, if it is there.
-    fn tree_of(&self, event: u64) -> Option<&EvTree> {
-        let placed = self.placed.get((event as usize).checked_sub(1)?)?;
-        Some(&placed.tree)
+    fn tree_of(&self, event: u64) -> Option<&EvTree>
+        ensures there { IfSome result (λ tree. tree.now ≡ listed_tree self.now.placed.items event) }
+        ensures none { IfNone result (IsPlaced self.now.placed.items event → ⊥) }
+    {
+        if event == 0 || event > self.placed.len() as u64 {
+            return None;
+        }
+        Some(&self.at(event as usize).tree)
     }
 
     /// What is listed of the event.

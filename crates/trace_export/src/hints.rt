@@ -1,5 +1,5 @@
 //! What tells soon how the trees of events compare.
-ghost use Rattle.std.specs.Prelude.{◌≡◌, ◌-◌, ◌↔◌, [], None, IsTrue, slice_index_or};
+ghost use Rattle.std.specs.Prelude.{◌≡◌, ◌-◌, ◌↔◌, [], None, IsTrue, false, slice_index_or};
 ghost use Rattle.event_tree.specs.Comparison.{IsBelow};
 ghost use Rattle.trace_export.specs.Raised.{IsForgotten, IsHigher, IsPutAt};
 
@@ -36,6 +36,9 @@ impl Hints {
 
     /// Gives back what they take, and keeps none from now on. It says whether there was anything to be given back.
     pub(crate) fn give_back(&mut self, alloc: Global) -> bool
+        ensures told { result ≡ self.old.are_kept }
+        ensures given_back { self.new.are_kept ≡ false }
+        ensures sides { self.new.sides.items ≡ [] }
         ensures none { self.new.points.items ≡ [] }
     {
         let were_kept = self.are_kept;
@@ -47,7 +50,9 @@ impl Hints {
     }
 
     /// Whether hints are to be kept.
-    pub(crate) fn are_kept(&self) -> bool {
+    pub(crate) fn are_kept(&self) -> bool
+        ensures { result ≡ self.now.are_kept }
+    {
         self.are_kept
     }
 
@@ -59,7 +64,8 @@ impl Hints {
     /// Keeps the sides of the tree that was compared, and this point of it. Its event is at this place, and comes next. If there
     /// is no memory for them, all are given back.
     pub(crate) fn put(&mut self, alloc: Global, place: usize, point: Option<RaisedPoint>)
-        ensures { IsPutAt place point self.old.points.items self.new.points.items }
+        ensures points { IsPutAt place point self.old.points.items self.new.points.items }
+        ensures given_back { self.old.are_kept ≡ false → self.new.are_kept ≡ false }
     {
         let is_next = self.are_kept && self.points.len() == place;
         let own = mem::replace(&mut self.own, Sides::new(alloc));
@@ -74,6 +80,7 @@ impl Hints {
     pub(crate) fn is_higher(&mut self, event: usize, other: &EvTree) -> bool
         ensures higher { IsTrue result → IsHigher (slice_index_or self.old.points.items (event - 1) None) other.now }
         ensures points { IsForgotten (event - 1) self.old.points.items self.new.points.items }
+        ensures kept { self.new.are_kept ≡ self.old.are_kept }
     {
         if event == 0 || self.points.len() < event {
             return false;
@@ -97,6 +104,7 @@ impl Hints {
     ) -> bool
         ensures below { IsTrue result ↔ IsBelow lower.now upper.now }
         ensures points { self.new.points ≡ self.old.points }
+        ensures kept { self.new.are_kept ≡ self.old.are_kept }
     {
         if event == 0 || self.sides.len() < event {
             return lower.leq(upper);

@@ -1,8 +1,9 @@
 //! The adding of events that lines list.
-ghost use Rattle.std.specs.Prelude.{◌≡◌, ◌≤◌, ◌++◌, ◌∷◌, [], IfErr, IfOk, IfSome, IfNone, length};
+ghost use Rattle.std.specs.Prelude.{◌≡◌, ◌≤◌, ◌++◌, ◌∷◌, ◌⊎◌, [], false, IfErr, IfOk, IfSome, IfNone, length};
+ghost use Rattle.trace_types.specs.clock.EventTree.{Leaf};
 ghost use Rattle.trace_export.specs.declared.placed.Placed.{Placed};
 ghost use Rattle.trace_export.specs.Checked.{IsAdded};
-ghost use Rattle.trace_export.specs.Graph.{IsKeptGraph};
+ghost use Rattle.trace_export.specs.Graph.{IsJoinOf, IsKeptGraph};
 ghost use Rattle.trace_export.specs.Listing.{listed_of};
 ghost use Rattle.trace_export.specs.Verdict.{IsRefusedFor, ComesNext, IsOrderedNext};
 
@@ -30,7 +31,9 @@ impl Graph {
     ) -> Result<Added, Memory>
         requires graph { IsKeptGraph self.old }
         requires short { length line.now ≤ 65536 }
-        ensures { IfOk result (IsAdded is_first line.now self.old self.new) }
+        ensures added { IfOk result (IsAdded is_first line.now self.old self.new) }
+        // Memory runs out only once nothing is kept for speed alone.
+        ensures memory { IfErr result (λ _. self.new.hints.are_kept ≡ false) }
     {
         let added = self.try_line(alloc, line, is_first);
         if added.is_ok() || !self.give_back(alloc) {
@@ -45,6 +48,7 @@ impl Graph {
         requires short { length line.now ≤ 65536 }
         ensures added { IfOk result (IsAdded is_first line.now self.old self.new) }
         ensures memory { IfErr result (λ _. (self.new.placed.items ≡ self.old.placed.items) × IsKeptGraph self.new) }
+        ensures given_back { self.old.hints.are_kept ≡ false → self.new.hints.are_kept ≡ false }
     {
         let json = read_json(alloc, line)?;
         match line_of(alloc, &json, is_first) {
@@ -75,6 +79,7 @@ impl Graph {
         ensures refused { IfOk result (λ fault. IfSome fault (λ reason. IsRefusedFor reason self.old.placed.items (listed_of listed.now)
             × (self.new.placed.items ≡ self.old.placed.items))) }
         ensures memory { IfErr result (λ _. (self.new.placed.items ≡ self.old.placed.items) × IsKeptGraph self.new) }
+        ensures given_back { self.old.hints.are_kept ≡ false → self.new.hints.are_kept ≡ false }
     {
         let number = self.len() as u64 + 1;
         match place(alloc, number, listed, join)? {
@@ -92,7 +97,9 @@ impl Graph {
 
     /// The join of the trees of the events that the listed one follows, which its tree is like. It is 0 everywhere if the
     /// event may not come next.
-    fn join_before(&self, alloc: Global, listed: &EventLine<'_>) -> EvTree {
+    fn join_before(&self, alloc: Global, listed: &EventLine<'_>) -> EvTree
+        ensures { (result ≡ Leaf 0) ⊎ IsJoinOf self.now.placed.items listed.now.preds result }
+    {
         let number = self.len() as u64 + 1;
         let is_next = listed.event == number && number <= Limits::MOST_EVENTS;
         if is_next && are_increasing_before(&listed.preds, number) {

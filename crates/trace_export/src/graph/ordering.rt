@@ -23,6 +23,7 @@ impl Graph {
         requires reaching { AreReaching (self.now.placed.items ++ placed.now ∷ []) reaching.now (suc (length self.now.placed.items)) }
         requires points { ArePoints hints.old.points.items self.now.placed.items }
         ensures points { ArePoints hints.new.points.items self.now.placed.items }
+        ensures kept { hints.new.are_kept ≡ hints.old.are_kept }
         ensures ordered { IsTrue result → IsOrderedNext self.now.placed.items placed.now }
         ensures refuted { result ≡ false → ((other : ℕ) × IsPlaced self.now.placed.items other
             × (¬ AreOrderedAlike (self.now.placed.items ++ placed.now ∷ []) other (suc (length self.now.placed.items)))) }
@@ -56,6 +57,7 @@ impl Graph {
         requires closed { AreClosed self.now.placed.items reaching.now }
         requires points { ArePoints hints.old.points.items self.now.placed.items }
         ensures points { ArePoints hints.new.points.items self.now.placed.items }
+        ensures kept { hints.new.are_kept ≡ hints.old.are_kept }
         ensures apart { IsTrue result → (event : ℕ) → IsPlaced self.now.placed.items event
             → IsApartFrom self.now.placed.items self.now.followed.items reaching.now placed.now.tree event }
         ensures refuted { result ≡ false → ((event : ℕ) × IsPlaced self.now.placed.items event
@@ -87,6 +89,7 @@ impl Graph {
         requires event { IsPlaced self.now.placed.items event }
         requires points { ArePoints hints.old.points.items self.now.placed.items }
         ensures points { ArePoints hints.new.points.items self.now.placed.items }
+        ensures kept { hints.new.are_kept ≡ hints.old.are_kept }
         ensures apart { IsTrue result → IsApartFromChain self.now.placed.items self.now.chains.before.items self.now.followed.items reaching.now placed.now.tree event }
         ensures refuted { result ≡ false → ((other : ℕ) × IsPlaced self.now.placed.items other
             × IsRefutedBy self.now.placed.items reaching.now placed.now.tree other) }
@@ -105,6 +108,7 @@ impl Graph {
         requires above { All (λ pred. IsBelow (listed_tree self.now.placed.items pred) placed.now.tree) placed.now.preds }
         requires event { IsPlaced self.now.placed.items event }
         ensures points { hints.new.points ≡ hints.old.points }
+        ensures kept { hints.new.are_kept ≡ hints.old.are_kept }
         ensures below { IsTrue result → IsBelow placed.now.tree (listed_tree self.now.placed.items event) }
         ensures not_below { result ≡ false → (¬ HasBit self.now.followed.items (event - 1)) → ¬ IsBelow placed.now.tree (listed_tree self.now.placed.items event) }
     {
@@ -131,6 +135,7 @@ impl Graph {
         requires event { IsPlaced self.now.placed.items event }
         requires points { ArePoints hints.old.points.items self.now.placed.items }
         ensures points { ArePoints hints.new.points.items self.now.placed.items }
+        ensures kept { hints.new.are_kept ≡ hints.old.are_kept }
         ensures above { IsTrue result → (other : ℕ) × IsPlaced self.now.placed.items other
             × (¬ HasBit reaching.now (other - 1)) × IsBelow (listed_tree self.now.placed.items other) tree.now }
         ensures not_above { result ≡ false → (other : ℕ) → IsPlaced self.now.placed.items other → IsOnChain self.now.chains.before.items other event
@@ -151,6 +156,7 @@ impl Graph {
         requires event { IsPlaced self.now.placed.items event }
         requires points { ArePoints hints.old.points.items self.now.placed.items }
         ensures points { ArePoints hints.new.points.items self.now.placed.items }
+        ensures kept { hints.new.are_kept ≡ hints.old.are_kept }
         ensures above { IsTrue result ↔ IsBelow (listed_tree self.now.placed.items event) tree.now }
     {
         if hints.is_higher(event, tree) {

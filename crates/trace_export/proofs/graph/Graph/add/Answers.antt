@@ -52,5 +52,5 @@ returns-clause-added c = λ _.
     let low : c.len-place.result < length after = omega (arith, place, ap length c.put.ensures.placed, length-append before (c.args.placed ∷ [])) in (
       c.put.ensures.placed ∙ ap (λ (placing : Placing). placing ++ c.args.placed ∷ []) (c.make_room.ensures.placed ∙ ap (λ (placed : Vec Placed Global). placed.items) c.complete.ensures.placed),
       with_points c.put.new.self c.put-2.new.self kept
-          (points_put c.put.new.self.hints.points.items c.put-2.new.self.points.items after c.len-place.result c.first_hints-own.result.1 kept.points low (subst (IsPointOf c.first_hints-own.result.1) (sym tree) c.first_hints-own.ensures) c.put-2.ensures),
+          (points_put c.put.new.self.hints.points.items c.put-2.new.self.points.items after c.len-place.result c.first_hints-own.result.1 kept.points low (subst (IsPointOf c.first_hints-own.result.1) (sym tree) c.first_hints-own.ensures) c.put-2.ensures.points),
     )

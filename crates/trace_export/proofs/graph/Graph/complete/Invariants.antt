@@ -6,6 +6,7 @@ abbrev pub invariant-loop-self : goal.invariant-loop-self
 invariant-loop-self l = record {
   placed : l.self.placed ≡ l.fn.self.placed;
   graph : IsKeptGraph l.self;
+  hints : l.self.hints ≡ l.fn.self.hints;
 }
 
 abbrev pub decreases-loop-self : goal.decreases-loop-self

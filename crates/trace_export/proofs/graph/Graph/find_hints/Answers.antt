@@ -15,5 +15,6 @@ loop-place-preserved c =
       placed = c.loop-place.invariant.placed;
       reaching = c.loop-place.invariant.reaching;
       graph = with_points c.loop-place.self c.put.new.self old
-          (points_put c.loop-place.self.hints.points.items c.put.new.self.points.items placing c.loop-place.place c.first_hints-sides.result.1 old.points (omega (arith, c.loop-place-test.true, c.len-place-end.ensures, ap (λ (placed : Vec Placed Global). length placed.items) c.loop-place.invariant.placed)) (subst (IsPointOf c.first_hints-sides.result.1) tree c.first_hints-sides.ensures) c.put.ensures);
+          (points_put c.loop-place.self.hints.points.items c.put.new.self.points.items placing c.loop-place.place c.first_hints-sides.result.1 old.points (omega (arith, c.loop-place-test.true, c.len-place-end.ensures, ap (λ (placed : Vec Placed Global). length placed.items) c.loop-place.invariant.placed)) (subst (IsPointOf c.first_hints-sides.result.1) tree c.first_hints-sides.ensures) c.put.ensures.points);
+      given_back = λ before. c.put.ensures.given_back (c.loop-place.invariant.given_back before);
     }

@@ -1,4 +1,4 @@
-use Rattle.std.proofs.Common.{◌≡◌}
+use Rattle.std.proofs.Common.{◌≡◌, false}
 use Rattle.trace_export.specs.Graph.{IsKeptGraph}
 use Rattle.trace_export.proofs.graph.Graph.find_hints.Given as goal
 
@@ -7,4 +7,5 @@ invariant-loop-place l = record {
   placed : l.self.placed ≡ l.fn.self.placed;
   reaching : l.self.reaching ≡ l.fn.self.reaching;
   graph : IsKeptGraph l.self;
+  given_back : l.fn.self.hints.are_kept ≡ false → l.self.hints.are_kept ≡ false;
 }

@@ -1,4 +1,4 @@
-use Rattle.std.proofs.Common.{◌≡◌, ◌+◌, ◌-◌, ◌<◌, ◌≤◌, ◌∙◌, List, ℕ, length, sym, subst, inl, inr, arith, Vec, Global}
+use Rattle.std.proofs.Common.{◌≡◌, ◌+◌, ◌-◌, ◌<◌, ◌≤◌, ◌∙◌, List, ℕ, length, ap, sym, subst, inl, inr, arith, Vec, Global}
 use Rattle.std.proofs.lemmas.Bool.{cases_lt}
 use Rattle.std.proofs.lemmas.List.{length-map}
 use Rattle.trace_export.specs.Bits.{HasBit}
@@ -32,6 +32,7 @@ pub loop-place-preserved : goal.loop-place-preserved
 loop-place-preserved c = elim c.else-run-eq0.branch [
   | else-run-eq0-via-then-run-eq0+else-not-is_apart_from_chain w ↦ record {
     points = subst (λ (hints : Hints). ArePoints hints.points.items c.args.self.now.placed.items) (sym w.hints-is) w.is_apart_from_chain.ensures.points;
+    kept = ap (λ (hints : Hints). hints.are_kept) w.hints-is ∙ w.is_apart_from_chain.ensures.kept ∙ c.loop-place.invariant.kept;
     apart = λ last some low within bit. elim (cases_lt c.loop-place.place last) [
       | inr old ↦ c.loop-place.invariant.apart last some old within bit
       | inl new ↦
@@ -42,6 +43,7 @@ loop-place-preserved c = elim c.else-run-eq0.branch [
   }
   | else-run-eq0-via-else-run-eq0 w ↦ record {
     points = subst (λ (hints : Hints). ArePoints hints.points.items c.args.self.now.placed.items) (sym w.hints-is) c.loop-place.invariant.points;
+    kept = ap (λ (hints : Hints). hints.are_kept) w.hints-is ∙ c.loop-place.invariant.kept;
     apart = λ last some low within bit. elim (cases_lt c.loop-place.place last) [
       | inr old ↦ c.loop-place.invariant.apart last some old within bit
       | inl new ↦ passed_over c last some within bit new (omega (arith, low, c.max-place.ensures, w.if-run-eq0))
