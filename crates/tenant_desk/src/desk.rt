@@ -1,5 +1,5 @@
 //! Desks, which alone take the reports of their tenants.
-ghost use Rattle.std.specs.Prelude.{◌≡◌, [], true, false, IfOk, MatchOption};
+ghost use Rattle.std.specs.Prelude.{◌≡◌, [], true, IfOk, MatchOption};
 ghost use Rattle.std.specs.Arc.{arc_value};
 ghost use Rattle.trace_types.specs.tenant.Tenant.{AreLegal, Steps, fresh, is_report};
 ghost use Rattle.trace_types.specs.text.Name.{root};
@@ -69,7 +69,8 @@ impl Desk {
         if request.is_report() {
             self.report(rt, request, reply);
         } else {
-            self.ask(request, reply);
+            // A query is answered by what is published, and orders are looked up in the cache.
+            answer_published(self.publisher.events(), true, request, reply);
         }
     }
 
@@ -82,16 +83,6 @@ impl Desk {
         ensures published { self.now.published ≡ self.now.tenant.rows }
     {
         parts_in(self.publisher.events(), event)
-    }
-
-    /// Answers a query by what is published, and looks orders up in the cache.
-    fn ask(&self, request: &Request, reply: &mut Reply)
-        requires { is_report request.now ≡ false }
-        ensures steps { Steps self.now.tenant request.now reply.new self.now.tenant }
-        ensures legal { AreLegal self.now.tenant.limits self.now.tenant.rows }
-        ensures published { self.now.published ≡ self.now.tenant.rows }
-    {
-        answer_published(self.publisher.events(), true, request, reply);
     }
 
     /// Takes a report. An accepted one is published.

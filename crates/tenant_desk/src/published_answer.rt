@@ -1,5 +1,4 @@
-//! Answers from what is published, and replies that are put in place of others.
-ghost use Rattle.std.specs.Prelude.{◌≡◌};
+//! Answers from what is published.
 ghost use Rattle.trace_types.specs.tenant.Tenant.{Answers};
 ghost use Rattle.tenant_ledger.specs.Ledger.{IsKept, tenant_of};
 
@@ -24,12 +23,4 @@ pub(crate) fn answer_published(
     } else {
         *reply = answer(events, &Plain, request);
     }
-}
-
-/// Puts the reply in place of this one.
-#[inline(always)]
-pub(crate) fn put_reply(place: &mut Reply, reply: Reply)
-    ensures { place.new ≡ reply }
-{
-    *place = reply;
 }

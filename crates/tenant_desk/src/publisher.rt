@@ -9,7 +9,6 @@ ghost use Rattle.tenant_desk.specs.Publications.{IsFor, IsShown, left_by, with_n
 ghost use Rattle.tenant_desk.specs.Rules.{IsPublished, sight_of};
 
 use crate::published::{Operation, Published, SharedBook, SharedDraft};
-use crate::published_answer::put_reply;
 use crate::publishing_rule::{Knows, Learning, Noting, Publishing, Seeing};
 use crate::row_log::{Front, Head, new_log};
 use core::mem::replace_with;
@@ -194,12 +193,12 @@ impl Publisher {
             Ok(draft) => {
                 if self.publish(rt, draft) {
                     let count = self.events().rows().len() as u64;
-                    put_reply(reply, Reply::Accepted(count));
+                    *reply = Reply::Accepted(count);
                 } else {
-                    put_reply(reply, Reply::Refused(Code::NoMemory));
+                    *reply = Reply::Refused(Code::NoMemory);
                 }
             }
-            Err(code) => put_reply(reply, Reply::Refused(code)),
+            Err(code) => *reply = Reply::Refused(code),
         }
     }
 

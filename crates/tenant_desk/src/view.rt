@@ -8,7 +8,7 @@ ghost use Rattle.tenant_desk.specs.Views.{Learns, Responds};
 
 use crate::Told;
 use crate::learned_lists::Met;
-use crate::published_answer::{answer_published, put_reply};
+use crate::published_answer::answer_published;
 use crate::publisher::{DeskReader, DeskReading, Publisher};
 use crate::publishing_rule::Seeing;
 use crate::row_log::Front;
@@ -191,7 +191,7 @@ impl View {
         ensures book { self.new.book ≡ self.old.book }
     {
         if request.is_report() {
-            put_reply(reply, Reply::Refused(Code::ViewOnly));
+            *reply = Reply::Refused(Code::ViewOnly);
             return;
         }
         let Some(reader) = self.reader.take() else {
@@ -208,7 +208,7 @@ impl View {
             }
             Err(reader) => {
                 self.reader = Some(reader);
-                put_reply(reply, Reply::Refused(Code::NoPlace));
+                *reply = Reply::Refused(Code::NoPlace);
             }
         }
     }
