@@ -10,7 +10,7 @@ ghost use Rattle.trace_session.specs.Openings.{opening_at, opening_of};
 ghost use Rattle.trace_session.specs.State.{state};
 ghost use Rattle.trace_session.specs.Witnesses.{Witness as Seen};
 
-use crate::lendable::Lendable;
+use crate::desk_or_view::Lent;
 use crate::output::Output;
 use crate::tenant::Tenant;
 use crate::{Gate, Hub, SessionEnd, SessionFault, Witness};
@@ -189,7 +189,7 @@ impl<'a, W: Sink, T: Wait, G: Gate> Output<'a, W, T, G> {
     }
 
     /// Holds a session with what this tenant lends.
-    fn hold<L: Lendable, R: Source>(
+    fn hold<L: Lent, R: Source>(
         &mut self,
         tenant: &Tenant,
         lines: &mut LineReader<'_, R>,

@@ -34,7 +34,6 @@ mod gate;
 mod hub;
 mod hub_session;
 pub mod laws;
-mod lendable;
 mod output;
 mod owner;
 mod queue;

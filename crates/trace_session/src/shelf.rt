@@ -4,7 +4,7 @@ ghost use Rattle.trace_session.specs.Belonging.{Belongs, RestOf};
 ghost use Rattle.trace_session.specs.Resting.{IsWhole};
 ghost use Rattle.trace_session.specs.Shelves.{HasEmpty};
 
-use crate::lendable::Lendable;
+use crate::desk_or_view::Lent;
 use crate::owner::Owner;
 use crate::shelf_contents::Resting;
 use atomic_table::{Play, Refused, Seat, Table, TableRule};
@@ -94,7 +94,7 @@ impl Shelf {
     }
 
     /// Lends a desk or a view, if one lies there.
-    pub(crate) fn lend<L: Lendable, R: Wait>(&self, rt: &R) -> Option<L>
+    pub(crate) fn lend<L: Lent, R: Wait>(&self, rt: &R) -> Option<L>
         ensures { IfSome result (Belongs L.is_sound L.tenant_of L.book_of self.now.table.shared.key) }
     {
         let (mut resting, turn) = self.take(rt);
@@ -104,7 +104,7 @@ impl Shelf {
     }
 
     /// Takes back what was lent.
-    pub(crate) fn take_back<L: Lendable, R: Wait>(&self, rt: &R, lent: L)
+    pub(crate) fn take_back<L: Lent, R: Wait>(&self, rt: &R, lent: L)
         requires { Belongs L.is_sound L.tenant_of L.book_of self.now.table.shared.key lent }
     {
         let (mut resting, turn) = self.take(rt);

@@ -3,7 +3,7 @@ ghost use Rattle.std.specs.Prelude.{◌≡◌, IfOk, IfSome};
 ghost use Rattle.trace_session.specs.Belonging.{Belongs};
 ghost use Rattle.trace_session.specs.Witnesses.{told_of};
 
-use crate::lendable::Lendable;
+use crate::desk_or_view::Lent;
 use crate::owner::Owner;
 use crate::shelf::Shelf;
 use crate::shelf_contents::Resting;
@@ -69,14 +69,14 @@ impl Tenant {
 
     /// Lends a desk or a view of this tenant, if there is one that no session has. It cannot be dropped, so the session has
     /// to give it back.
-    pub(crate) fn lend<L: Lendable, R: Wait>(&self, rt: &R) -> Option<L>
+    pub(crate) fn lend<L: Lent, R: Wait>(&self, rt: &R) -> Option<L>
         ensures { IfSome result (Belongs L.is_sound L.tenant_of L.book_of self.now) }
     {
         self.shelf.lend(rt)
     }
 
     /// Takes back what was lent of this tenant, and tells of it.
-    pub(crate) fn take_back<L: Lendable, R: Wait>(&self, rt: &R, lent: L) -> Told
+    pub(crate) fn take_back<L: Lent, R: Wait>(&self, rt: &R, lent: L) -> Told
         requires { Belongs L.is_sound L.tenant_of L.book_of self.now lent }
         ensures { result ≡ told_of L.tenant_of L.book_of lent }
     {

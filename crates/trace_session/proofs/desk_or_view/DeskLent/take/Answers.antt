@@ -3,7 +3,7 @@ use Rattle.std.specs.Option.{option_to_list}
 use Rattle.std.specs.Prelude.{IfNone, IfSome}
 use Rattle.trace_session.proofs.Lists.{none_listed}
 use Rattle.trace_session.specs.Belonging.{IsDeskOf, RestOf}
-use Rattle.trace_session.proofs.lendable.DeskLendable.take.Goals as goal
+use Rattle.trace_session.proofs.desk_or_view.DeskLent.take.Goals as goal
 
 pub returns-clause-none : goal.returns-clause-none
 returns-clause-none c =

@@ -3,7 +3,7 @@ use Rattle.std.specs.Option.{option_to_list}
 use Rattle.trace_session.proofs.Lists.{none_there}
 use Rattle.trace_session.specs.Belonging.{RestOf}
 use Rattle.trace_session.specs.Resting.{Rests}
-use Rattle.trace_session.proofs.lendable.DeskLendable.put.Goals as goal
+use Rattle.trace_session.proofs.desk_or_view.DeskLent.put.Goals as goal
 
 pub returns-clause-put : goal.returns-clause-put
 returns-clause-put c = λ few.

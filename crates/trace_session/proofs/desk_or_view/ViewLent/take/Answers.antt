@@ -3,7 +3,7 @@ use Rattle.std.specs.Option.{option_to_list}
 use Rattle.std.specs.Prelude.{All, IfSome}
 use Rattle.trace_session.proofs.Lists.{All-front, All-last}
 use Rattle.trace_session.specs.Belonging.{IsDeskOf, IsViewOf}
-use Rattle.trace_session.proofs.lendable.ViewLendable.take.Goals as goal
+use Rattle.trace_session.proofs.desk_or_view.ViewLent.take.Goals as goal
 
 pub returns-clause-owner : goal.returns-clause-owner
 returns-clause-owner c = λ owner rest.
