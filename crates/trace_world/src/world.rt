@@ -90,14 +90,6 @@ impl World {
         let _ = &self.names;
     }
 
-    /// How many tenants there are.
-    pub fn tenant_count(&self) -> usize
-        ensures tenants { result ≡ length self.now.tenants }
-        ensures names { result ≡ length self.now.names }
-    {
-        self.ledgers.len()
-    }
-
     /// The place of the tenant of this name, from 0.
     pub fn find(&self, name: &Name) -> Option<usize>
         ensures place { result ≡ place_of self.now.names name.now }
