@@ -63,47 +63,23 @@ impl From<AllocError> for ServeFault {
     }
 }
 
-/// What workers hold sessions in.
-trait Hall<T> {
-    /// Holds the session of this connection, and says whether it came to its end.
-    fn hold<A: Source + Drop, B: Sink + Drop, G: Gate>(
-        &self,
-        rt: &T,
-        alloc: Global,
-        connection: Connection<A, B>,
-        gate: &G,
-    ) -> bool;
-}
-
-impl<T: Wait> Hall<T> for Hub {
-    fn hold<A: Source + Drop, B: Sink + Drop, G: Gate>(
-        &self,
-        rt: &T,
-        alloc: Global,
-        mut connection: Connection<A, B>,
-        gate: &G,
-    ) -> bool {
-        session(rt, alloc, self, &mut connection, gate).is_ok()
-    }
-}
-
 /// What the workers share.
 #[derive(Drop)]
-struct Shop<'x, T, H, G, A, B> {
+struct Shop<'x, T, G, A, B> {
     rt: &'x T,
     alloc: Global,
-    hall: &'x H,
+    hub: &'x Hub,
     gate: &'x G,
     from: Receiver<Connection<A, B>>,
     faults: Mutex<u64>,
 }
 
-impl<'x, T: Wait, H: Hall<T>, G: Gate, A: Source + Drop, B: Sink + Drop> Shop<'x, T, H, G, A, B> {
+impl<'x, T: Wait, G: Gate, A: Source + Drop, B: Sink + Drop> Shop<'x, T, G, A, B> {
     /// Holds a session for each connection that comes, until no more can come, and counts those that end in a fault.
     fn work(&self) {
         let mut mine = 0u64;
-        for connection in self.from.iter(self.rt) {
-            if !self.hall.hold(self.rt, self.alloc, connection, self.gate) {
+        for mut connection in self.from.iter(self.rt) {
+            if session(self.rt, self.alloc, self.hub, &mut connection, self.gate).is_err() {
                 mine = mine.saturating_add(1);
             }
         }
@@ -135,17 +111,9 @@ fn accept_all<T: Wait, D: Door>(
 
 /// Starts the workers, and accepts until the door closes. If a worker cannot be started, it takes no connection and returns
 /// `Memory`.
-fn start_and_accept<
-    's,
-    'x,
-    'y,
-    T: Threads + Wait + Sync,
-    H: Hall<T> + Sync,
-    D: Door,
-    G: Gate + Sync,
->(
+fn start_and_accept<'s, 'x, 'y, T: Threads + Wait + Sync, D: Door, G: Gate + Sync>(
     scope: &'s Scope<'s, &'y ()>,
-    shop: &'y Shop<'x, T, H, G, D::Reader, D::Writer>,
+    shop: &'y Shop<'x, T, G, D::Reader, D::Writer>,
     door: &mut D,
     workers: usize,
     to: Sender<Connection<D::Reader, D::Writer>>,
@@ -167,8 +135,8 @@ struct Served<'d, D> {
 }
 
 /// Starts the workers, accepts until the door closes, and waits until all workers have ended.
-fn serve_in_scope<'x, 'd, T: Threads + Wait + Sync, H: Hall<T> + Sync, D: Door, G: Gate + Sync>(
-    shop: &Shop<'x, T, H, G, D::Reader, D::Writer>,
+fn serve_in_scope<'x, 'd, T: Threads + Wait + Sync, D: Door, G: Gate + Sync>(
+    shop: &Shop<'x, T, G, D::Reader, D::Writer>,
     door: &'d mut D,
     workers: usize,
     to: Sender<Connection<D::Reader, D::Writer>>,
@@ -220,7 +188,7 @@ pub fn serve<T: Threads + Wait + Sync, D: Door, G: Gate + Sync>(
     let shop = Shop {
         rt,
         alloc,
-        hall: hub,
+        hub,
         gate,
         from,
         faults: Mutex::new(0u64),
