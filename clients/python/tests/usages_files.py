@@ -5,6 +5,7 @@ from __future__ import annotations
 import contextlib
 import http.server
 import os
+import shutil
 import socket
 import threading
 from collections.abc import Iterator
@@ -12,7 +13,7 @@ from pathlib import Path
 
 from itc_trace import Collector
 
-from .support import kept_port, run_python
+from .support import PACKAGE, kept_port
 
 RACING = """import threading
 stock = {"left": 2}
@@ -28,6 +29,7 @@ EXPORT = (
     '{"events":4096,"messages":2048,"tasks":512,"tenant":"x","version":2}\n'
     '{"event":1,"kind":"local","name":"-","preds":[],"stamp":"[1;1]","task":"root"}\n'
 )
+KEPT = PACKAGE / "tests" / "usages"
 FILES = {
     "shop.py": RACING, "fine.py": 'print("ran")\n', "empty": "", "garbage": "][ garbage :::\n", "word": "labels", "g.export": EXPORT,
     "benign": "stock['left'] shop.py:4\n", "system.toml": '[process.a]\ncommand = ["true"]\ntraced = false\n',
@@ -91,11 +93,16 @@ def write_files(folder: Path) -> None:
 
 
 def write_trace(folder: Path) -> None:
-    """A trace with a race, its journal, and pieces of both."""
-    ran = run_python("-m", "itc_trace", "run", "--export", "kept.export", "shop.py", cwd=str(folder))
-    assert ran.returncode == 66, ran.stderr
-    for name, whole, begin, end in (("cut.export", "kept.export", 0, 5), ("cut.journal", "kept.export.journal", 0, 4),
-                                    ("headless.journal", "kept.export.journal", 2, None)):
+    """A trace with a race that was kept once, its journal, and pieces of both.
+
+    A fresh one would have other rows, in another order, from run to run.
+    """
+    for name in ("kept.export", "kept.export.journal"):
+        shutil.copy(KEPT / name, folder)
+    for name, whole, begin, end in (
+        ("cut.export", "kept.export", 0, 5), ("cut.journal", "kept.export.journal", 0, 4),
+        ("headless.journal", "kept.export.journal", 2, None),
+    ):
         lines = (folder / whole).read_text().splitlines(keepends=True)
         (folder / name).write_text("".join(lines[begin:end]))
 
