@@ -24,7 +24,8 @@ from . import watch
 from .analyse.benign import Looking, read_patterns
 from .record.collector import Collector
 from .sync import put_all
-from .cli.run import told
+from .report.report import report_of
+from .report.text import text
 from .api.tracing import Tracing
 from .watch import doctests
 
@@ -82,7 +83,7 @@ class _Traced:
         try:
             races = traced.races()
             if races.verdict(self._fails_on_possible):
-                self.found = told(races)
+                self.found = text(report_of(races))
         except Exception as fault:  # The collector is gone, say.
             self.found = f"itc_trace: the test was not traced to its end: {fault}"
         finally:

@@ -2,55 +2,14 @@
 
 from __future__ import annotations
 
-import hashlib
 import json
-import linecache
 from collections.abc import Iterable
-from dataclasses import asdict, dataclass
-from pathlib import PurePath
+from dataclasses import asdict
 
+from ..model.finding import Known, KnownSide
 from ..record.faults import Fault
-from .races import Race, Side
 
 VERSION = 1
-DIGITS = 12
-SPACES = " ".join
-
-
-@dataclass(frozen=True, order=True)
-class KnownSide:
-    """One of the two touches: what it does, in which function, and its source with single spaces."""
-
-    kind: str
-    function: str
-    source: str
-
-
-@dataclass(frozen=True)
-class Known:
-    """A race by what stays of it: neither the numbers of lines nor the names of tasks."""
-
-    thing: str
-    sides: tuple[KnownSide, ...]
-
-    @property
-    def identity(self) -> str:
-        text = json.dumps([self.thing, [[side.kind, side.function, side.source] for side in self.sides]])
-        return hashlib.sha256(text.encode()).hexdigest()[:DIGITS]
-
-    def __str__(self) -> str:
-        return f"{self.identity} ({self.thing})"
-
-
-def known(race: Race) -> Known:
-    return Known(race.thing, tuple(sorted(map(_known_side, race.sides))))
-
-
-def _known_side(side: Side) -> KnownSide:
-    """If there is no source here, the name of the file stands for it."""
-    file, _, line = side.place.rpartition(":")
-    source = linecache.getline(file, int(line)) if line.isdigit() else ""
-    return KnownSide(side.kind, side.function, SPACES(source.split()) or PurePath(file).name)
 
 
 def read_baseline(file: str) -> list[Known]:

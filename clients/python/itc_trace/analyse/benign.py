@@ -15,7 +15,7 @@ from itertools import takewhile
 from pathlib import Path, PurePath
 
 from ..record.faults import Fault
-from .baseline import Known, known
+from ..model.finding import Known
 from .races import Race, Races, Side
 
 COMMENT = re.compile(r"#\s*itc:\s*benign\b")
@@ -62,17 +62,23 @@ class Looking:
     _fitting: set[Pattern] = field(default_factory=set)
 
     def silence(self, found: Races) -> None:
-        """Takes out what is meant and what is known, and counts both."""
+        """Takes out what is meant and what is known, and keeps both apart."""
         self.has_looked = True
-        before = len(found.races) + len(found.possible)
-        found.races = [race for race in found.races if not self._is_meant(race)]
-        found.possible = [race for race in found.possible if not self._is_meant(race)]
-        meant = before - len(found.races) - len(found.possible)
-        self.met |= set(map(known, [*found.races, *found.possible]))
-        found.races = [race for race in found.races if known(race) not in self.baseline]
-        found.possible = [race for race in found.possible if known(race) not in self.baseline]
-        found.silenced += meant
-        found.known += before - meant - len(found.races) - len(found.possible)
+        found.races = list(self._left(found.races, found))
+        found.possible = list(self._left(found.possible, found))
+
+    def _left(self, races: Iterable[Race], found: Races) -> Iterator[Race]:
+        """Those that are neither meant nor in the baseline."""
+        for race in races:
+            if self._is_meant(race):
+                found.meant.append(race)
+                continue
+            known = race.finding(found.sources).known_as
+            self.met.add(known)
+            if known in self.baseline:
+                found.known.append(race)
+            else:
+                yield race
 
     def _is_meant(self, race: Race) -> bool:
         fitting = {pattern for pattern in self.patterns if pattern.fits(race)}
@@ -87,9 +93,13 @@ class Looking:
         ]
         if lines:
             yield f"no race is silenced by {', '.join(lines)}"
-        gone = [str(one) for one in self.baseline if one not in self.met]
+        gone = self.gone()
         if gone:
-            yield f"of the baseline did not occur: {', '.join(gone)}"
+            yield f"of the baseline did not occur: {', '.join(map(str, gone))}"
+
+    def gone(self) -> list[Known]:
+        """The races of the baseline that did not occur."""
+        return [one for one in self.baseline if one not in self.met]
 
 
 def _has_comment(side: Side) -> bool:

@@ -7,7 +7,6 @@ are looked for. A race is possible if nothing but locks that the two tasks do no
 
 from __future__ import annotations
 
-import linecache
 from bisect import bisect_left, bisect_right
 from collections import defaultdict
 from collections.abc import Iterable, Iterator
@@ -18,6 +17,7 @@ from typing import Protocol
 
 from ..record.collector import HOST, NoCollector
 from ..model.conflicts import CONFLICTING, MAKING, WRITE
+from ..model.finding import POSSIBLE_RACE, RACE, Finding, FoundSide
 from .fast_track import deciding_pairs
 from .looks import looks_of
 from ..record.journal import Row, read_whole
@@ -25,6 +25,7 @@ from ..model.lock_identity import ANSWER, REQUEST
 from .order import Order
 from .progress import Bar, Shown
 from .racing_pairs import Pair, racing_pairs
+from ..model.sources import Sources
 from ..session import LONGEST_ANSWER, Refused, Session
 from .trace import Asked, Events, Steps, Trace, Unordered, lock_events, lock_that_tells, told_by_signals
 from ..model.verdict import Cause, PassedOver, Unseen, Verdict, listed, verdict_of
@@ -67,30 +68,25 @@ class Race:
         """What is the same of races that are listed as one, in other runs too."""
         return _key(self.example)
 
+    def finding(self, sources: Sources | None = None) -> Finding:
+        """The value that each format is written of."""
+        return Finding(
+            POSSIBLE_RACE if self.is_possible else RACE, self.thing,
+            tuple(_found_side(row, side, sources or Sources()) for row, side in zip(self.example, self.sides)),
+            self.why, self.times, self.example[0].made, self.is_possible,
+        )
+
     def __str__(self) -> str:
-        first, second = self.example
-        made = f" ({first.made})" if first.made else ""
-        width = max(len(side.kind) for side in self.sides)
-        places = [_place(side, width) for side in self.sides]
-        times = "once" if self.times == 1 else f"{self.times} times"
-        tasks = "tasks" if first.loop or second.loop else "threads"
-        order = f"{tasks} {first.task} and {second.task}: {self.why}; {times}, as {_events(first, second)}"
-        word = "possible race" if self.is_possible else "race"
-        return "\n    ".join([f"{word} on {self.thing}{made}", *places, order])
+        return "\n    ".join(self.finding().lines())
 
 
-def _events(first: Row, second: Row) -> str:
-    """By their numbers, and those of their parts if the run has several."""
-    if first.part == second.part:
-        return f"events {first.event} and {second.event}" + (f" of part {first.part}" if first.part > 1 else "")
-    return f"event {first.event} of part {first.part} and event {second.event} of part {second.part}"
-
-
-def _place(side: Side, width: int) -> str:
-    where = f" in {side.function}" if side.function and side.function != "<module>" else ""
+def _found_side(row: Row, side: Side, sources: Sources) -> FoundSide:
     file, _, line = side.place.rpartition(":")
-    source = linecache.getline(file, int(line)).strip() if line.isdigit() else ""
-    return f"{side.kind:{width}} at {side.place}{where}{':  ' if source else ''}{source}"
+    number = int(line) if line.isdigit() else 0
+    return FoundSide(
+        side.kind, file, number, side.function, row.task, row.event, row.part, row.held, bool(row.loop), row.is_write,
+        *sources.around(file, number),
+    )
 
 
 @dataclass
@@ -101,10 +97,12 @@ class Races:
     possible: list[Race] = field(default_factory=list)
     unseen: list[Unseen] = field(default_factory=list)
     passed_over: list[PassedOver] = field(default_factory=list)
-    silenced: int = 0
-    """How many more there are, but meant."""
-    known: int = 0
-    """How many more there are, but in the baseline."""
+    meant: list[Race] = field(default_factory=list)
+    """Those that are silenced."""
+    known: list[Race] = field(default_factory=list)
+    """Those that are in the baseline."""
+    sources: Sources = field(default_factory=Sources)
+    """The lines of source that the journal has kept."""
     touches: int = 0
     places: int = 0
     things: int = 0
@@ -129,8 +127,8 @@ class Races:
         found = "no race" if not self.races else _counted(len(self.races), "race")
         where = "in what was seen" if self.unseen else "in this run"
         return f"{found} {where}" + (f"; {len(self.possible)} possible" if self.possible else "") + (
-            f"; {self.silenced} silenced" if self.silenced else "") + (
-            f"; {self.known} in the baseline" if self.known else "") + listed(self.passed_over)
+            f"; {len(self.meant)} silenced" if self.meant else "") + (
+            f"; {len(self.known)} in the baseline" if self.known else "") + listed(self.passed_over)
 
     def summary(self) -> str:
         return (

@@ -25,11 +25,14 @@ from .options import NEW_SEED, parser
 from .output_files import check_outputs
 from .parser import Parser, tenant
 from .saying import UNWRITTEN, say, write
-from .run import MOST_SEED, Run, draw_parts, draw_tenant, run, tell_if_untouched, told
+from .reporting import STANDARD_OUTPUT, Wanted, deliver
+from .run import MOST_SEED, Run, draw_parts, draw_tenant, run, tell_if_untouched
 from ..analyse.seeing import check_trace, lines_of, races_seen
 from ..session import Refused
 from ..analyse.snapshot import snapshot
 from ..report.hints import missing_sources
+from ..report.report import report_of
+from ..report.text import Shown, text
 from .system import run_system
 from .system_file import read_system
 
@@ -42,6 +45,8 @@ OPTIONS_OF_PYTHON = {
     "-": "a file, or -m and a module, but no standard input",
 }
 """What is typed before a program as python3 takes it, and what `run` takes instead."""
+TO_STANDARD_OUTPUT = ("--json", "--sarif")
+"""The options that take `-` for their file."""
 
 
 def _divided(words: list[str], options: Parser) -> tuple[list[str], list[str]]:
@@ -69,7 +74,7 @@ def _run(words: argparse.Namespace, program: list[str]) -> int:
         seed=random.SystemRandom().randrange(MOST_SEED) if words.shake == NEW_SEED else words.shake,
         part_events=words.part_events, status_file=words.status_file,
         watched=None if words.watch_nothing else words.watch or [],
-        looking=words.looking, inputs=_read(words), baseline=words.write_baseline,
+        looking=words.looking, inputs=_read(words), baseline=words.write_baseline, wanted=words.wanted,
     ))
 
 
@@ -117,6 +122,13 @@ def _looking(words: argparse.Namespace) -> Looking:
     return Looking(words.strict, [pattern for file in words.benign for pattern in read_patterns(file)], baseline)
 
 
+def _wanted(words: argparse.Namespace) -> Wanted:
+    files = {name: file for name in ("json", "sarif") if (file := getattr(words, name)) is not None}
+    if words.github:
+        files["github"] = STANDARD_OUTPUT
+    return Wanted(files, Shown(words.all, words.max))
+
+
 def _system(words: argparse.Namespace) -> int:
     system = read_system(words.file)
     system.export, system.picture = words.export or system.export, words.picture or system.picture
@@ -124,10 +136,10 @@ def _system(words: argparse.Namespace) -> int:
     outputs = (
         ("--export", system.export), ("the journal of --export", beside), ("--picture", system.picture),
         ("--status-file", words.status_file),
-        ("--write-baseline", words.write_baseline),
+        ("--write-baseline", words.write_baseline), *words.wanted.outputs(),
     )
     check_outputs(outputs, [(words.file, words.file), *_read(words)])
-    return run_system(system, words.looking, words.fail_on == "possible", words.status_file)
+    return run_system(system, words.looking, words.fail_on == "possible", words.status_file, words.wanted)
 
 
 def _races(words: argparse.Namespace) -> int:
@@ -156,7 +168,8 @@ def _races(words: argparse.Namespace) -> int:
 def _check_outputs(words: argparse.Namespace, *further: str) -> None:
     """Finds what keeps `races` from writing its files."""
     read = [(file, file) for file in (words.trace, *words.journal, *further)]
-    check_outputs((("--picture", words.picture), ("--write-baseline", words.write_baseline)), [*read, *_read(words)])
+    outputs = (("--picture", words.picture), ("--write-baseline", words.write_baseline), *words.wanted.outputs())
+    check_outputs(outputs, [*read, *_read(words)])
 
 
 def _tenant(word: str) -> str:
@@ -192,9 +205,18 @@ def _races_of_parts(words: argparse.Namespace, journal: str) -> int:
 
 
 def _tell(words: argparse.Namespace, found: Races, picture: str | None = None) -> int:
-    is_written = write(f"{told(found, picture, words.looking, missing_sources(found))}\n")
+    report = report_of(found, words.looking, words.fail_on == "possible", picture, missing_sources(found))
+    is_written = _tell_person(text(report, words.wanted.shown), words.wanted)
     tell_if_untouched(found)
-    return int(found.verdict(words.fail_on == "possible")) if is_written else UNWRITTEN
+    return int(report.verdict) if deliver(report, words.wanted) and is_written else UNWRITTEN
+
+
+def _tell_person(told: str, wanted: Wanted) -> bool:
+    """Writes the list to standard output, or to standard error if another format has that. Gives whether it did."""
+    if wanted.takes_output:
+        say(told)
+        return True
+    return write(f"{told}\n")
 
 
 def _relay(words: argparse.Namespace) -> None:
@@ -229,8 +251,8 @@ def _tell_of_options_behind(program: list[str], options: Parser) -> None:
 def main(name: str = "python3 -m itc_trace") -> int:
     made = parser(name)
     own, program = _divided(sys.argv[1:], made.commands["run"])
-    for word in own[1:]:
-        if own[0] == "run" and word in OPTIONS_OF_PYTHON:
+    for before, word in zip(own, own[1:]):
+        if own[0] == "run" and word in OPTIONS_OF_PYTHON and before not in TO_STANDARD_OUTPUT:
             made.commands["run"].refuse(f"run takes {OPTIONS_OF_PYTHON[word]}")
     words = made.parse_all(own)
     words.typed, words.options = own, made.commands["run"]
@@ -245,7 +267,7 @@ def main(name: str = "python3 -m itc_trace") -> int:
 def _looked(words: argparse.Namespace, program: list[str]) -> int:
     """Does what a command is for that looks for races,
     and writes the baseline if one is asked for and races were looked for."""
-    words.looking = _looking(words)
+    words.looking, words.wanted = _looking(words), _wanted(words)
     if words.command == "run":
         status = _run(words, program)
     else:

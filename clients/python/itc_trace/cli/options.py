@@ -12,6 +12,7 @@ from .table import COMMANDS
 NEW_SEED = -1
 MOST_RUNS = 10_000
 LEAST_PART = 100
+MOST_SHOWN = 1_000_000
 
 
 def parser(called: str) -> Parser:
@@ -85,6 +86,16 @@ def _add_looking(parser: Parser) -> None:
                         help="races that are meant: a thing and places a line")
     _add_file(parser, "--baseline", "races that are known: fail on others only")
     _add_file(parser, "--write-baseline", "write the races that were found there, for --baseline")
+    _add_report(parser)
+
+
+def _add_report(parser: Parser) -> None:
+    _add_file(parser, "--json", "write what was found there as JSON; - is standard output")
+    _add_file(parser, "--sarif", "write it there as SARIF 2.1.0; - is standard output")
+    parser.add_argument("--github", action="store_true", help="write it to standard output as annotations of GitHub")
+    showing = parser.add_mutually_exclusive_group()
+    showing.add_argument("--all", action="store_true", help="list each pair of lines, and not one of each cause")
+    showing.add_argument("--max", type=_most, metavar="N", help="list N entries at most")
 
 
 def _add_run(parser: Parser) -> None:
@@ -117,6 +128,10 @@ def _add_run(parser: Parser) -> None:
 
 def _listened_at(word: str) -> int:
     return number(word, 0, MOST_PORT)
+
+
+def _most(word: str) -> int:
+    return number(word, 0, MOST_SHOWN)
 
 
 def _runs(word: str) -> int:

@@ -16,7 +16,6 @@ from collections.abc import Iterable, Iterator
 from dataclasses import dataclass, field, replace
 from pathlib import Path
 from typing import IO
-from urllib.parse import quote
 
 from ..analyse.benign import Looking
 from ..record.collector import HOST, find_in_repository
@@ -26,19 +25,21 @@ from ..record.environment import OWN_TENANT
 from ..record.faults import WORDS_REFUSED, Fault, look
 from .launch import RAISED, REFUSED
 from .output_files import check_outputs
-from .saying import say
+from .reporting import Wanted, deliver
+from .saying import UNWRITTEN, say
 from .statuses import OWN_STATUSES, forget_status, keep_status, own_status
 from ..report.merging import Merged
 from ..processes.part_collectors import PartCollectors
 from ..analyse.parts import number_of_parts, races_of_parts
 from ..analyse.progress import Bar
-from ..report.hints import hints
 from ..report.race_rows import race_rows
-from ..analyse.races import Race, Races
+from ..report.report import Report, report_of
+from ..report.text import text
+from ..analyse.races import Races
 from ..analyse.seeing import races_seen
 from ..session import Refused
 from ..analyse.snapshot import snapshot
-from ..model.verdict import BREAKS_OFF, REMOVED, Cause, Unseen, Verdict, reasons
+from ..model.verdict import BREAKS_OFF, REMOVED, Cause, Unseen, Verdict
 
 UNTOUCHED = """\
 itc_trace: nothing was touched, so there was no race to find
@@ -77,6 +78,8 @@ class Run:
     """Where the races that were found are written, to be known."""
     status_file: str | None = None
     """Where the verdict and the program's status are written apart."""
+    wanted: Wanted = field(default_factory=Wanted)
+    """The formats that the report is written in."""
 
     def of(self, number: int) -> Run:
         """The run of this number, with files of its own."""
@@ -133,7 +136,7 @@ def _check_outputs(asked: Run) -> None:
         check_outputs((
             ("--status-file", asked.status_file), ("--write-baseline", asked.baseline), ("--export", one.export),
             ("--journal", one.journal), ("--picture", one.picture),
-            ("the journal of --export", beside),
+            ("the journal of --export", beside), *asked.wanted.outputs(),
         ), inputs)
 
 
@@ -166,14 +169,31 @@ def _run_once(asked: Run, seed: int | None) -> int:
     outcome = _outcome(asked, seed)
     if outcome is None:
         return WORDS_REFUSED
-    races = outcome.races
-    verdict = races.verdict(asked.fail_on_possible)
-    is_ambiguous = not verdict and outcome.status in OWN_STATUSES
-    if verdict or races.possible or is_ambiguous or not asked.quiet:
-        say(told(races, outcome.picture, asked.looking) + own_status(verdict, outcome.status))
-        if asked.watched is None and _is_untouched(races) and not outcome.has_raised:
-            say(UNTOUCHED)
-    return keep_status(asked.status_file, verdict, outcome.status)
+    report = report_of(outcome.races, asked.looking, asked.fail_on_possible, outcome.picture)
+    is_delivered = _tell(asked, report, outcome.status)
+    is_untouched = asked.watched is None and _is_untouched(outcome.races) and not outcome.has_raised
+    if is_untouched and _is_told(asked, report, outcome.status):
+        say(UNTOUCHED)
+    return _kept(asked, report, outcome.status, is_delivered)
+
+
+def _is_told(asked: Run, report: Report, status: int) -> bool:
+    """Whether there is something to say to a person."""
+    is_ambiguous = not report.verdict and status in OWN_STATUSES
+    return bool(report.verdict or report.findings) or is_ambiguous or not asked.quiet
+
+
+def _tell(asked: Run, report: Report, status: int) -> bool:
+    """Tells what was found. Gives whether all formats that are asked for were written."""
+    if _is_told(asked, report, status):
+        say(text(report, asked.wanted.shown) + own_status(report.verdict, status))
+    return deliver(report, asked.wanted)
+
+
+def _kept(asked: Run, report: Report, status: int, is_delivered: bool) -> int:
+    """The status of the command."""
+    told = keep_status(asked.status_file, report.verdict, status)
+    return told if is_delivered else UNWRITTEN
 
 
 def _run_often(asked: Run) -> int:
@@ -191,10 +211,8 @@ def _run_often(asked: Run) -> int:
             say(f"itc_trace: run {number} of {asked.runs}{_by_seed(seed)}: {outcome.races.found()}")
         if is_asked_to_end():
             break
-    verdict = merged.verdict(asked.fail_on_possible)
-    if verdict or merged.has_possible or not asked.quiet:
-        say(merged.text(said_beside(merged.examples(), asked.looking)) + own_status(verdict, merged.status))
-    return keep_status(asked.status_file, verdict, merged.status)
+    report = merged.report(asked.looking, asked.fail_on_possible)
+    return _kept(asked, report, merged.status, _tell(asked, report, merged.status))
 
 
 def _by_seed(seed: int | None) -> str:
@@ -328,7 +346,7 @@ def draw(export: str, about: list[str], picture: str, races: Races) -> bool:
         say("itc_trace: no picture: the command of that name is in the repository of itc_trace")
         return False
     with tempfile.NamedTemporaryFile("w", suffix=".races", encoding="utf-8") as rows:
-        rows.write(race_rows(races))
+        rows.write(race_rows(report_of(races)))
         rows.flush()
         words = [command, *about, "--races", rows.name]
         with open(export, "rb") as given, open(picture, "wb") as page:
@@ -351,31 +369,6 @@ def draw_tenant(tenant: str, port: int, host: str, lines: Iterable[str], picture
         whole = [line for line in lines if line.endswith("\n")]
         Path(journal).write_text("".join(whole), encoding="utf-8")
         return draw(export, ["--labels", journal], picture, races)
-
-
-def said_beside(races: Races, looking: Looking) -> list[str]:
-    """What a reader of the races is told, too, a line each."""
-    return [f"itc_trace: {hint}" for hint in (*hints(races), *looking.unfitting())]
-
-
-def told(races: Races, picture: str | None = None, looking: Looking | None = None, beside: Iterable[str] = ()) -> str:
-    """Why it is incomplete, where it is, and the races, each with a link into the picture, where there is one."""
-    lines = [f"itc_trace: incomplete: {reasons(races.unseen)}"] if races.unseen else []
-    for race in [*races.races, *races.possible]:
-        lines.append(f"itc_trace: {race}")
-        if picture is not None:
-            lines.append(f"    {_link(race, picture)}")
-    lines += [*said_beside(races, looking or Looking()), *(f"itc_trace: {line}" for line in beside)]
-    lines.append(f"itc_trace: {races.summary()}")
-    return "\n".join(lines)
-
-
-def _link(race: Race, picture: str) -> str:
-    """Leads to both touches, or to the second one if the first is in another part of the run."""
-    first, second = race.example
-    part = f"part={second.part}&" if second.part > 1 else ""
-    events = f"event={first.event}&other={second.event}" if first.part == second.part else f"event={second.event}"
-    return f"file://{quote(os.path.abspath(picture))}#{part}{events}"
 
 
 def _is_untouched(races: Races) -> bool:

@@ -33,11 +33,14 @@ from ..record.collector import HOST
 from ..record.environment import PARTS, Reporting
 from ..record.faults import Fault
 from ..record.journal import NoJournal, read_whole
+from ..report.report import report_of
+from ..report.text import text
 from ..session import Refused
 from .ending import name_of
 from .launch import REFUSED
-from .run import draw, draw_parts, environment_of_package, told
-from .saying import say
+from .reporting import Wanted, deliver
+from .run import draw, draw_parts, environment_of_package
+from .saying import UNWRITTEN, say
 from .statuses import forget_status, keep_status, own_status
 from .system_file import Described, System
 from ..model.verdict import END_OF_ALL, Cause, Unseen
@@ -376,7 +379,10 @@ BORDERS = "borders"
 ENDED_AS_A_SERVICE = Unseen(Cause.KILLED, "the program was ended by SIGTERM").row()
 
 
-def run_system(system: System, looking: Looking, fail_on_possible: bool = False, status_file: str | None = None) -> int:
+def run_system(
+    system: System, looking: Looking, fail_on_possible: bool = False, status_file: str | None = None,
+    wanted: Wanted | None = None,
+) -> int:
     """The verdict's status, and where that is 0 the first status of a process that was not 0."""
     forget_status(status_file)
     with tempfile.TemporaryDirectory(prefix="itc_trace_") as folder, PartCollectors(system.tenant) as collectors:
@@ -394,9 +400,10 @@ def run_system(system: System, looking: Looking, fail_on_possible: bool = False,
             races = races_seen(system.tenant, collectors.port, lines, HOST, looking, Bar(sys.stderr))
             races.unseen = [*running.unseen, *races.unseen]
             picture = _keep(system, collectors.port, lines, folder, races)
-        verdict = races.verdict(fail_on_possible)
-        say(told(races, picture, looking) + own_status(verdict, running.status))
-        return keep_status(status_file, verdict, running.status)
+        report, wanted = report_of(races, looking, fail_on_possible, picture), wanted or Wanted()
+        say(text(report, wanted.shown) + own_status(report.verdict, running.status))
+        status = keep_status(status_file, report.verdict, running.status)
+        return status if deliver(report, wanted) else UNWRITTEN
 
 
 def _races_in_parts(

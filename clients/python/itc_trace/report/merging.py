@@ -3,10 +3,15 @@
 from __future__ import annotations
 
 from collections.abc import Iterable
-from dataclasses import dataclass, field
+from dataclasses import dataclass, field, replace
 
+from ..analyse.benign import Looking
 from ..analyse.races import Race, Races
-from ..model.verdict import PassedOver, Unseen, Verdict, listed, reasons, verdict_of
+from ..model.finding import Finding, Seen, runs_in_words
+from ..model.sources import Sources
+from ..model.verdict import PassedOver, Unseen, Verdict, listed, verdict_of
+from .hints import hints
+from .report import Report
 
 Key = object
 
@@ -16,9 +21,13 @@ class Often:
     """A race that was found in some of the runs: one example, and the number and the seed of the run that it is of."""
 
     example: Race
+    sources: Sources
     first_run: int
     seed: int | None
     runs: int = 0
+
+    def finding(self, of: int) -> Finding:
+        return replace(self.example.finding(self.sources), seen=Seen(self.runs, of, self.first_run, self.seed))
 
 
 @dataclass
@@ -32,15 +41,21 @@ class Merged:
     passed_over: list[PassedOver] = field(default_factory=list)
     _races: dict[Key, Often] = field(default_factory=dict)
     _possible: dict[Key, Often] = field(default_factory=dict)
+    _meant: dict[Key, Often] = field(default_factory=dict)
+    _known: dict[Key, Often] = field(default_factory=dict)
 
     def add(self, races: Races, status: int, seed: int | None) -> None:
         self.runs += 1
         self.status = self.status or status
         self.passed_over += races.passed_over
         self.unseen += [Unseen(one.cause, f"run {self.runs}: {one.text}") for one in races.unseen]
-        for found, known in ((races.races, self._races), (races.possible, self._possible)):
+        lists = (
+            (races.races, self._races), (races.possible, self._possible), (races.meant, self._meant),
+            (races.known, self._known),
+        )
+        for found, known in lists:
             for key, race in {race.key: race for race in found}.items():
-                known.setdefault(key, Often(race, self.runs, seed)).runs += 1
+                known.setdefault(key, Often(race, races.sources, self.runs, seed)).runs += 1
 
     @property
     def _only_possible(self) -> dict[Key, Often]:
@@ -54,28 +69,29 @@ class Merged:
     def verdict(self, fail_on_possible: bool = False) -> Verdict:
         return verdict_of(len(self._races) + (len(self._only_possible) if fail_on_possible else 0), self.unseen)
 
-    def examples(self) -> Races:
+    def _examples(self) -> Races:
         """The example of each race."""
         return Races(
             [often.example for often in self._races.values()],
             [often.example for often in self._only_possible.values()],
         )
 
-    def text(self, said_beside: Iterable[str] = ()) -> str:
-        lines = [f"itc_trace: incomplete: {reasons(self.unseen)}"] if self.unseen else []
-        for often in [*self._races.values(), *self._only_possible.values()]:
-            by_seed = "" if often.seed is None else f" (--shake={often.seed})"
-            lines.append(f"itc_trace: {often.example}")
-            lines.append(f"    in {often.runs} of {_runs(self.runs)}, first in run {often.first_run}{by_seed}")
-        return "\n".join([*lines, *said_beside, f"itc_trace: {self._summary()}"])
+    def report(self, looking: Looking, fail_on_possible: bool = False) -> Report:
+        def made(found: Iterable[Often]) -> list[Finding]:
+            return [often.finding(self.runs) for often in found]
+
+        return Report(
+            self.verdict(fail_on_possible), self._summary(),
+            made([*self._races.values(), *self._only_possible.values()]), made(self._meant.values()),
+            made(self._known.values()), looking.gone(), self.unseen, list(dict.fromkeys(self.passed_over)),
+            [*hints(self._examples()), *looking.unfitting()], {"runs": self.runs},
+        )
 
     def _summary(self) -> str:
         count = len(self._races)
         found = "no race" if count == 0 else "1 race" if count == 1 else f"{count} races"
         possible = f"; {len(self._only_possible)} possible" if self._only_possible else ""
         seen = "what was seen of " if self.unseen else ""
-        return f"{found} in {seen}{_runs(self.runs)}{possible}{listed(self.passed_over)}"
-
-
-def _runs(count: int) -> str:
-    return "1 run" if count == 1 else f"{count} runs"
+        silenced = f"; {len(self._meant)} silenced" if self._meant else ""
+        known = f"; {len(self._known)} in the baseline" if self._known else ""
+        return f"{found} in {seen}{runs_in_words(self.runs)}{possible}{silenced}{known}{listed(self.passed_over)}"

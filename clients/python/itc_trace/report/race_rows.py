@@ -1,47 +1,36 @@
-"""The races as lines of JSON, with a few lines of source around both touches, for the page of a picture."""
+"""The findings as lines of JSON, with a few lines of source around both touches, for the page of a picture."""
 
 from __future__ import annotations
 
 import json
-import linecache
 from typing import Any
 
-from ..record.journal import Row
-from ..analyse.races import Race, Races, Side
-
-LINES_AROUND = 3
-MOST_LETTERS = 160
-"""A longer line of source is cut off here."""
+from ..model.finding import Finding, FoundSide
+from ..model.sources import MOST_LETTERS
+from .report import Report
 
 
-def race_rows(races: Races) -> str:
+def race_rows(report: Report) -> str:
     """A line that says how many races there are and what was not seen, and then one for each,
     those that are possible behind the others."""
-    head = {"races": len(races.races), "possible": len(races.possible), "unseen": [one.text for one in races.unseen]}
-    rows = [head, *(_told(race) for race in [*races.races, *races.possible])]
+    possible = sum(finding.is_possible for finding in report.findings)
+    head = {
+        "races": len(report.findings) - possible, "possible": possible, "unseen": [one.text for one in report.unseen],
+    }
+    rows = [head, *map(_told, report.findings)]
     return "".join(f"{json.dumps(row, separators=(',', ':'))}\n" for row in rows)
 
 
-def _told(race: Race) -> dict[str, Any]:
-    first, second = race.example
+def _told(finding: Finding) -> dict[str, Any]:
     return {
-        "thing": race.thing, "made": first.made, "possible": race.is_possible, "why": race.why, "times": race.times,
-        "sides": [_side(row, side) for row, side in zip((first, second), race.sides, strict=True)],
+        "thing": finding.thing, "made": finding.made, "possible": finding.is_possible, "why": finding.why,
+        "times": finding.times, "sides": [_side(side) for side in finding.sides],
     }
 
 
-def _side(row: Row, side: Side) -> dict[str, Any]:
-    begin, text = _source(row)
+def _side(side: FoundSide) -> dict[str, Any]:
     return {
-        "event": row.event, "task": row.task, "kind": side.kind, "file": row.file or "?", "line": row.line,
-        "function": side.function, "begin": begin, "text": text, **({"part": row.part} if row.part > 1 else {}),
+        "event": side.event, "task": side.task, "kind": side.kind, "file": side.file or "?", "line": side.line,
+        "function": side.function, "begin": side.begin, "text": [line[:MOST_LETTERS] for line in side.text],
+        **({"part": side.part} if side.part > 1 else {}),
     }
-
-
-def _source(row: Row) -> tuple[int, list[str]]:
-    """The number of the first line, and the lines. There are none if the file cannot be read or is shorter by now."""
-    lines = linecache.getlines(row.file) if row.file else []
-    if not 1 <= row.line <= len(lines):
-        return 0, []
-    begin = max(1, row.line - LINES_AROUND)
-    return begin, [line.rstrip("\n")[:MOST_LETTERS] for line in lines[begin - 1 : row.line + LINES_AROUND]]

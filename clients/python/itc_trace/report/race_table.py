@@ -6,9 +6,12 @@ import csv
 import io
 from collections.abc import Iterator
 
-from ..analyse.races import Race, Races
+from ..analyse.races import Races
+from ..model.finding import Finding
 
-COLUMNS = ("thing", "possible", "why", "times", "kind", "place", "task", "other kind", "other place", "other task")
+COLUMNS = (
+    "thing", "possible", "why", "times", "kind", "place", "task", "other kind", "other place", "other task", "id",
+)
 
 
 def race_table(races: Races) -> str:
@@ -16,11 +19,12 @@ def race_table(races: Races) -> str:
     written = io.StringIO()
     table = csv.writer(written, lineterminator="\n")
     table.writerow(COLUMNS)
-    table.writerows(_row(race) for race in [*races.races, *races.possible])
+    table.writerows(_row(race.finding(races.sources)) for race in [*races.races, *races.possible])
     return written.getvalue()
 
 
-def _row(race: Race) -> Iterator[object]:
-    yield from (race.thing, "yes" if race.is_possible else "no", race.why, race.times)
-    for touch, side in zip(race.example, race.sides, strict=True):
-        yield from (side.kind, side.place, touch.task)
+def _row(finding: Finding) -> Iterator[object]:
+    yield from (finding.thing, "yes" if finding.is_possible else "no", finding.why, finding.times)
+    for side in finding.sides:
+        yield from (side.kind, side.place, side.task)
+    yield finding.identity

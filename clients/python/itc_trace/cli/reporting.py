@@ -1,0 +1,65 @@
+"""Writes a report in each format that is asked for."""
+
+from __future__ import annotations
+
+import contextlib
+import os
+from collections.abc import Iterator
+from dataclasses import dataclass, field
+
+from ..record.faults import Fault
+from ..report.formats import FORMATS
+from ..report.report import Report
+from ..report.text import Shown
+from .saying import say, write
+
+STANDARD_OUTPUT = "-"
+
+
+@dataclass
+class Wanted:
+    """The formats that are asked for, and how much is shown of the list for a person."""
+
+    files: dict[str, str] = field(default_factory=dict)
+    """By the name of a format the file, or `-` for standard output."""
+    shown: Shown = field(default_factory=Shown)
+
+    def outputs(self) -> list[tuple[str, str | None]]:
+        """The files, each with its option. Standard output may be given once."""
+        to_output = [f"--{name}" for name, file in self.files.items() if file == STANDARD_OUTPUT]
+        if len(to_output) > 1:
+            raise Fault(f"{' and '.join(to_output)} both write to standard output: name a file for one of them")
+        return [(f"--{name}", file) for name, file in self.files.items() if file != STANDARD_OUTPUT]
+
+    @property
+    def takes_output(self) -> bool:
+        return STANDARD_OUTPUT in self.files.values()
+
+
+def deliver(report: Report, wanted: Wanted) -> bool:
+    """Writes the report. Gives whether all of it was written, and says why if it was not."""
+    return all([_write(FORMATS[name](report), file) for name, file in wanted.files.items()])
+
+
+def _write(text: str, file: str) -> bool:
+    if file == STANDARD_OUTPUT:
+        return write(text)
+    try:
+        with _replacing(file) as new, open(new, "w", encoding="utf-8") as written:
+            written.write(text)
+    except OSError as fault:
+        say(f"itc_trace: {file} cannot be written: {fault.strerror}")
+        return False
+    return True
+
+
+@contextlib.contextmanager
+def _replacing(file: str) -> Iterator[str]:
+    """A name beside the file, which takes its place once all is written: nobody reads half of it."""
+    new = f"{file}.new"
+    try:
+        yield new
+        os.replace(new, file)
+    finally:
+        with contextlib.suppress(FileNotFoundError):
+            os.unlink(new)

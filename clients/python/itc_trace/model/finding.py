@@ -1,0 +1,154 @@
+"""One thing that was found, as a value that each format is written of: what it is on, and both of its touches."""
+
+from __future__ import annotations
+
+import hashlib
+import json
+from dataclasses import dataclass, field
+from pathlib import PurePath
+
+RACE, POSSIBLE_RACE = "race", "possible race"
+DIGITS = 12
+SPACES = " ".join
+
+
+@dataclass(frozen=True)
+class FoundSide:
+    """What one task did: where, with its source, and the locks that it held."""
+
+    kind: str
+    file: str
+    line: int
+    function: str = ""
+    task: str = ""
+    event: int = 0
+    part: int = 1
+    held: tuple[str, ...] = ()
+    is_in_loop: bool = False
+    is_write: bool = False
+    begin: int = 0
+    """The number of the first line of `text`."""
+    text: tuple[str, ...] = ()
+    """Lines of source around the place. There are none where they are not known."""
+
+    @property
+    def place(self) -> str:
+        return f"{self.file}:{self.line}" if self.file else "?"
+
+    @property
+    def source(self) -> str:
+        """The line of the place."""
+        number = self.line - self.begin
+        return self.text[number].strip() if 0 <= number < len(self.text) else ""
+
+    @property
+    def known_as(self) -> KnownSide:
+        """If there is no source here, the name of the file stands for it."""
+        return KnownSide(self.kind, self.function, SPACES(self.source.split()) or PurePath(self.file).name)
+
+    def told(self, width: int) -> str:
+        where = f" in {self.function}" if self.function and self.function != "<module>" else ""
+        return f"{self.kind:{width}} at {self.place}{where}{':  ' if self.source else ''}{self.source}"
+
+
+@dataclass(frozen=True, order=True)
+class KnownSide:
+    """What stays of a side if other lines move it: what it does, in which function, and its source with single
+    spaces."""
+
+    kind: str
+    function: str
+    source: str
+
+
+@dataclass(frozen=True)
+class Known:
+    """A finding by what stays of it: neither the numbers of lines nor the names of tasks."""
+
+    thing: str
+    sides: tuple[KnownSide, ...]
+
+    @property
+    def identity(self) -> str:
+        text = json.dumps([self.thing, [[side.kind, side.function, side.source] for side in self.sides]])
+        return hashlib.sha256(text.encode()).hexdigest()[:DIGITS]
+
+    def __str__(self) -> str:
+        return f"{self.identity} ({self.thing})"
+
+
+@dataclass(frozen=True)
+class Seen:
+    """In how many runs it was found, of how many, and in which first."""
+
+    runs: int
+    of: int
+    first: int
+    seed: int | None = None
+
+    def __str__(self) -> str:
+        by_seed = "" if self.seed is None else f" (--shake={self.seed})"
+        return f"in {self.runs} of {runs_in_words(self.of)}, first in run {self.first}{by_seed}"
+
+
+def runs_in_words(count: int) -> str:
+    return "1 run" if count == 1 else f"{count} runs"
+
+
+@dataclass(frozen=True)
+class Finding:
+    """What was found. A format that knows no more than this can write each kind of it."""
+
+    kind: str
+    """In words: `race`, `possible race`."""
+    thing: str
+    sides: tuple[FoundSide, ...]
+    why: str
+    """Why nothing keeps the sides apart, or what holds them."""
+    times: int = 1
+    made: str = ""
+    """What made the thing, and where."""
+    is_possible: bool = False
+    """Whether it did not happen in this run, by luck alone. It fails a run only if it is asked to."""
+    seen: Seen | None = None
+    """Of several runs."""
+    tests: tuple[str, ...] = field(default=(), compare=False)
+    """The tests of pytest that met it."""
+
+    @property
+    def known_as(self) -> Known:
+        return Known(self.thing, tuple(sorted(side.known_as for side in self.sides)))
+
+    @property
+    def identity(self) -> str:
+        """Digits that stay the same if other lines move it."""
+        return self.known_as.identity
+
+    @property
+    def title(self) -> str:
+        return f"{self.kind} on {self.thing}{f' ({self.made})' if self.made else ''}"
+
+    @property
+    def told_sides(self) -> list[str]:
+        width = max((len(side.kind) for side in self.sides), default=0)
+        return [side.told(width) for side in self.sides]
+
+    @property
+    def told_order(self) -> str:
+        tasks = "tasks" if any(side.is_in_loop for side in self.sides) else "threads"
+        times = "once" if self.times == 1 else f"{self.times} times"
+        names = " and ".join(side.task for side in self.sides)
+        return f"{tasks} {names}: {self.why}; {times}, as {_events(self.sides)}; id {self.identity}"
+
+    def lines(self) -> list[str]:
+        """In words for a person. All but the first are to be indented."""
+        return [self.title, *self.told_sides, self.told_order, *([str(self.seen)] if self.seen else [])]
+
+
+def _events(sides: tuple[FoundSide, ...]) -> str:
+    """By their numbers, and those of their parts if the run has several."""
+    parts = {side.part for side in sides}
+    if len(parts) == 1:
+        of_part = f" of part {sides[0].part}" if sides[0].part > 1 else ""
+        return f"events {' and '.join(str(side.event) for side in sides)}{of_part}"
+    return " and ".join(f"event {side.event} of part {side.part}" for side in sides)

@@ -1,0 +1,39 @@
+"""The source lines that a list of findings shows: those that a journal has kept, else those of the files here."""
+
+from __future__ import annotations
+
+import linecache
+from collections.abc import Mapping
+from dataclasses import dataclass, field
+
+LINES_AROUND = 3
+MOST_LETTERS = 160
+"""A longer line of source is cut off here, but the line of the place itself."""
+
+
+@dataclass
+class Sources:
+    """The lines by their file and their number."""
+
+    kept: dict[str, dict[int, str]] = field(default_factory=dict)
+
+    def add(self, file: str, lines: Mapping[int, str]) -> None:
+        self.kept.setdefault(file, {}).update(lines)
+
+    def line(self, file: str, number: int) -> str:
+        """The line without its end. It is empty where it is not known."""
+        kept = self.kept.get(file)
+        if kept is not None and number in kept:
+            return kept[number]
+        return linecache.getline(file, number).rstrip("\r\n") if file and number > 0 else ""
+
+    def around(self, file: str, number: int) -> tuple[int, tuple[str, ...]]:
+        """The number of the first line, and the lines around one that is known. Else there are none."""
+        if not self.line(file, number):
+            return 0, ()
+        begin = max(1, number - LINES_AROUND)
+        lines = [self.line(file, one) for one in range(begin, number + LINES_AROUND + 1)]
+        while lines and not lines[-1]:
+            lines.pop()
+        cut = (line if begin + place == number else line[:MOST_LETTERS] for place, line in enumerate(lines))
+        return begin, tuple(cut)

@@ -1,0 +1,71 @@
+"""What was found, as one value that is made once. Each format is written of this value, and knows nothing else."""
+
+from __future__ import annotations
+
+import os
+from collections.abc import Iterable
+from dataclasses import dataclass, field
+
+from ..analyse.benign import Looking
+from ..analyse.races import Race, Races
+from ..model.finding import Finding, Known
+from ..model.verdict import PassedOver, Unseen, Verdict
+from .hints import hints
+
+
+@dataclass
+class Report:
+    """All that was found in a run, or in several."""
+
+    verdict: Verdict
+    summary: str
+    """What was found, how much, and of how much: the last line for a person."""
+    findings: list[Finding] = field(default_factory=list)
+    """Those that count, and behind them those that are possible only."""
+    silenced: list[Finding] = field(default_factory=list)
+    """Those that are meant."""
+    known: list[Finding] = field(default_factory=list)
+    """Those that are in the baseline."""
+    gone: list[Known] = field(default_factory=list)
+    """Those of the baseline that did not occur."""
+    unseen: list[Unseen] = field(default_factory=list)
+    passed_over: list[PassedOver] = field(default_factory=list)
+    hints: list[str] = field(default_factory=list)
+    """What a reader is told, too, a line each."""
+    counts: dict[str, int] = field(default_factory=dict)
+    """How much was looked at: `places`, `things`, `events` and `runs`."""
+    picture: str | None = None
+    """The file of the page that shows the trace."""
+    folder: str = field(default_factory=os.getcwd)
+    """The files of findings are named from here, if their names are no whole paths."""
+
+    @property
+    def all_findings(self) -> list[Finding]:
+        """Those that are meant or known, too."""
+        return [*self.findings, *self.silenced, *self.known]
+
+    @property
+    def ids(self) -> dict[str, Finding]:
+        """Each by its identity. Of those that share one it is the first."""
+        named: dict[str, Finding] = {}
+        for finding in self.all_findings:
+            named.setdefault(finding.identity, finding)
+        return named
+
+
+def report_of(
+    races: Races, looking: Looking | None = None, fail_on_possible: bool = False, picture: str | None = None,
+    beside: Iterable[str] = (),
+) -> Report:
+    """The report of one run."""
+    looking = looking or Looking()
+
+    def made(found: Iterable[Race]) -> list[Finding]:
+        return [race.finding(races.sources) for race in found]
+
+    return Report(
+        races.verdict(fail_on_possible), races.summary(), made([*races.races, *races.possible]), made(races.meant),
+        made(races.known), looking.gone(), list(races.unseen), list(dict.fromkeys(races.passed_over)),
+        [*hints(races), *looking.unfitting(), *beside],
+        {"places": races.places, "things": races.things, "events": races.events, "runs": 1}, picture,
+    )

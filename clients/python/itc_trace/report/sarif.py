@@ -1,0 +1,99 @@
+"""The report as SARIF 2.1.0, which code hosts and editors take in."""
+
+from __future__ import annotations
+
+import json
+import os
+from pathlib import PurePath
+from typing import Any
+from urllib.parse import quote
+
+from ..model.finding import Finding, FoundSide
+from ..model.verdict import Verdict
+from .report import Report
+
+SCHEMA = "https://json.schemastore.org/sarif-2.1.0.json"
+ROOT = "SRCROOT"
+FINGERPRINT = "itcTrace/v1"
+RULES = {
+    "race": "Two tasks touch one thing, a touch changes it, and nothing puts them in order.",
+    "possible race": "Only luck kept two conflicting touches apart: they have no lock in common.",
+}
+"""What each kind says. One that is not here is a rule by its name alone."""
+
+
+def sarif(report: Report) -> str:
+    return json.dumps(as_object(report), indent=1, ensure_ascii=False) + "\n"
+
+
+def as_object(report: Report) -> dict[str, Any]:
+    kinds = list(dict.fromkeys([*RULES, *(finding.kind for finding in report.all_findings)]))
+    results = [
+        *(_result(one, report, kinds, None) for one in report.findings),
+        *(_result(one, report, kinds, "inSource") for one in report.silenced),
+        *(_result(one, report, kinds, "external") for one in report.known),
+    ]
+    return {
+        "$schema": SCHEMA, "version": "2.1.0",
+        "runs": [{
+            "tool": {"driver": {"name": "itc-trace", "rules": [_rule(kind) for kind in kinds]}},
+            "originalUriBaseIds": {ROOT: {"uri": f"file://{quote(os.path.join(report.folder, ''))}"}},
+            "invocations": [_invocation(report)], "columnKind": "unicodeCodePoints", "results": results,
+        }],
+    }
+
+
+def _rule(kind: str) -> dict[str, Any]:
+    told = RULES.get(kind, kind)
+    return {"id": _id(kind), "name": _id(kind), "shortDescription": {"text": told}, "defaultConfiguration": {
+        "level": "warning" if kind.startswith("possible") else "error",
+    }}
+
+
+def _id(kind: str) -> str:
+    return kind.replace(" ", "-")
+
+
+def _invocation(report: Report) -> dict[str, Any]:
+    """Whether the run was seen whole. What was not is told as the tool's own notification."""
+    told = [{"level": "error", "message": {"text": one.text}} for one in report.unseen]
+    is_whole = report.verdict is not Verdict.INCOMPLETE and not report.unseen
+    return {"executionSuccessful": is_whole, **({"toolExecutionNotifications": told} if told else {})}
+
+
+def _result(finding: Finding, report: Report, kinds: list[str], suppressed: str | None) -> dict[str, Any]:
+    """The first side that writes is the place of the result, and the others are related to it."""
+    sides = sorted(finding.sides, key=lambda side: not side.is_write)
+    related = [_location(side, report, number) for number, side in enumerate(sides[1:], 1)]
+    others = ", ".join(f"[{side.kind} by {side.task}]({number})" for number, side in enumerate(sides[1:], 1))
+    told = f"{finding.title}: {sides[0].kind} by {sides[0].task}, and {others}: {finding.why} (id {finding.identity})"
+    return {
+        "ruleId": _id(finding.kind), "ruleIndex": kinds.index(finding.kind),
+        "level": "warning" if finding.is_possible else "error", "message": {"text": told},
+        "locations": [_location(sides[0], report)], "relatedLocations": related,
+        "partialFingerprints": {FINGERPRINT: finding.identity}, "occurrenceCount": max(1, finding.times),
+        **({"suppressions": [{"kind": suppressed}]} if suppressed else {}),
+    }
+
+
+def _location(side: FoundSide, report: Report, number: int | None = None) -> dict[str, Any]:
+    told: dict[str, Any] = {"message": {"text": f"{side.kind} by {side.task}"}}
+    if number is not None:
+        told["id"] = number
+    if side.file:
+        region: dict[str, Any] = {"startLine": side.line} if side.line > 0 else {}
+        if region and side.source:
+            region["snippet"] = {"text": side.source}
+        physical: dict[str, Any] = {"artifactLocation": _artifact(side.file, report.folder)}
+        told["physicalLocation"] = {**physical, **({"region": region} if region else {})}
+    if side.function:
+        told["logicalLocations"] = [{"fullyQualifiedName": side.function}]
+    return told
+
+
+def _artifact(file: str, folder: str) -> dict[str, str]:
+    """The file by its name from the folder of the run, so that a repository knows it elsewhere."""
+    whole = os.path.normpath(os.path.join(folder, file))
+    if PurePath(whole).is_relative_to(folder):
+        return {"uri": quote(PurePath(whole).relative_to(folder).as_posix()), "uriBaseId": ROOT}
+    return {"uri": f"file://{quote(whole)}"}

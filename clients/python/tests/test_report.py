@@ -1,0 +1,216 @@
+"""What takes the list of races in: each format says what was found, all of it, and is well formed."""
+
+from __future__ import annotations
+
+import json
+import os
+import re
+import subprocess
+import sys
+import tempfile
+import unittest
+from pathlib import Path
+from typing import Any
+from unittest import mock
+
+from itc_trace.model.verdict import Verdict
+from itc_trace.report.as_json import NoReport, json_text, report_of_json
+from itc_trace.report.formats import FORMATS
+from itc_trace.report.github import github
+from itc_trace.report.race_rows import race_rows
+from itc_trace.report.report import Report
+from itc_trace.report.sarif import sarif
+from itc_trace.report.text import Shown, link, text
+
+from .sarif_form import faults
+from .support import PACKAGE
+
+STORED = PACKAGE / "tests" / "reports"
+SELLING = """import threading
+stock = {"left": 2}
+def sell():
+    stock["left"] -= 1
+threads = [threading.Thread(target=sell) for _ in range(2)]
+for thread in threads:
+    thread.start()
+for thread in threads:
+    thread.join()
+"""
+SYSTEM = '[process.shop]\ncommand = ["python3", "shop.py"]\n'
+
+
+def stored() -> Report:
+    return report_of_json((STORED / "kept.json").read_text(encoding="utf-8"))
+
+
+class Formats(unittest.TestCase):
+    """One stored report: a race, one of tasks of a loop in two parts, a possible one, and all that stands beside."""
+
+    maxDiff = None
+
+    def assert_stored(self, name: str, written: str) -> None:
+        self.assertEqual(written, (STORED / name).read_text(encoding="utf-8"))
+
+    def test_json_is_read_back_and_written_the_same(self) -> None:
+        self.assert_stored("kept.json", json_text(stored()))
+
+    def test_the_text_has_each_finding_with_its_identity(self) -> None:
+        told = text(stored())
+        self.assert_stored("kept.txt", told + "\n")
+        for finding in stored().findings:
+            self.assertIn(f"; id {finding.identity}\n", told)
+
+    def test_sarif_is_as_stored_and_well_formed(self) -> None:
+        self.assert_stored("kept.sarif", sarif(stored()))
+        self.assertEqual(faults(json.loads(sarif(stored()))), [])
+
+    def test_sarif_has_both_places_and_what_stays_when_lines_move(self) -> None:
+        report = stored()
+        results = json.loads(sarif(report))["runs"][0]["results"]
+        self.assertEqual(len(results), len(report.all_findings))
+        for finding, result in zip(report.all_findings, results, strict=True):
+            self.assertEqual(list(result["partialFingerprints"].values()), [finding.identity])
+            places = [*result["locations"], *result["relatedLocations"]]
+            lines = sorted(place["physicalLocation"]["region"]["startLine"] for place in places if "physicalLocation" in place)
+            self.assertEqual(lines, sorted(side.line for side in finding.sides if side.file))
+        self.assertEqual([result.get("suppressions") for result in results].count(None), len(report.findings))
+
+    def test_github_has_a_line_for_each_and_no_bare_newline(self) -> None:
+        with mock.patch.dict(os.environ, {"GITHUB_WORKSPACE": "/work/of/shop"}):
+            written = github(stored())
+        self.assert_stored("kept.github", written)
+        lines = written.splitlines()
+        self.assertEqual(len(lines), len(stored().findings) + 1)
+        for line in lines:
+            self.assertRegex(line, r"\A::(error|warning) (file=[^:,]+,line=\d+,)?title=[^:,]+::.")
+
+    def test_the_page_gets_each_finding_with_its_source(self) -> None:
+        self.assert_stored("kept.races", race_rows(stored()))
+
+    def test_what_is_no_report_is_told(self) -> None:
+        whole = json.loads(json_text(stored()))
+        spoilt = ["", "[]", "{}", "7", json.dumps({**whole, "version": 2}), json.dumps({**whole, "verdict": "MAYBE"})]
+        spoilt += [json.dumps({key: value for key, value in whole.items() if key != left}) for left in whole]
+        spoilt.append(json.dumps({**whole, "findings": [{}]}))
+        for one in spoilt:
+            with self.subTest(one[:60]), self.assertRaises(NoReport):
+                report_of_json(one)
+
+    def test_links_lead_to_both_touches(self) -> None:
+        first, second = stored().findings[:2]
+        self.assertEqual(link(first, "/a b.html"), "file:///a%20b.html#event=3&other=9")
+        self.assertEqual(link(second, "/x.html"), "file:///x.html#part=3&event=40")
+
+
+class Commands(unittest.TestCase):
+    """What the commands write, end to end."""
+
+    def setUp(self) -> None:
+        self.folder = Path(self.enterContext(tempfile.TemporaryDirectory()))
+        (self.folder / "shop.py").write_text(SELLING)
+
+    def run_here(self, *words: str, stdout: Any = subprocess.PIPE) -> "subprocess.CompletedProcess[str]":
+        environment = {**os.environ, "PYTHONPATH": str(PACKAGE)}
+        command = [sys.executable, "-m", "itc_trace", *words]
+        return subprocess.run(
+            command, stdout=stdout, stderr=subprocess.PIPE, text=True, env=environment, cwd=self.folder, timeout=600, check=False,
+        )
+
+    def test_each_command_writes_each_format(self) -> None:
+        (self.folder / "shop.toml").write_text(SYSTEM)
+        identities = set()
+        for words in (["run", "--export", "g", "shop.py"], ["races", "g"], ["system", "shop.toml"], ["run", "--runs", "2", "shop.py"]):
+            with self.subTest(words[0]):
+                ran = self.run_here(words[0], "--json", "r.json", "--sarif", "r.sarif", "--github", *words[1:])
+                self.assertEqual(ran.returncode, 66, ran.stderr)
+                report = report_of_json((self.folder / "r.json").read_text())
+                self.assertEqual((report.verdict, [one.thing for one in report.findings]), (Verdict.RACES, ["stock['left']"]))
+                self.assertTrue(all(side.source == 'stock["left"] -= 1' for side in report.findings[0].sides), report)
+                identity = report.findings[0].identity
+                identities.add(identity)
+                told = json.loads((self.folder / "r.sarif").read_text())
+                self.assertEqual(faults(told), [])
+                self.assertEqual([one["partialFingerprints"]["itcTrace/v1"] for one in told["runs"][0]["results"]], [identity])
+                self.assertEqual(re.findall(r"(?m)^::error file=shop.py,line=4,title=itc-trace (\w+)::", ran.stdout), [identity])
+                self.assertIn(f"id {identity}\n", ran.stderr)
+        self.assertEqual(len(identities), 1, identities)
+        self.assertEqual(sorted(self.folder.glob("*.new")), [])
+
+    def test_standard_output_has_the_format_alone(self) -> None:
+        self.run_here("run", "--export", "g", "shop.py")
+        for words in (["run", "--json", "-", "shop.py"], ["races", "--json", "-", "g"], ["run", "--json=-", "shop.py"]):
+            with self.subTest(words):
+                ran = self.run_here(*words)
+                self.assertEqual(report_of_json(ran.stdout).verdict, Verdict.RACES)
+                self.assertIn("itc_trace: race on stock['left']", ran.stderr)
+
+    def test_a_closed_pipe_is_no_fault(self) -> None:
+        self.run_here("run", "--export", "g", "shop.py")
+        for words in (["run", "--sarif", "-", "shop.py"], ["races", "--json", "-", "g"]):
+            reading, writing = os.pipe()
+            os.close(reading)
+            with self.subTest(words):
+                ran = self.run_here(*words, stdout=writing)
+                os.close(writing)
+                self.assertEqual(ran.returncode, 66, ran.stderr)
+                self.assertNotIn("Traceback", ran.stderr)
+
+    def test_a_report_that_cannot_be_written_is_a_fault(self) -> None:
+        with open("/dev/full", "w", encoding="utf-8") as full:
+            ran = self.run_here("run", "--json", "-", "shop.py", stdout=full)
+        self.assertEqual(ran.returncode, 3, ran.stderr)
+        self.assertIn("itc_trace: the output cannot be written: No space left on device\n", ran.stderr)
+
+    def test_what_the_formats_would_overwrite_is_told_first(self) -> None:
+        for words, said in (
+            (["--json", "shop.py"], "--json shop.py would overwrite the program: name another file"),
+            (["--json", "x", "--sarif", "x"], "--json and --sarif both name x: name two files"),
+            (["--json", "-", "--sarif", "-"], "--json and --sarif both write to standard output: name a file for one of them"),
+            (["--json", "-", "--github"], "--json and --github both write to standard output: name a file for one of them"),
+            (["--sarif", "no/x"], "no/x cannot be written: No such file or directory"),
+        ):
+            with self.subTest(words):
+                ran = self.run_here("run", *words, "shop.py")
+                self.assertEqual((ran.returncode, ran.stderr), (2, f"itc_trace: {said}\n"))
+        self.assertEqual((self.folder / "shop.py").read_text(), SELLING)
+
+    def test_no_race_is_told_in_each_format_too(self) -> None:
+        (self.folder / "shop.py").write_text("print('sold')\n")
+        ran = self.run_here("run", "--quiet", "--json", "r.json", "--sarif", "r.sarif", "--github", "shop.py")
+        self.assertEqual((ran.returncode, ran.stdout, ran.stderr), (0, "sold\n", ""))
+        self.assertEqual(report_of_json((self.folder / "r.json").read_text()).verdict, Verdict.NO_RACE)
+        told = json.loads((self.folder / "r.sarif").read_text())["runs"][0]
+        self.assertEqual((told["results"], told["invocations"]), ([], [{"executionSuccessful": True}]))
+
+    def test_a_run_that_was_not_seen_whole_is_no_success_in_any_format(self) -> None:
+        (self.folder / "shop.py").write_text("import os, signal\nos.kill(os.getpid(), signal.SIGKILL)\n")
+        ran = self.run_here("run", "--json", "r.json", "--sarif", "r.sarif", "--github", "shop.py")
+        self.assertEqual(ran.returncode, 67, ran.stderr)
+        self.assertEqual(report_of_json((self.folder / "r.json").read_text()).verdict, Verdict.INCOMPLETE)
+        (invocation,) = json.loads((self.folder / "r.sarif").read_text())["runs"][0]["invocations"]
+        self.assertFalse(invocation["executionSuccessful"])
+        self.assertRegex(ran.stdout, r"\A::error title=itc-trace::incomplete: .*SIGKILL")
+
+
+class Shares(unittest.TestCase):
+    """How much of a report is shown."""
+
+    def test_every_format_is_an_option(self) -> None:
+        ran = subprocess.run(
+            [sys.executable, "-m", "itc_trace", "run", "--help"], capture_output=True, text=True, check=True,
+            env={**os.environ, "PYTHONPATH": str(PACKAGE)},
+        )
+        for name in FORMATS:
+            self.assertIn(f"--{name}", ran.stdout)
+
+    def test_at_most_so_many_entries_are_shown_and_all_are_counted(self) -> None:
+        report = stored()
+        told = text(report, Shown(most=1))
+        self.assertIn("itc_trace: and 2 more, which --max 1 leaves out\n", told)
+        self.assertEqual(told.count("race on "), 1)
+        self.assertTrue(told.endswith(report.summary))
+        self.assertNotIn("leaves out", text(report, Shown(most=3)))
+
+
+if __name__ == "__main__":
+    unittest.main()
