@@ -1,4 +1,4 @@
-"""The commands, as `python3 -m itc_trace run|system|races|relay|snapshot ..`."""
+"""The commands, as `python3 -m itc_trace run|system|races|explain|relay|snapshot ..`."""
 
 from __future__ import annotations
 

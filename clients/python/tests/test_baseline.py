@@ -10,7 +10,8 @@ import tempfile
 import unittest
 from pathlib import Path
 
-from itc_trace.analyse.baseline import Known, KnownSide, read_baseline, write_baseline
+from itc_trace.analyse.baseline import read_baseline, write_baseline
+from itc_trace.model.finding import Known, KnownSide
 from itc_trace.record.faults import Fault
 
 from .support import PACKAGE

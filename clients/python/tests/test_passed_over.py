@@ -5,8 +5,10 @@ from __future__ import annotations
 import unittest
 
 from itc_trace import Verdict
+from itc_trace.analyse.benign import Looking
 from itc_trace.record.journal import read_whole
 from itc_trace.report.merging import Merged
+from itc_trace.report.text import text
 from itc_trace.analyse.races import Races
 from itc_trace.model.verdict import PassedOver, end_row
 
@@ -70,7 +72,7 @@ class Rows(unittest.TestCase):
         merged = Merged()
         merged.add(races, 0, None)
         merged.add(races, 0, None)
-        self.assertIn("no race in 2 runs; not looked into: exec at shop.py:3", merged.text())
+        self.assertIn("no race in 2 runs; not looked into: exec at shop.py:3", text(merged.report(Looking())))
 
 
 if __name__ == "__main__":

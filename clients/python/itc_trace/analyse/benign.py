@@ -8,14 +8,14 @@ from __future__ import annotations
 
 import re
 import tokenize
-from collections.abc import Iterable, Iterator
+from collections.abc import Iterable, Iterator, Sequence
 from dataclasses import dataclass, field
 from functools import cache
 from itertools import takewhile
 from pathlib import Path, PurePath
 
 from ..record.faults import Fault
-from ..model.finding import Known
+from ..model.finding import Finding, FoundSide, Known
 from .races import Race, Races, Side
 
 COMMENT = re.compile(r"#\s*itc:\s*benign\b")
@@ -32,14 +32,14 @@ class Pattern:
     line: str = ""
     """Where it stands, by its file and the number of its line."""
 
-    def fits(self, race: Race) -> bool:
+    def fits(self, race: Race | Finding) -> bool:
+        given: Sequence[Side | FoundSide] = race.sides
         return _fits(race.thing, self.thing) and any(
-            all(_is_at(side, place) for side, place in zip(sides, self.places))
-            for sides in (race.sides, race.sides[::-1])
+            all(_is_at(side, place) for side, place in zip(sides, self.places)) for sides in (given, given[::-1])
         )
 
 
-def _is_at(side: Side, place: str) -> bool:
+def _is_at(side: Side | FoundSide, place: str) -> bool:
     file, _, line = side.place.rpartition(":")
     return _fits(side.place, place) or _fits(f"{PurePath(file).name}:{line}", place)
 

@@ -22,6 +22,7 @@ from .progress import Bar, Shown
 from .races import Race, Races, add_race, events_of_lock, find_in, in_order, list_pair, sides_of
 from ..session import LONGEST_ANSWER, Refused, Session
 from .snapshot import write_export
+from .story import add_stories
 from .trace import Asked, Steps, Told, Trace, told_by_signals
 from ..model.verdict import Cause, PassedOver, Unseen, end_row
 
@@ -207,6 +208,9 @@ def races_of_parts(
             find_in_parts(divided.parts(found, last), found, looking.strict, collected, bar, keep)
         except (NoCollector, OSError, Refused) as fault:
             found.unseen.append(Unseen(Cause.COLLECTOR, f"the collector does not tell the order of events ({fault})"))
+        all_found = [*found.races, *found.possible]
+        parts = sorted({row.part for race in all_found for row in race.example})
+        add_stories(all_found, (row for part in parts for row in divided.rows(part)))
         looking.silence(found)
         return found
 
@@ -264,7 +268,7 @@ class _Divided:
     def file(self, part: int) -> str:
         return os.path.join(self._folder, f"part-{part}")
 
-    def _rows(self, part: int) -> list[Row]:
+    def rows(self, part: int) -> list[Row]:
         try:
             with open(self.file(part), encoding="utf-8") as lines:
                 return [row for line in lines if isinstance(row := read_line(line), Row)]
@@ -276,7 +280,7 @@ class _Divided:
         places, things = set(), set()
         count = max(self._borders, default=1)
         for number in range(1, count + 1):
-            part = Part(self._rows(number), self._borders.get(number), number)
+            part = Part(self.rows(number), self._borders.get(number), number)
             if number > 1 and part.border is None:
                 raise Refused("the journal of a part", "it has no border")
             touches = [row for row in part.rows if row.is_touch and row.kind != MAKING]

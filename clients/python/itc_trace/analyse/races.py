@@ -17,7 +17,7 @@ from typing import Protocol
 
 from ..record.collector import HOST, NoCollector
 from ..model.conflicts import CONFLICTING, MAKING, WRITE
-from ..model.finding import POSSIBLE_RACE, RACE, Finding, FoundSide
+from ..model.finding import POSSIBLE_RACE, RACE, Finding, FoundSide, Story
 from .fast_track import deciding_pairs
 from .looks import looks_of
 from ..record.journal import Row, read_whole
@@ -62,6 +62,7 @@ class Race:
     why: str = NOTHING
     is_possible: bool = False
     """Whether it was kept in order in this run, by luck alone."""
+    story: Story = Story()
 
     @property
     def key(self) -> object:
@@ -73,7 +74,7 @@ class Race:
         return Finding(
             POSSIBLE_RACE if self.is_possible else RACE, self.thing,
             tuple(_found_side(row, side, sources or Sources()) for row, side in zip(self.example, self.sides)),
-            self.why, self.times, self.example[0].made, self.is_possible,
+            self.why, self.times, self.example[0].made, self.is_possible, story=self.story,
         )
 
     def __str__(self) -> str:

@@ -9,6 +9,7 @@ from ..record.collector import HOST
 from ..record.journal import Journal, NoJournal, read_whole
 from .progress import Bar
 from .races import Races, find_races
+from .story import add_stories
 from ..session import LONGEST_ANSWER, Refused, Session
 from ..model.verdict import END_OF_ALL, Cause, Unseen
 
@@ -23,6 +24,7 @@ def races_seen(
     lines, looking = list(journal), looking or Looking()
     try:
         found = find_races(tenant, port, lines, host, looking.strict, bar)
+        add_stories([*found.races, *found.possible], read_whole(lines).rows if found.races or found.possible else [])
         looking.silence(found)
         return found
     except (OSError, Refused) as fault:

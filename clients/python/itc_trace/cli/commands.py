@@ -1,4 +1,4 @@
-"""The commands: `python3 -m itc_trace run|system|races|relay|snapshot ..`."""
+"""The commands: `python3 -m itc_trace run|system|races|explain|relay|snapshot ..`."""
 
 from __future__ import annotations
 
@@ -8,26 +8,23 @@ import os
 import random
 import shutil
 import sys
-import tempfile
 
 from ..analyse.baseline import read_baseline, write_baseline
 from ..analyse.benign import Looking, read_patterns
 from ..record.collector import HOST, NoCollector
 from ..record.faults import WORDS_REFUSED, Fault, in_words, look, look_for_collector
 from ..record.journal import NoJournal
-from ..analyse.loading import TENANT as LOADED
-from ..analyse.loading import loaded
-from ..analyse.parts import is_in_parts, races_of_parts
-from ..analyse.progress import Bar
 from ..analyse.races import Races
 from ..processes.relay import relay
+from .explain import explain
+from .kept_trace import KeptTrace
 from .options import NEW_SEED, parser
 from .output_files import check_outputs
-from .parser import Parser, tenant
+from .parser import Parser
 from .saying import UNWRITTEN, say, write
+from .settings import Settings, settings_here
 from .reporting import STANDARD_OUTPUT, Wanted, deliver
-from .run import MOST_SEED, Run, draw_parts, draw_tenant, run, tell_if_untouched
-from ..analyse.seeing import check_trace, lines_of, races_seen
+from .run import MOST_SEED, Run, run, tell_if_untouched
 from ..session import Refused
 from ..analyse.snapshot import snapshot
 from ..report.hints import missing_sources
@@ -73,7 +70,7 @@ def _run(words: argparse.Namespace, program: list[str]) -> int:
         quiet=words.quiet, fail_on_possible=words.fail_on == "possible", runs=words.runs, is_shaken=not words.no_shake,
         seed=random.SystemRandom().randrange(MOST_SEED) if words.shake == NEW_SEED else words.shake,
         part_events=words.part_events, status_file=words.status_file,
-        watched=None if words.watch_nothing else words.watch or [],
+        watched=None if words.watch_nothing else words.watch or [], excluded=words.exclude or [],
         looking=words.looking, inputs=_read(words), baseline=words.write_baseline, wanted=words.wanted,
     ))
 
@@ -117,16 +114,20 @@ def _meant_by(program: str, words: argparse.Namespace) -> str:
     return "name a file, or -m and a module"
 
 
-def _looking(words: argparse.Namespace) -> Looking:
+def _looking(words: argparse.Namespace, is_first: bool) -> Looking:
+    """The first run that writes a baseline reads none, also where the settings name it."""
+    if is_first:
+        words.baseline = None
     baseline = [] if words.baseline is None else read_baseline(words.baseline)
     return Looking(words.strict, [pattern for file in words.benign for pattern in read_patterns(file)], baseline)
 
 
-def _wanted(words: argparse.Namespace) -> Wanted:
+def _wanted(words: argparse.Namespace, settings: Settings) -> Wanted:
+    """The formats that were typed, else those that are set."""
     files = {name: file for name in ("json", "sarif") if (file := getattr(words, name)) is not None}
     if words.github:
         files["github"] = STANDARD_OUTPUT
-    return Wanted(files, Shown(words.all, words.max))
+    return Wanted(files or dict(settings.formats), Shown(words.all, words.max))
 
 
 def _system(words: argparse.Namespace) -> int:
@@ -143,65 +144,25 @@ def _system(words: argparse.Namespace) -> int:
 
 
 def _races(words: argparse.Namespace) -> int:
-    words.host = _host(words)
-    if words.port is None and not os.path.exists(words.trace):
-        raise Fault(f"{words.trace} cannot be read: No such file or directory: name an export, or a tenant with --port")
-    divided = _journal_in_parts(words)
-    if divided is not None:
-        _check_outputs(words, divided)
-        return _races_of_parts(words, divided)
-    if not words.journal and words.port is None and os.path.isfile(f"{words.trace}.journal"):
-        words.journal = [f"{words.trace}.journal"]
-    if not words.journal:
-        raise Fault(
-            f"races wants the journal of each process, behind {words.trace}: "
-            "`run --export` and `run --journal` write it"
-        )
-    _check_outputs(words)
-    if words.port is None:
-        with loaded(words.trace) as collector:
-            return _races_of(words, LOADED, collector.port, HOST, words.trace)
-    look(_tenant(words.trace), words.port, words.host)
-    return _races_of(words, words.trace, words.port, words.host, f"tenant {words.trace} at port {words.port}")
+    outputs = [("--write-baseline", words.write_baseline), *words.wanted.outputs()]
+    found, picture = _kept(words, outputs, _read(words)).races(words.looking)
+    return _tell(words, found, picture)
 
 
-def _check_outputs(words: argparse.Namespace, *further: str) -> None:
-    """Finds what keeps `races` from writing its files."""
-    read = [(file, file) for file in (words.trace, *words.journal, *further)]
-    outputs = (("--picture", words.picture), ("--write-baseline", words.write_baseline), *words.wanted.outputs())
-    check_outputs(outputs, [*read, *_read(words)])
+def _kept(
+    words: argparse.Namespace, outputs: list[tuple[str, str | None]], inputs: list[tuple[str, str]],
+) -> KeptTrace:
+    host = _host(words)
+    return KeptTrace(
+        words.command, words.trace, words.journal, words.port, host, words.picture, outputs, inputs,
+    )
 
 
-def _tenant(word: str) -> str:
-    try:
-        return tenant(word)
-    except argparse.ArgumentTypeError as fault:
-        raise Fault(str(fault)) from fault
-
-
-def _journal_in_parts(words: argparse.Namespace) -> str | None:
-    """The journal of a run in parts, if it is that: given for the export, behind it,
-    or beside the export that is named."""
-    if words.port is not None or len(words.journal) > 1:
-        return None
-    given = words.journal or [words.trace, f"{words.trace}.journal"]
-    return next((one for one in given if os.path.isfile(one) and is_in_parts(one)), None)
-
-
-def _races_of(words: argparse.Namespace, tenant: str, port: int, host: str, trace: str) -> int:
-    lines = list(lines_of(words.journal))
-    check_trace(tenant, port, lines, host, trace)
-    found = races_seen(tenant, port, lines, host, words.looking, Bar(sys.stderr))
-    is_drawn = words.picture is not None and draw_tenant(tenant, port, host, lines, words.picture, found)
-    return _tell(words, found, words.picture if is_drawn else None)
-
-
-def _races_of_parts(words: argparse.Namespace, journal: str) -> int:
-    """The races of a run in parts, whose exports are made anew for a picture."""
-    with tempfile.TemporaryDirectory(prefix="itc_trace_") as work:
-        parts = None if words.picture is None else os.path.join(work, "export")
-        found = races_of_parts(journal, words.looking, Bar(sys.stderr), None, parts)
-        return _tell(words, found, draw_parts(parts, words.picture, found, ""))
+def _explain(words: argparse.Namespace) -> int:
+    kept = _kept(words, [("--benign", words.benign)], [])
+    if words.benign is not None:
+        check_outputs([("--benign", words.benign)], [(words.trace, words.trace)])
+    return explain(words.id, kept, words.strict, words.benign)
 
 
 def _tell(words: argparse.Namespace, found: Races, picture: str | None = None) -> int:
@@ -267,7 +228,11 @@ def main(name: str = "python3 -m itc_trace") -> int:
 def _looked(words: argparse.Namespace, program: list[str]) -> int:
     """Does what a command is for that looks for races,
     and writes the baseline if one is asked for and races were looked for."""
-    words.looking, words.wanted = _looking(words), _wanted(words)
+    settings = settings_here()
+    is_baseline_typed = words.baseline is not None
+    settings.fill(words)
+    is_first = not is_baseline_typed and words.write_baseline is not None and not os.path.exists(words.baseline or "")
+    words.looking, words.wanted = _looking(words, is_first), _wanted(words, settings)
     if words.command == "run":
         status = _run(words, program)
     else:
@@ -292,6 +257,8 @@ def _done(words: argparse.Namespace, program: list[str]) -> int:
     """Does what a command is for. Its status."""
     if words.command in LOOKING:
         return _looked(words, program)
+    if words.command == "explain":
+        return _explain(words)
     if words.command == "relay":
         _relay(words)
     else:

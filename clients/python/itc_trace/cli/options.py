@@ -7,17 +7,17 @@ from ..record.dividing import LEAVE
 from ..record.environment import OWN_TENANT
 from .parser import MOST_PORT, Parser, file, name, number, port, tenant
 from .run import MOST_SEED
+from .settings import FAIL_ON, MOST_RUNS
 from .table import COMMANDS
 
 NEW_SEED = -1
-MOST_RUNS = 10_000
 LEAST_PART = 100
 MOST_SHOWN = 1_000_000
 
 
 def parser(called: str) -> Parser:
     """The parser of the commands of the package, by the name that the command line is called by."""
-    made = Parser(prog=called, description=f"The commands: `{called} run|system|races|relay|snapshot ..`.")
+    made = Parser(prog=called, description=f"The commands: `{called} {'|'.join(ADDING)} ..`.")
     commands = made.add_subparsers(dest="command", required=True, parser_class=Parser)
     for command, add in ADDING.items():
         made.commands[command] = commands.add_parser(command, help=COMMANDS[command])
@@ -47,6 +47,19 @@ def _add_races(parser: Parser) -> None:
                              "that of a run in parts may be EXPORT")
 
 
+def _add_explain(parser: Parser) -> None:
+    parser.usage = "%(prog)s [OPTIONS] ID REPORT|EXPORT|--port PORT TENANT JOURNAL.."
+    parser.add_argument("id", type=name, metavar="ID", help="the id of the race, or its first four digits or more")
+    parser.add_argument("trace", type=file, metavar="REPORT|EXPORT|TENANT",
+                        help="a file of --json, an export, or with --port a tenant of the collector there")
+    parser.add_argument("journal", type=file, nargs="*", metavar="JOURNAL",
+                        help="the journal of each process; EXPORT.journal, if none is named")
+    _add_port(parser, is_required=False)
+    parser.add_argument("--strict", action="store_true", help="two tasks of one loop race as two threads do")
+    _add_file(parser, "--picture", "draw the trace of an export there, and link to it")
+    _add_file(parser, "--benign", "add a line there by which --benign takes the race for meant")
+
+
 def _add_relay(parser: Parser) -> None:
     parser.add_argument("--listen", type=_listened_at, required=True, metavar="PORT",
                         help="the port that the processes report to")
@@ -72,7 +85,7 @@ def _add_host(parser: Parser) -> None:
 
 
 def _add_fail_on(parser: Parser) -> None:
-    parser.add_argument("--fail-on", choices=("race", "possible"), default="race",
+    parser.add_argument("--fail-on", choices=FAIL_ON,
                         help="end with 66 where there is a race, or where one is possible (race)")
 
 
@@ -110,7 +123,7 @@ def _add_run(parser: Parser) -> None:
     _add_status_file(parser)
     _add_fail_on(parser)
     _add_looking(parser)
-    parser.add_argument("--runs", type=_runs, default=1, metavar="N",
+    parser.add_argument("--runs", type=_runs, metavar="N",
                         help="run the program N times, all but the first shaken")
     shaking = parser.add_mutually_exclusive_group()
     shaking.add_argument("--shake", type=_seed, nargs="?", const=NEW_SEED, metavar="SEED",
@@ -122,6 +135,8 @@ def _add_run(parser: Parser) -> None:
     watching = parser.add_mutually_exclusive_group()
     watching.add_argument("--watch", type=name, metavar="PACKAGE", action="append",
                           help="watch an installed package, too")
+    parser.add_argument("--exclude", type=name, metavar="PATTERN", action="append",
+                        help="leave the files of the program out that are named so, as vendor/*")
     watching.add_argument("--watch-nothing", action="store_true", help="note only what is shared or touched by hand")
     parser.usage = "%(prog)s [OPTIONS] PROGRAM|-m MODULE [ARGS..]"
 
@@ -146,5 +161,8 @@ def _seed(word: str) -> int:
     return number(word, 0, MOST_SEED - 1)
 
 
-ADDING = {"run": _add_run, "system": _add_system, "races": _add_races, "relay": _add_relay, "snapshot": _add_snapshot}
+ADDING = {
+    "run": _add_run, "system": _add_system, "races": _add_races, "explain": _add_explain, "relay": _add_relay,
+    "snapshot": _add_snapshot,
+}
 """What adds the words of each command."""

@@ -39,7 +39,8 @@ from ..analyse.races import Races
 from ..analyse.seeing import races_seen
 from ..session import Refused
 from ..analyse.snapshot import snapshot
-from ..model.verdict import BREAKS_OFF, REMOVED, Cause, Unseen, Verdict
+from ..model.verdict import BREAKS_OFF, REMOVED, Cause, PassedOver, Unseen, Verdict
+from ..watch.finder import excluding
 
 UNTOUCHED = """\
 itc_trace: nothing was touched, so there was no race to find
@@ -63,6 +64,8 @@ class Run:
     quiet: bool = False
     watched: list[str] | None = None
     """The packages that are watched beside the program's own modules. None watches nothing."""
+    excluded: list[str] = field(default_factory=list)
+    """Patterns of files of the program that are not watched."""
     looking: Looking = field(default_factory=Looking)
     fail_on_possible: bool = False
     runs: int = 1
@@ -237,6 +240,7 @@ def _outcome(asked: Run, seed: int | None) -> Outcome | None:
                 races = races_seen(asked.tenant, port, rows, asked.host, asked.looking, Bar(sys.stderr))
             if not os.path.exists(journal):
                 races.unseen = [REMOVED if one == BREAKS_OFF else one for one in races.unseen]
+        races.passed_over += [PassedOver("files", pattern) for pattern in asked.excluded]
         if child.signal_name and not _is_killed(races):
             killed = Unseen(Cause.KILLED, f"the program was ended by {child.signal_name}")
             races.unseen = [killed, *(one for one in races.unseen if one != BREAKS_OFF)]
@@ -277,7 +281,7 @@ def _run_program(asked: Run, collectors: PartCollectors | None, journal: str, to
     configuration = {
         "port": _port(asked, collectors), "tenant": asked.tenant, "journal": os.path.abspath(journal),
         "process": asked.process, "host": asked.host,
-        "watched": asked.watched,
+        "watched": None if asked.watched is None else [*asked.watched, *map(excluding, asked.excluded)],
         "told": told, "seed": seed,
         "parts": (None if collectors is None or asked.process is not None else collectors.asked_at, asked.part_events),
     }

@@ -6,6 +6,7 @@ COMMANDS = {
     "run": "run a Python program with tracing on, and list its races",
     "system": "run several processes, and list the races of them together",
     "races": "list the races of a trace by its journal",
+    "explain": "tell the story of one race, and what would have put it in order",
     "picture": "write a page that shows an export",
     "snapshot": "write an export of a tenant while it runs",
     "relay": "let many processes report to one tenant",

@@ -6,10 +6,29 @@ import hashlib
 import json
 from dataclasses import dataclass, field
 from pathlib import PurePath
+from typing import NamedTuple
 
 RACE, POSSIBLE_RACE = "race", "possible race"
 DIGITS = 12
 SPACES = " ".join
+
+
+class Step(NamedTuple):
+    """An event of a task, in few words."""
+
+    event: int
+    part: int
+    label: str
+    place: str = ""
+
+
+@dataclass(frozen=True)
+class Story:
+    """What the task of each side did before and after, and what would have put the sides in order."""
+
+    before: tuple[tuple[Step, ...], ...] = ()
+    after: tuple[tuple[Step, ...], ...] = ()
+    orders: tuple[str, ...] = ()
 
 
 @dataclass(frozen=True)
@@ -114,6 +133,7 @@ class Finding:
     """Of several runs."""
     tests: tuple[str, ...] = field(default=(), compare=False)
     """The tests of pytest that met it."""
+    story: Story = field(default=Story(), compare=False)
 
     @property
     def known_as(self) -> Known:

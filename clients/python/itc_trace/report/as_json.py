@@ -6,7 +6,7 @@ import json
 from collections.abc import Iterable
 from typing import Any
 
-from ..model.finding import Finding, FoundSide, Known, KnownSide, Seen
+from ..model.finding import Finding, FoundSide, Known, KnownSide, Seen, Step, Story
 from ..model.verdict import Cause, PassedOver, Unseen, Verdict
 from .report import Report
 
@@ -31,7 +31,7 @@ def as_object(report: Report) -> dict[str, Any]:
             {"id": one.identity, "thing": one.thing, "sides": [vars(side) for side in one.sides]} for one in report.gone
         ],
         "unseen": [{"cause": one.cause.value, "text": one.text} for one in report.unseen],
-        "passed_over": [one._asdict() for one in report.passed_over], "hints": report.hints,
+        "passed_over": [{"what": one.what, "place": one.place} for one in report.passed_over], "hints": report.hints,
     }
 
 
@@ -44,10 +44,26 @@ def finding_as_object(finding: Finding) -> dict[str, Any]:
     return {
         "id": finding.identity, "kind": finding.kind, "thing": finding.thing, "made": finding.made,
         "possible": finding.is_possible, "why": finding.why, "times": finding.times,
-        "sides": [_side_as_object(side) for side in finding.sides],
+        "sides": [
+            {**_side_as_object(side), "before": _steps(_of(finding.story.before, number)),
+             "after": _steps(_of(finding.story.after, number))}
+            for number, side in enumerate(finding.sides)
+        ],
+        "orders": list(finding.story.orders),
         "runs": None if seen is None else {"in": seen.runs, "of": seen.of, "first": seen.first, "seed": seen.seed},
         "tests": list(finding.tests),
     }
+
+
+def _of(sides: tuple[tuple[Step, ...], ...], number: int) -> tuple[Step, ...]:
+    """The steps of a side. There are none if the story was not looked for."""
+    return sides[number] if number < len(sides) else ()
+
+
+def _steps(steps: Iterable[Step]) -> list[dict[str, Any]]:
+    return [
+        {"event": one.event, "part": one.part, "label": one.label, "place": one.place} for one in steps
+    ]
 
 
 def _side_as_object(side: FoundSide) -> dict[str, Any]:
@@ -81,9 +97,12 @@ def _report(told: dict[str, Any]) -> Report:
 def finding_of_object(told: dict[str, Any]) -> Finding:
     runs = told["runs"]
     seen = None if runs is None else Seen(runs["in"], runs["of"], runs["first"], runs["seed"])
+    before, after = (
+        tuple(tuple(Step(**step) for step in side[name]) for side in told["sides"]) for name in ("before", "after")
+    )
     return Finding(
         told["kind"], told["thing"], tuple(map(_side_of_object, told["sides"])), told["why"], told["times"],
-        told["made"], told["possible"], seen, tuple(told["tests"]),
+        told["made"], told["possible"], seen, tuple(told["tests"]), Story(before, after, tuple(told["orders"])),
     )
 
 

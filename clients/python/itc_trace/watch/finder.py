@@ -7,6 +7,7 @@ import os
 import sys
 import sysconfig
 from collections.abc import Callable, Sequence
+from fnmatch import fnmatchcase
 from types import CodeType, ModuleType
 
 from ..model.verdict import Cause, Unseen
@@ -29,16 +30,26 @@ UNWATCHED: list[Unseen] = []
 """The modules that were to be watched, and run as they are."""
 
 
+NOT = "!"
+"""Begins the pattern of files that are not watched, among the names of packages that are."""
+
+
+def excluding(pattern: str) -> str:
+    """The pattern, as it stands among the names of packages."""
+    return f"{NOT}{pattern}"
+
+
 class Selection:
     """Which modules are watched: those in the folders of the program, and packages that were named."""
 
     def __init__(self, folders: Sequence[str], packages: Sequence[str] = ()) -> None:
         self.folders = [os.path.realpath(folder) for folder in folders]
-        self.packages = frozenset(packages)
+        self.packages = frozenset(one for one in packages if not one.startswith(NOT))
+        self.excluded = tuple(one.removeprefix(NOT) for one in packages if one.startswith(NOT))
 
     def has_file(self, name: str, file: str | None) -> bool:
         """Whether the module of this name and file is watched, whatever its source is called."""
-        if not file or file.endswith(COMPILED) or _is_within(file, OWN_FOLDER):
+        if not file or file.endswith(COMPILED) or _is_within(file, OWN_FOLDER) or self._is_excluded(file):
             return False
         return self.has_package(name) or self.has_own(file)
 
@@ -51,6 +62,14 @@ class Selection:
         if any(f"{os.sep}{one}{os.sep}" in path for one in INSTALLED) or path.startswith(LIBRARY_FOLDERS):
             return False
         return any(_is_within(path, folder) for folder in self.folders)
+
+    def _is_excluded(self, file: str) -> bool:
+        """Whether a pattern names the file, by its path within a watched folder."""
+        if not self.excluded:
+            return False
+        path = os.path.realpath(file)
+        within = [os.path.relpath(path, folder) for folder in self.folders if _is_within(path, folder)]
+        return any(fnmatchcase(one, pattern) for one in within for pattern in self.excluded)
 
     def folder_of(self, file: str) -> str:
         """The watched folder that the file is in, else its own."""

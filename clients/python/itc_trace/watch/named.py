@@ -9,7 +9,7 @@ from collections.abc import Iterator, Sequence
 
 from ..model.verdict import Cause, Unseen
 from .decisions import WATCHED
-from .finder import FILES, Selection
+from .finder import FILES, NOT, Selection
 
 _told: set[str] = set()
 
@@ -21,7 +21,7 @@ def tell_missing(packages: Sequence[str], folder: str) -> None:
     """
     sys.path.insert(0, folder)
     try:
-        for name in packages:
+        for name in (one for one in packages if not one.startswith(NOT)):
             if not _is_there(name.partition(".")[0]):
                 _tell(f"there is no module {name} to be watched: name it as the program imports it")
     finally:

@@ -1,0 +1,103 @@
+"""The story of one finding: both sides with their source, what each task did around, and what would have helped."""
+
+from __future__ import annotations
+
+import os
+from collections.abc import Iterator
+
+from ..analyse.benign import Pattern
+from ..model.finding import Finding, FoundSide, Step
+from .report import Report
+from .text import link
+
+LEAST_DIGITS = 4
+ANY = "*"
+
+
+class NoFinding(Exception):
+    """There is no finding of such an identity, or several."""
+
+
+def finding_by(identity: str, report: Report, where: str) -> Finding:
+    """The finding of an identity, which may be cut short."""
+    known = report.ids
+    found = [one for name, one in known.items() if name.startswith(identity)]
+    if len(identity) >= LEAST_DIGITS and len(found) == 1:
+        return found[0]
+    if not known:
+        raise NoFinding(f"{where} has no race")
+    listed = ", ".join(f"{name} ({one.thing})" for name, one in known.items())
+    if len(identity) < LEAST_DIGITS:
+        raise NoFinding(f"{identity or 'nothing'} is too short for an id: {where} has {listed}")
+    problem = f"several races have ids that begin with {identity}" if found else f"{where} has no race {identity}"
+    raise NoFinding(f"{problem}: its ids are {listed}")
+
+
+def explained(finding: Finding, report: Report) -> str:
+    return "\n".join(_lines(finding, report))
+
+
+def _lines(finding: Finding, report: Report) -> Iterator[str]:
+    yield f"{finding.title}, id {finding.identity}"
+    yield f"    {finding.told_order.partition('; id ')[0]}"
+    if finding.seen is not None:
+        yield f"    {finding.seen}"
+    for state, findings in (("silenced", report.silenced), ("in the baseline", report.known)):
+        if finding in findings:
+            yield f"    it is {state}"
+    for test in finding.tests:
+        yield f"    met by {test}"
+    story = finding.story
+    for number, side in enumerate(finding.sides):
+        yield ""
+        yield from _side(
+            side, story.before[number] if number < len(story.before) else (),
+            story.after[number] if number < len(story.after) else (),
+        )
+    if story.orders:
+        yield ""
+        yield "What would have put them in order, or kept them apart:"
+        yield from (f"  - {one}" for one in story.orders)
+    if report.picture is not None:
+        yield ""
+        yield f"In the picture: {link(finding, os.path.join(report.folder, report.picture))}"
+
+
+def _side(side: FoundSide, before: tuple[Step, ...], after: tuple[Step, ...]) -> Iterator[str]:
+    locks = ", ".join(lock.partition(" ")[2] or lock for lock in side.held)
+    where = f" in {side.function}" if side.function and side.function != "<module>" else ""
+    yield f"{side.task}: {side.kind} at {side.place}{where}, holding {locks or 'no lock'}"
+    yield from (f"    before  {one}" for one in _steps(before))
+    yield from _source(side)
+    yield from (f"    after   {one}" for one in _steps(after))
+
+
+def _source(side: FoundSide) -> Iterator[str]:
+    """The lines around the place, of which that one is marked."""
+    width = len(str(side.begin + len(side.text)))
+    for number, line in enumerate(side.text, side.begin):
+        yield f"    {'>' if number == side.line else ' '} {number:{width}}  {line}".rstrip()
+    if not side.text:
+        yield "    > its source is not here"
+
+
+def _steps(steps: tuple[Step, ...]) -> Iterator[str]:
+    for step in steps:
+        yield f"event {step.event}: {step.label}{f' at {step.place}' if step.place else ''}"
+
+
+def benign_line(finding: Finding) -> str:
+    """The line of a file of --benign by which this finding is meant, and no other that is at other places."""
+    places = [side.place if side.file else ANY for side in finding.sides]
+    words = [_word(one) for one in (finding.thing, *places)]
+    return f"{' '.join(words)}  # {finding.identity}"
+
+
+def _word(text: str) -> str:
+    """A pattern of this text that has no space, and does not begin a comment."""
+    word = ANY.join(text.split()) or ANY
+    return f"{ANY}{word[1:]}" if word.startswith("#") else word
+
+
+def is_meant(finding: Finding, patterns: list[Pattern]) -> bool:
+    return any(pattern.fits(finding) for pattern in patterns)

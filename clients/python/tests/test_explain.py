@@ -1,0 +1,161 @@
+"""What a reader asks of one race is answered: what both tasks did, what they held, and what would have helped."""
+
+from __future__ import annotations
+
+import json
+import os
+import subprocess
+import sys
+import tempfile
+import unittest
+from pathlib import Path
+
+from itc_trace.analyse.benign import read_patterns
+from itc_trace.model.finding import RACE, Finding, FoundSide
+from itc_trace.report.as_json import finding_of_object, report_of_json
+from itc_trace.report.explaining import benign_line
+
+from .support import PACKAGE
+
+SHOP = """import queue
+import threading
+
+stock = {"left": 2}
+lock = threading.Lock()
+sold = queue.Queue()
+
+def sell():
+    with lock:
+        pass
+    stock["left"] -= 1
+    sold.put(1)
+
+def audit():
+    sold.get()
+    with lock:
+        print(stock["left"] >= 0)
+
+first = threading.Thread(target=sell, name="first")
+first.start()
+second = threading.Thread(target=sell, name="second")
+second.start()
+first.join()
+third = threading.Thread(target=audit, name="third")
+third.start()
+second.join()
+third.join()
+"""
+
+
+class Stories(unittest.TestCase):
+    folder: Path
+    kept: tempfile.TemporaryDirectory[str]
+
+    @classmethod
+    def setUpClass(cls) -> None:
+        cls.kept = tempfile.TemporaryDirectory()
+        cls.addClassCleanup(cls.kept.cleanup)
+        cls.folder = Path(cls.kept.name)
+        (cls.folder / "shop.py").write_text(SHOP)
+        ran = cls.run_here("run", "--export", "g", "--json", "r.json", "shop.py")
+        assert ran.returncode == 66, ran.stderr
+
+    @classmethod
+    def run_here(cls, *words: str) -> "subprocess.CompletedProcess[str]":
+        environment = {**os.environ, "PYTHONPATH": str(PACKAGE)}
+        command = [sys.executable, "-m", "itc_trace", *words]
+        return subprocess.run(command, capture_output=True, text=True, env=environment, cwd=cls.folder, timeout=600, check=False)
+
+    def findings(self) -> list[Finding]:
+        return report_of_json((self.folder / "r.json").read_text()).findings
+
+    def selling(self) -> Finding:
+        """The race of the two that sell."""
+        return next(one for one in self.findings() if {side.task for side in one.sides} == {"first", "second"})
+
+    def test_both_sides_have_their_source_their_locks_and_what_was_around(self) -> None:
+        ran = self.run_here("explain", self.selling().identity, "g")
+        self.assertEqual((ran.returncode, ran.stderr), (0, ""))
+        self.assertTrue(ran.stdout.startswith(f"race on stock['left'] (a dict made at shop.py:4), id {self.selling().identity}\n"), ran.stdout)
+        self.assertIn("first: write at shop.py:11 in sell, holding no lock\n", ran.stdout)
+        self.assertIn('    > 11      stock["left"] -= 1\n', ran.stdout)
+        self.assertRegex(ran.stdout, r"    before  event \d+: release lock \(shop.py:5\) at shop.py:9\n")
+        self.assertRegex(ran.stdout, r"    after   event \d+: put item at shop.py:12\n")
+        self.assertIn("  - lock (shop.py:5): both tasks use it, and neither holds it here\n", ran.stdout)
+        self.assertIn("  - a join: root joins first at shop.py:23, and before second is started at shop.py:22 would be early enough\n", ran.stdout)
+        self.assertRegex(ran.stdout, r"  - a queue or an event: behind its touch first does `put item` at shop.py:12, and second takes nothing before")
+
+    def test_the_report_tells_the_same_story_as_the_export(self) -> None:
+        for finding in self.findings():
+            by_export, by_report = (self.run_here("explain", finding.identity, file) for file in ("g", "r.json"))
+            self.assertEqual(by_report.stdout, by_export.stdout)
+            self.assertEqual((by_report.returncode, by_report.stderr), (0, ""))
+
+    def test_a_lock_that_one_side_holds_is_named(self) -> None:
+        found = [one for one in self.findings() if "third" in {side.task for side in one.sides} and one.sides[1].function == "audit"]
+        self.assertTrue(found, self.findings())
+        for one in found:
+            self.assertTrue(one.story.orders[0].startswith("lock (shop.py:5): third holds it, and "), one.story)
+
+    def test_the_picture_is_drawn_and_linked(self) -> None:
+        finding = self.selling()
+        ran = self.run_here("explain", "--picture", "p.html", finding.identity[:6], "g")
+        events = "event={}&other={}".format(*(side.event for side in finding.sides))
+        self.assertTrue(ran.stdout.endswith(f"In the picture: file://{self.folder.resolve()}/p.html#{events}\n"), ran.stdout)
+        self.assertTrue((self.folder / "p.html").read_bytes().startswith(b"<!"))
+
+    def test_the_line_that_is_written_silences_this_race_alone(self) -> None:
+        before = self.run_here("races", "g")
+        file = self.folder / "benign"
+        file.write_text("nothing")  # Without the end of its line.
+        ran = self.run_here("explain", "--benign", "benign", self.selling().identity, "g")
+        self.assertEqual(ran.stderr, "itc_trace: benign has a line more: --benign benign silences the race\n")
+        after = self.run_here("races", "--benign", "benign", "g")
+        self.assertRegex(after.stdout, r"; 1 silenced")
+        self.assertIn(f"id {self.selling().identity}\n", before.stdout)
+        self.assertNotIn(f"id {self.selling().identity}\n", after.stdout)
+        again = self.run_here("explain", "--benign", "benign", self.selling().identity, "r.json")
+        self.assertIn("benign has the race already", again.stderr)
+        self.assertEqual(len(file.read_text().splitlines()), 2)
+
+    def test_what_cannot_be_explained_is_told_with_what_can(self) -> None:
+        (self.folder / "broken").write_text("{\n")
+        (self.folder / "quiet.py").write_text("print()\n")
+        self.run_here("run", "--json", "none.json", "quiet.py")
+        identity = self.selling().identity
+        for words, said in (
+            (["000000000000", "g"], "g has no race 000000000000: its ids are "),
+            (["0", "r.json"], "0 is too short for an id: r.json has "),
+            ([identity, "none.json"], "none.json has no race"),
+            ([identity, "broken"], "broken is no report: it is no report of --json: name the FILE of --json, or an export"),
+            ([identity, "nowhere"], "nowhere cannot be read: No such file or directory"),
+            ([identity, "shop.py"], "explain wants the journal of each process, behind shop.py"),
+            ([identity, "r.json", "g.journal"], "the journal g.journal is for an export, and r.json is a report of --json: leave it out"),
+            (["--picture", "x.html", identity, "r.json"], "--picture x.html is for an export, and r.json is a report"),
+            (["--benign", "g", identity, "g"], "--benign g would overwrite g: name another file"),
+            (["--benign", "no/where", identity, "r.json"], "no/where cannot be written: No such file or directory"),
+            ([identity], "explain wants REPORT|EXPORT|TENANT"),
+        ):
+            with self.subTest(words):
+                ran = self.run_here("explain", *words)
+                self.assertEqual((ran.returncode, ran.stdout), (2, ""), ran.stderr)
+                self.assertTrue(ran.stderr.startswith(f"itc_trace: {said}"), ran.stderr)
+                self.assertEqual(ran.stderr.count("\n"), 1)
+
+
+class Lines(unittest.TestCase):
+    def test_each_line_of_what_is_meant_fits_its_race(self) -> None:
+        stored = json.loads((PACKAGE / "tests" / "reports" / "kept.json").read_text())
+        findings = [finding_of_object(one) for one in stored["findings"]]
+        side = FoundSide("write", "/opt/a b/x.py", 3)
+        findings += [Finding(RACE, thing, (side, side), "") for thing in ("#1", "a b", "#", "x['#']", "x*", " ")]
+        with tempfile.TemporaryDirectory() as folder:
+            for finding in findings:
+                file = Path(folder, "benign")
+                file.write_text(benign_line(finding) + "\n")
+                (pattern,) = read_patterns(str(file))
+                self.assertTrue(pattern.fits(finding), benign_line(finding))
+
+
+if __name__ == "__main__":
+    unittest.main()

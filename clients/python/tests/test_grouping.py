@@ -1,0 +1,82 @@
+"""Races of one cause are one entry, those of different causes are not, and none of them is lost from what is counted."""
+
+from __future__ import annotations
+
+import unittest
+
+from itc_trace.model.finding import POSSIBLE_RACE, RACE, Finding, FoundSide
+from itc_trace.model.verdict import Verdict
+from itc_trace.report.grouping import entries
+from itc_trace.report.report import Report
+from itc_trace.report.text import Shown, text
+
+
+def found(thing: str, writes: int, reads: int = 1, kind: str = RACE, made: str = "", events: tuple[int, int] = (1, 9), file: str = "a.py") -> Finding:
+    sides = (
+        FoundSide("write", file, writes, "f", "one", events[0], is_write=True),
+        FoundSide("read", file, reads, "g", "two", events[1]),
+    )
+    return Finding(kind, thing, sides, "nothing orders them", made=made, is_possible=kind == POSSIBLE_RACE)
+
+
+def grouped(*findings: Finding) -> list[list[Finding]]:
+    return [one.findings for one in entries(findings)]
+
+
+class Grouping(unittest.TestCase):
+    def test_what_is_one_entry_and_what_is_not(self) -> None:
+        for what, one, other, is_one in (
+            ("two elements of one dict", found("d['a']", 1, made="a dict made at a.py:1"), found("d['b']", 2, made="a dict made at a.py:1"), True),
+            ("an element and the shape", found("d['a']", 1, made="a dict made at a.py:1"), found("d", 2, made="a dict made at a.py:1"), True),
+            ("dicts of one name made elsewhere", found("d['a']", 1, made="a dict made at a.py:1"), found("d['b']", 2, made="a dict made at a.py:7"), False),
+            ("fields of one class", found("Shop.left", 1), found("Shop.sold", 2), True),
+            ("fields of two classes", found("Shop.left", 1), found("Till.left", 2), False),
+            ("one line that writes two things", found("Shop.left", 5), found("Till.left", 5), True),
+            ("one line in two files", found("Shop.left", 5), found("Till.left", 5, file="b.py"), False),
+            ("one line that only reads both", found("Shop.left", 5, 8), found("Till.left", 6, 8), False),
+            ("a race and a possible one", found("Shop.left", 5), found("Shop.left", 5, kind=POSSIBLE_RACE), False),
+            ("two variables", found("left", 1), found("sold", 2), False),
+            ("places that are not known", found("left", 0, file=""), found("sold", 0, file=""), False),
+        ):
+            with self.subTest(what):
+                self.assertEqual(grouped(one, other), [[one, other]] if is_one else [[one], [other]])
+
+    def test_what_a_third_one_joins_is_one_entry(self) -> None:
+        one, other, third = found("Shop.left", 5), found("Till.left", 6), found("Till.left", 5)
+        self.assertEqual([len(group) for group in grouped(one, other, third)], [3])
+        self.assertEqual([len(group) for group in grouped(one, other)], [1, 1])
+
+    def test_the_shortest_pair_is_shown(self) -> None:
+        long, short = found("x", 1, events=(1, 90)), found("x", 2, events=(50, 52))
+        (entry,) = entries([long, short])
+        self.assertIs(entry.shown, short)
+        self.assertEqual(entry.findings, [short, long])
+
+
+class Texts(unittest.TestCase):
+    def report(self, *findings: Finding) -> Report:
+        return Report(Verdict.RACES, f"{len(findings)} races in this run", list(findings))
+
+    def test_further_pairs_are_counted_and_all_of_them_are_listed_if_asked_for(self) -> None:
+        fields = [found(f"Settings.x{number}", 9, number) for number in range(21)]
+        told = text(self.report(*fields))
+        self.assertIn("\n    and 20 more pairs on Settings fields: --all\n", told)
+        self.assertEqual(told.count("race on "), 1)
+        everything = text(self.report(*fields), Shown(is_all=True))
+        self.assertEqual(everything.count("race on "), 21)
+        self.assertNotIn("--all", everything)
+        self.assertTrue(told.endswith("\nitc_trace: 21 races in this run"))
+
+    def test_one_more_pair_is_one(self) -> None:
+        self.assertIn("\n    and 1 more pair on left: --all\n", text(self.report(found("left", 1), found("left", 2))))
+        self.assertNotIn("more", text(self.report(found("left", 1), found("sold", 2))))
+
+    def test_more_than_five_entries_have_a_summary_first(self) -> None:
+        things = [found(f"t{number}", number + 1) for number in range(6)]
+        self.assertTrue(text(self.report(*things[:5])).startswith("itc_trace: race on t0\n"))
+        told = text(self.report(*things, found("t5", 60)))
+        self.assertTrue(told.startswith("itc_trace: pairs by their things: t5 (2), t0 (1), t1 (1), t2 (1), t3 (1), t4 (1)\n"), told)
+
+
+if __name__ == "__main__":
+    unittest.main()
