@@ -21,6 +21,7 @@ OF_THE_LIBRARY = {
     "cli.parser": "_option_string_actions",
     "cli.run": "_args_from_interpreter_flags _xoptions",
     "processes.children": "_popen",
+    "record.nesting": "_get_running_loop",
     "record.noting": "_active _current_tasks _get_running_loop",
     "sync.asynchronous": "_GatheringFuture _callback _children _count _get_running_loop _lock _locked _value _waiters",
     "sync.callbacks": "_registry",

@@ -168,7 +168,7 @@ class Held(TracedCase):
             plain, guarded, door = threading.Lock(), threading.RLock(), threading.Lock()
             threading.Condition(guarded)
             self.assertIs(token_of(plain).what.lock, plain._itc_identity)  # type: ignore[attr-defined]
-            self.assertIsNone(token_of(guarded).what.lock)
+            self.assertFalse(token_of(guarded).what.lock.is_luck)
             door.acquire()
             thread = threading.Thread(target=door.release)
             thread.start()

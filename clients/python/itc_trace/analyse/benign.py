@@ -11,13 +11,17 @@ import tokenize
 from collections.abc import Iterable, Iterator, Sequence
 from dataclasses import dataclass, field
 from functools import cache
-from itertools import takewhile
+from itertools import permutations, takewhile
 from pathlib import Path, PurePath
+from typing import TypeVar
 
 from ..record.faults import Fault
 from ..model.finding import Finding, FoundSide, Known
+from .deadlocks import Deadlock, LockSide
 from .races import Race, Races, Side
 
+One = TypeVar("One", Race, Deadlock)
+AnySide = Side | LockSide | FoundSide
 COMMENT = re.compile(r"#\s*itc:\s*benign\b")
 PLACE = re.compile(r"[^:*].*:\d+|.*\*.*")
 MOST_PLACES = 2
@@ -32,14 +36,15 @@ class Pattern:
     line: str = ""
     """Where it stands, by its file and the number of its line."""
 
-    def fits(self, race: Race | Finding) -> bool:
-        given: Sequence[Side | FoundSide] = race.sides
+    def fits(self, race: Race | Deadlock | Finding) -> bool:
+        of_race: Sequence[AnySide] = race.sides
         return _fits(race.thing, self.thing) and any(
-            all(_is_at(side, place) for side, place in zip(sides, self.places)) for sides in (given, given[::-1])
+            all(_is_at(side, place) for side, place in zip(sides, self.places, strict=True))
+            for sides in permutations(of_race, len(self.places))
         )
 
 
-def _is_at(side: Side | FoundSide, place: str) -> bool:
+def _is_at(side: AnySide, place: str) -> bool:
     file, _, line = side.place.rpartition(":")
     return _fits(side.place, place) or _fits(f"{PurePath(file).name}:{line}", place)
 
@@ -65,9 +70,11 @@ class Looking:
         """Takes out what is meant and what is known, and keeps both apart."""
         self.has_looked = True
         found.races = list(self._left(found.races, found))
+        found.deadlocks = list(self._left(found.deadlocks, found))
         found.possible = list(self._left(found.possible, found))
+        found.possible_deadlocks = list(self._left(found.possible_deadlocks, found))
 
-    def _left(self, races: Iterable[Race], found: Races) -> Iterator[Race]:
+    def _left(self, races: Iterable[One], found: Races) -> Iterator[One]:
         """Those that are neither meant nor in the baseline."""
         for race in races:
             if self._is_meant(race):
@@ -80,7 +87,7 @@ class Looking:
             else:
                 yield race
 
-    def _is_meant(self, race: Race) -> bool:
+    def _is_meant(self, race: Race | Deadlock) -> bool:
         fitting = {pattern for pattern in self.patterns if pattern.fits(race)}
         self._fitting |= fitting
         return bool(fitting) or any(_has_comment(side) for side in race.sides)
@@ -102,7 +109,7 @@ class Looking:
         return [one for one in self.baseline if one not in self.met]
 
 
-def _has_comment(side: Side) -> bool:
+def _has_comment(side: Side | LockSide) -> bool:
     file, _, line = side.place.rpartition(":")
     return line.isdigit() and int(line) in _lines_with_comment(file)
 

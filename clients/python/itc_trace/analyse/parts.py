@@ -13,10 +13,13 @@ from typing import IO, Any
 
 from .across_parts import AcrossParts, Pairing
 from .benign import Looking
+from .deadlocks import add_deadlock, acquisitions_of
+from .deadlocks import in_order as deadlocks_in_order
+from .deadlocks_of_parts import DeadlocksOfParts
 from ..record.collector import Collector, NoCollector
 from ..model.conflicts import MAKING
 from ..record.dividing import Border, Report
-from ..record.journal import BORDER, Begun, Children, ChildTold, Count, End, Row, read_line
+from ..record.journal import BORDER, Begun, Children, ChildTold, Count, End, Row, SignalTold, read_line
 from ..model.lock_identity import ANSWER, REQUEST
 from .progress import Bar, Shown
 from .races import Race, Races, add_race, events_of_lock, find_in, in_order, list_pair, sides_of
@@ -69,12 +72,13 @@ def collected(requests: list[str]) -> Iterator[Asked]:
 
 def find_in_parts(
     parts: Iterable[Part], found: Races, is_strict: bool, opened: Opened = collected, bar: Bar | None = None,
-    keep: Kept | None = None
+    keep: Kept | None = None, signals: frozenset[str] = frozenset()
 ) -> None:
     """Adds the races of all parts to what was found, those across parts too. Each part may be kept."""
-    across, lucky = AcrossParts(is_strict), _Requests()
+    across, lucky, waiting = AcrossParts(is_strict), _Requests(), DeadlocksOfParts(signals)
     listed: dict[object, Any] = {}
     possible: dict[object, Any] = {}
+    deadlocks: dict[object, Any] = {}
     ahead = iter(parts)
     part = next(ahead, None)
     while part is not None:
@@ -84,14 +88,18 @@ def find_in_parts(
             asked: Asked = view if bar is None else Shown(view, bar)
             if keep is not None:
                 keep(part, asked, events)
-            own, trace = find_in(asked, events, part.rows, is_strict), None
+            own, trace = find_in(asked, events, part.rows, is_strict, signals), None
             for race in own.races:
                 add_race(race, listed)
             for race in own.possible:
                 add_race(race, possible)
+            for deadlock in own.possible_deadlocks:
+                add_deadlock(deadlock, deadlocks)
             found.questions += own.questions
             found.unseen += own.unseen
-            if len(across) or across.has_reads or len(lucky) or touches and following is not None:
+            found.passed_over += own.passed_over
+            is_looked_at = len(across) or across.has_reads or len(lucky) or len(waiting)
+            if is_looked_at or following is not None and (touches or acquisitions_of(part.rows, signals)):
                 trace = Trace(asked, events)
                 found.questions += events
                 turns = {row.name: row.place for row in across.unseen_turns(touches, trace)}
@@ -102,12 +110,18 @@ def find_in_parts(
                 lucky.look_at(part, trace, across)
                 for race in lucky.races(touches):
                     add_race(race, possible)
+                waiting.look_at(part.rows, trace)
+                for deadlock in waiting.found():
+                    add_deadlock(deadlock, deadlocks)
         if following is not None and trace is not None and following.border is not None:
             across.move_on(touches, trace, following.border)
             lucky.move_on(touches, following.border)
+            waiting.move_on(following.border)
         part = following
     found.races = in_order(listed)
     found.possible = in_order({key: race for key, race in possible.items() if key not in listed})
+    found.possible_deadlocks = deadlocks_in_order(deadlocks)
+    found.passed_over += waiting.passed_over(found.possible_deadlocks)
 
 
 class _Requests:
@@ -205,7 +219,8 @@ def races_of_parts(
         found = Races(unseen=divided.unseen, passed_over=divided.passed_over)
         try:
             keep = None if export is None else _Exports(export, divided).keep
-            find_in_parts(divided.parts(found, last), found, looking.strict, collected, bar, keep)
+            parts, signals = divided.parts(found, last), frozenset(divided.signals)
+            find_in_parts(parts, found, looking.strict, collected, bar, keep, signals)
         except (NoCollector, OSError, Refused) as fault:
             found.unseen.append(Unseen(Cause.COLLECTOR, f"the collector does not tell the order of events ({fault})"))
         all_found = [*found.races, *found.possible]
@@ -242,6 +257,7 @@ class _Divided:
         self._borders: dict[int, Border] = {}
         self.unseen: list[Unseen] = []
         self.passed_over: list[PassedOver] = []
+        self.signals: set[str] = set()
         children = Children()
         count = Count()
         with contextlib.closing(_Files(self.file)) as files, open(journal, encoding="utf-8", errors="replace") as lines:
@@ -260,6 +276,8 @@ class _Divided:
                     self._borders[read.part] = read.border
                 elif isinstance(read, PassedOver):
                     self.passed_over.append(read)
+                elif isinstance(read, SignalTold):
+                    self.signals.add(read.lock)
                 elif not isinstance(read, End):
                     self.unseen.append(Unseen(Cause.JOURNAL, f"line {number} of the journal is none"))
         self.unseen += children.unseen()

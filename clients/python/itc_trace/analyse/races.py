@@ -18,6 +18,7 @@ from typing import Protocol
 from ..record.collector import HOST, NoCollector
 from ..model.conflicts import CONFLICTING, MAKING, WRITE
 from ..model.finding import POSSIBLE_RACE, RACE, Finding, FoundSide, Story
+from .deadlocks import Deadlock, TooMany, acquisitions_of, find_deadlocks, has_cycle
 from .fast_track import deciding_pairs
 from .looks import looks_of
 from ..record.journal import Row, read_whole
@@ -96,11 +97,14 @@ class Races:
 
     races: list[Race] = field(default_factory=list)
     possible: list[Race] = field(default_factory=list)
+    deadlocks: list[Deadlock] = field(default_factory=list)
+    """Those that have been."""
+    possible_deadlocks: list[Deadlock] = field(default_factory=list)
     unseen: list[Unseen] = field(default_factory=list)
     passed_over: list[PassedOver] = field(default_factory=list)
-    meant: list[Race] = field(default_factory=list)
+    meant: list[Race | Deadlock] = field(default_factory=list)
     """Those that are silenced."""
-    known: list[Race] = field(default_factory=list)
+    known: list[Race | Deadlock] = field(default_factory=list)
     """Those that are in the baseline."""
     sources: Sources = field(default_factory=Sources)
     """The lines of source that the journal has kept."""
@@ -121,13 +125,20 @@ class Races:
 
     def verdict(self, fail_on_possible: bool = False) -> Verdict:
         """Which of the three answers this is."""
-        return verdict_of(len(self.races) + (len(self.possible) if fail_on_possible else 0), self.unseen)
+        possible = len(self.possible) + len(self.possible_deadlocks) if fail_on_possible else 0
+        return verdict_of(len(self.races) + len(self.deadlocks) + possible, self.unseen)
+
+    @property
+    def found_ones(self) -> list[Race | Deadlock]:
+        """Those that count, and behind them those that are possible only."""
+        return [*self.races, *self.deadlocks, *self.possible, *self.possible_deadlocks]
 
     def found(self) -> str:
         """How many races there are, in few words."""
         found = "no race" if not self.races else _counted(len(self.races), "race")
         where = "in what was seen" if self.unseen else "in this run"
-        return f"{found} {where}" + (f"; {len(self.possible)} possible" if self.possible else "") + (
+        return f"{found} {where}" + (f"; {len(self.possible)} possible" if self.possible else "") + told_deadlocks(
+            len(self.deadlocks), len(self.possible_deadlocks)) + (
             f"; {len(self.meant)} silenced" if self.meant else "") + (
             f"; {len(self.known)} in the baseline" if self.known else "") + listed(self.passed_over)
 
@@ -138,7 +149,13 @@ class Races:
         )
 
     def text(self) -> str:
-        return "\n".join([*map(str, self.races), *map(str, self.possible), self.summary()])
+        return "\n".join([*map(str, self.found_ones), self.summary()])
+
+
+def told_deadlocks(count: int, possible: int) -> str:
+    """How many deadlocks there are, in the last line."""
+    told = f"; {_counted(count, 'deadlock')}" if count else ""
+    return told + (f"; {_counted(possible, 'possible deadlock')}" if possible else "")
 
 
 def _counted(count: int, one: str) -> str:
@@ -189,23 +206,29 @@ def find_races(
     found.places = len({(row.thing, row.place) for row in touches})
     found.things = len({row.thing for row in touches})
     things = [thing for thing in _things_of(rows) if thing.may_race]
-    if things:
+    if things or has_cycle(acquisitions_of(rows, whole.signals)):
         with Session(tenant, port, "view", host, LONGEST_ANSWER) as view:
             events = view.count()[0]
             if bar is None:
-                _Finder(view, events, rows, found, strict).find(things)
+                finder = _Finder(view, events, rows, found, strict)
             else:
-                _Finder(Shown(view, bar), events, rows, found, strict).find(things)
+                finder = _Finder(Shown(view, bar), events, rows, found, strict)
+            finder.find(things)
+            finder.find_deadlocks(whole.signals)
     return found
 
 
-def find_in(view: Asked, events: int, rows: list[Row], strict: bool) -> Races:
-    """The races of one trace, by its rows."""
+def find_in(
+    view: Asked, events: int, rows: list[Row], strict: bool, signals: frozenset[str] = frozenset()
+) -> Races:
+    """The races and the deadlocks of one trace, by its rows."""
     rows = sorted(dict.fromkeys(rows), key=lambda row: row.event)
     found = Races()
+    finder = _Finder(view, events, rows, found, strict)
     things = [thing for thing in _things_of(rows) if thing.may_race]
     if things:
-        _Finder(view, events, rows, found, strict).find(things)
+        finder.find(things)
+    finder.find_deadlocks(signals)
     return found
 
 
@@ -244,6 +267,17 @@ class _Finder:
             except (NoCollector, Refused, OSError) as fault:
                 self._found.unseen.append(Unseen(Cause.COLLECTOR, f"possible races cannot be told: {fault}"))
         self._found.questions += self._order.questions
+
+    def find_deadlocks(self, signals: frozenset[str]) -> None:
+        """The possible deadlocks, if locks were acquired in orders that make a cycle."""
+        if not has_cycle(acquisitions_of(self._rows, signals)):
+            return
+        try:
+            self._found.possible_deadlocks = find_deadlocks(self._rows, signals, self._trace)
+        except TooMany:
+            self._found.passed_over.append(cycles_passed_over(self._rows))
+        except (NoCollector, Refused, OSError) as fault:
+            self._found.unseen.append(Unseen(Cause.COLLECTOR, f"possible deadlocks cannot be told: {fault}"))
 
     def _find_races(self, things: list[_Thing]) -> None:
         listed: dict[object, Race] = {}
@@ -396,6 +430,12 @@ def _handed_over(thing: _Thing, trace: Trace) -> Events:
     for event in first.values():
         own &= trace.before[event]
     return own if first else 0
+
+
+def cycles_passed_over(rows: Iterable[Row]) -> PassedOver:
+    """There are more ways from lock to lock than are gone."""
+    first = next((row for row in rows if row.wants is not None), None)
+    return PassedOver("all cycles of locks", "?" if first is None else first.place)
 
 
 def _key(example: tuple[Row, Row]) -> object:

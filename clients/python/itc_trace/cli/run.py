@@ -376,7 +376,7 @@ def draw_tenant(tenant: str, port: int, host: str, lines: Iterable[str], picture
 
 
 def _is_untouched(races: Races) -> bool:
-    return not races.touches and not races.unseen
+    return not races.touches and not races.unseen and not races.found_ones
 
 
 def tell_if_untouched(races: Races) -> None:

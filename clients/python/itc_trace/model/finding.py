@@ -9,6 +9,8 @@ from pathlib import PurePath
 from typing import NamedTuple
 
 RACE, POSSIBLE_RACE = "race", "possible race"
+DEADLOCK, POSSIBLE_DEADLOCK = "deadlock", "possible deadlock"
+"""Their sides are two of each task: the lock that it holds, and the one that it wants."""
 DIGITS = 12
 SPACES = " ".join
 
@@ -119,7 +121,7 @@ class Finding:
     """What was found. A format that knows no more than this can write each kind of it."""
 
     kind: str
-    """In words: `race`, `possible race`."""
+    """In words: `race`, `possible race`, `deadlock`, `possible deadlock`."""
     thing: str
     sides: tuple[FoundSide, ...]
     why: str
@@ -151,13 +153,16 @@ class Finding:
     @property
     def told_sides(self) -> list[str]:
         width = max((len(side.kind) for side in self.sides), default=0)
+        if self.kind in (DEADLOCK, POSSIBLE_DEADLOCK):
+            names = max((len(side.task) for side in self.sides), default=0)
+            return [f"{side.task:{names}} {side.told(width)}" for side in self.sides]
         return [side.told(width) for side in self.sides]
 
     @property
     def told_order(self) -> str:
         tasks = "tasks" if any(side.is_in_loop for side in self.sides) else "threads"
         times = "once" if self.times == 1 else f"{self.times} times"
-        names = " and ".join(side.task for side in self.sides)
+        names = " and ".join(dict.fromkeys(side.task for side in self.sides))
         return f"{tasks} {names}: {self.why}; {times}, as {_events(self.sides)}; id {self.identity}"
 
     def lines(self) -> list[str]:
@@ -170,5 +175,5 @@ def _events(sides: tuple[FoundSide, ...]) -> str:
     parts = {side.part for side in sides}
     if len(parts) == 1:
         of_part = f" of part {sides[0].part}" if sides[0].part > 1 else ""
-        return f"events {' and '.join(str(side.event) for side in sides)}{of_part}"
-    return " and ".join(f"event {side.event} of part {side.part}" for side in sides)
+        return f"events {' and '.join(dict.fromkeys(str(side.event) for side in sides))}{of_part}"
+    return " and ".join(dict.fromkeys(f"event {side.event} of part {side.part}" for side in sides))

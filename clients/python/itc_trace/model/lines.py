@@ -88,6 +88,9 @@ class Reporter(Protocol):
     def miss(self, unseen: Unseen) -> None:
         """Tells of something that is not seen of the run, while tracing goes on."""
 
+    def tell_signal(self, lock: LockIdentity) -> None:
+        """The lock was acquired with others held, and is a signal, as was found out."""
+
     def fail(self, fault: Exception) -> None:
         """A hook in the program's own thread failed."""
 
@@ -208,8 +211,25 @@ class Token:
         """When it was noted, in seconds since 1970, once the note is looked at."""
 
 
+class Held(NamedTuple):
+    """A lock, and where it was acquired."""
+
+    lock: LockIdentity
+    code: CodeType | None
+    instruction: int
+
+
+class Acquisition(NamedTuple):
+    """A lock that a task has waited for while it held others."""
+
+    wanted: Held
+    held: tuple[Held, ...]
+    loop: int = 0
+    """The number of the loop whose other tasks wait as well."""
+
+
 Touched = tuple[Any, str, Any]
-"""A thing, which is a text if the program has named it; the kind of the touch; and a site,
+"""A thing, which is a text if the program has named it, or an acquisition of a lock; the kind of the touch; and a site,
 or where a marked touch stands."""
 
 

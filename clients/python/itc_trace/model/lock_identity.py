@@ -27,14 +27,14 @@ class LockIdentity:
     after it, as in a read-write lock that is built of two. From then on `signal` of the lock says so, and of both in
     the second case.
 
-    The lock of a condition guards what the waiting ones look at. So to acquire it is an order as meant as a wake-up. A
-    lock that is held while its task waits for one that it started encloses what that one does, though that one does not
-    hold it.
+    The lock of a condition guards what the waiting ones look at. So to acquire it is an order as meant as a wake-up,
+    where touches are compared. A lock that is held while its task waits for one that it started encloses what that one
+    does, though that one does not hold it.
     """
 
     __slots__ = (
-        "serial", "kind", "code", "instruction", "number", "signal", "is_of_condition", "encloses_tasks", "_name",
-        "_hint",
+        "serial", "kind", "code", "instruction", "number", "signal", "is_of_condition", "is_inside", "encloses_tasks",
+        "taken_by", "taken_at", "is_nested", "across", "_name", "_hint",
     )
 
     def __init__(self, kind: str, frame: FrameType | None) -> None:
@@ -46,7 +46,16 @@ class LockIdentity:
         self.number = 1
         self.signal: Signal | None = None
         self.is_of_condition = False
+        self.is_inside = False
+        """Whether code of the library acquires it for the program, as that of a condition does."""
         self.encloses_tasks = False
+        self.taken_by: CodeType | None = None
+        self.taken_at = 0
+        """Where it was acquired last: the code, and the instruction in that."""
+        self.is_nested = False
+        """Whether it was acquired with another one held, or another one while it was held."""
+        self.across = ""
+        """What several processes know it by, if they share it."""
         self._name = self._hint = ""
         if frame is not None:
             code = self.code = frame.f_code
@@ -56,8 +65,13 @@ class LockIdentity:
 
     @property
     def lock(self) -> LockIdentity | None:
-        """The lock, where only luck puts those in order who acquire it."""
-        return None if self.is_of_condition or self.encloses_tasks else self
+        """The lock, where nothing else is meant by its hand-over."""
+        return None if self.encloses_tasks else self
+
+    @property
+    def is_luck(self) -> bool:
+        """Whether only luck puts those in order who acquire it."""
+        return not self.is_of_condition
 
     @property
     def place(self) -> str:
@@ -73,7 +87,8 @@ class LockIdentity:
         """As `lock L (shop.py:12)`, or `stock_lock (shop.py:12)`. A later one of the same line has its number."""
         if not self._name:
             variable = None if self.code is None else variable_of_result(self.code, self.instruction)
-            words = [] if variable and "lock" in variable.lower() else ["lock"]
+            noun = "semaphore" if self.kind.endswith("Semaphore") else "lock"
+            words = [] if variable and noun in variable.lower() else [noun]
             words += [variable] if variable else []
             words += [str(self.number)] if self.number > 1 else []
             self._name = f"{' '.join(words)} ({self.place})"
@@ -83,7 +98,7 @@ class LockIdentity:
     def hint(self) -> str:
         """As `lock12`."""
         if not self._hint:
-            self._hint = f"lock{self.line or ''}"
+            self._hint = f"{'permit' if self.kind.endswith('Semaphore') else 'lock'}{self.line or ''}"
         return self._hint
 
     @property
@@ -116,6 +131,8 @@ class Asking:
         self.hint = hint
         self.giving = giving
         self.taking = taking
+
+    is_luck = True
 
     @property
     def lock(self) -> Asking:

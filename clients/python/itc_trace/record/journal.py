@@ -13,8 +13,8 @@ from ..model.conflicts import CHANGING
 from .dividing import Border
 from ..model.file_names import name_of_file
 from ..model.frames import line_of
-from ..model.lines import Touch
-from ..model.lock_identity import LockOrAsking
+from ..model.lines import Acquisition, Touch
+from ..model.lock_identity import Asking, LockOrAsking
 from ..model.stretches import SITES, Across
 from ..model.verdict import BREAKS_OFF, Cause, PassedOver, Unseen
 
@@ -55,6 +55,12 @@ class Row(NamedTuple):
 
     One row of the event tells it, if any does.
     """
+    guard: str | None = None
+    """The lock that the message hands over, if others wait at its condition."""
+    wants: str | None = None
+    """The lock that the task has waited for at this line, while it held others."""
+    at: tuple[tuple[str | None, int, str], ...] = ()
+    """Where it has acquired those: file, line and function of each."""
 
     @property
     def is_touch(self) -> bool:
@@ -80,6 +86,8 @@ class Journal(NamedTuple):
     missing: list[Unseen]
     """What of `unseen` no line says: the journal breaks off, or has fewer lines than were written."""
     passed_over: list[PassedOver]
+    signals: frozenset[str] = frozenset()
+    """The locks that are signals."""
 
 
 class NoJournal(Exception):
@@ -96,6 +104,7 @@ def read_whole(lines: Iterable[str]) -> Journal:
     rows: list[Row] = []
     unseen: list[Unseen] = []
     passed_over: list[PassedOver] = []
+    signals: set[str] = set()
     children = Children()
     count = Count()
     for number, line in enumerate(lines, 1):
@@ -111,6 +120,8 @@ def read_whole(lines: Iterable[str]) -> Journal:
             passed_over.append(read)
         elif isinstance(read, ChildTold):
             children.add(read)
+        elif isinstance(read, SignalTold):
+            signals.add(read.lock)
         elif isinstance(read, End):
             pass
         elif read is not None and number > 1:
@@ -121,7 +132,7 @@ def read_whole(lines: Iterable[str]) -> Journal:
             unseen.append(Unseen(Cause.JOURNAL, f"line {number} of the journal is none"))
     unseen += children.unseen()
     missing = count.missing(unseen)
-    return Journal(rows, [*unseen, *missing], missing, passed_over)
+    return Journal(rows, [*unseen, *missing], missing, passed_over, frozenset(signals))
 
 
 class End(NamedTuple):
@@ -175,6 +186,12 @@ class ChildTold(NamedTuple):
     """How many lines it has written, this one too, if it has ended."""
 
 
+class SignalTold(NamedTuple):
+    """A lock is a signal, as was found out after it had been acquired with others held."""
+
+    lock: str
+
+
 class Children:
     """The child processes of which a journal tells."""
 
@@ -217,6 +234,8 @@ def read_line(line: str) -> Read | None:
             return Unseen(Cause(read["unseen"]), str(read["text"]))
         if "passed_over" in read:
             return PassedOver(str(read["passed_over"]), str(read["place"]))
+        if "signal" in read:
+            return SignalTold(str(read["signal"]))
         if "end" in read:
             return End(None if read.get("lines") is None else int(read["lines"]))
         return None
@@ -228,6 +247,8 @@ def _row_of(read: dict[str, Any]) -> Row:
     known = {key: read[key] for key in KEYS if key in read}
     if "held" in known:
         known["held"] = tuple(known["held"])
+    if "at" in known:
+        known["at"] = tuple((file, int(line), str(function)) for file, line, function in known["at"])
     row = Row(**known)
     if not isinstance(row.event, int) or not isinstance(row.task, str):
         raise TypeError("an event has a number and a task")
@@ -247,7 +268,7 @@ class Begun(NamedTuple):
     border: Border
 
 
-Read = Row | Unseen | PassedOver | ChildTold | Begun | End
+Read = Row | Unseen | PassedOver | ChildTold | SignalTold | Begun | End
 """What a line of a journal says."""
 
 
@@ -289,6 +310,8 @@ class TouchTexts:
 
     def text(self, touch: Touch) -> str:
         thing, kind, site, held, loop, turn, _ = touch
+        if isinstance(thing, Acquisition):
+            return self._acquisition(thing)
         if isinstance(thing, str):
             told = self._touch_of_named(thing, kind, *site)
         else:
@@ -296,6 +319,19 @@ class TouchTexts:
         locks = f',"held":[{",".join([self.lock(one) for one in held])}]' if held else ""
         when = f',"loop":{loop},"turn":{turn}' if loop else ""
         return f"{told}{locks}{when}}}\n"
+
+    def _acquisition(self, acquisition: Acquisition) -> str:
+        """A lock that was waited for with others held."""
+        wanted, held, loop = acquisition
+        locks = ",".join([self.lock(one.lock) for one in held])
+        places = ",".join([f"[{_three(one.code, one.instruction)}]" for one in held])
+        function = json.dumps(wanted.code.co_qualname if wanted.code else "")
+        blocked = f',"loop":{loop}' if loop else ""
+        return (
+            f'"thing":null,"kind":"local",{self._places.text(wanted.code, wanted.instruction)},"function":{function},'
+            f'"label":{text_of(wanted.lock.taking)},"wants":{self.lock(wanted.lock)},"held":[{locks}],'
+            f'"at":[{places}]{blocked}}}\n'
+        )
 
     def _touch_of_named(self, thing: str, kind: str, code: CodeType | None, instruction: int, label: str | None) -> str:
         key = thing, type(thing), kind, id(code), instruction, label
@@ -323,7 +359,8 @@ class TouchTexts:
         """The name of a lock, behind what tells it from others of the same name."""
         text = self._locks.get(lock.serial)
         if text is None:
-            text = self._locks[lock.serial] = json.dumps(f"#{self._prefix}{lock.serial} {lock.name}")
+            number = f"{self._prefix}{lock.serial}" if isinstance(lock, Asking) or not lock.across else lock.across
+            text = self._locks[lock.serial] = json.dumps(f"#{number} {lock.name}")
         return text
 
     def _thing(self, thing: Any) -> str:
@@ -340,6 +377,13 @@ class TouchTexts:
             file, line, function = SITES[site][:3]
             text = self._sites[site] = f'"file":{json.dumps(file)},"line":{line},"function":{json.dumps(function)}'
         return text
+
+
+def _three(code: CodeType | None, instruction: int) -> str:
+    """A file, a line and a function, as JSON."""
+    if code is None:
+        return 'null,0,""'
+    return f'{json.dumps(name_of_file(code.co_filename))},{line_of(code, instruction)},{json.dumps(code.co_qualname)}'
 
 
 def _text(code: CodeType | None, instruction: int) -> str:

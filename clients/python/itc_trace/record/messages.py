@@ -8,6 +8,7 @@ from types import CodeType, FrameType
 from ..model.file_names import name_of_file
 from ..model.frames import line_of, place
 from ..model.lines import RECV, SEND, Reporter, state
+from ..model.lock_identity import LockIdentity
 from ..model.verdict import Cause, Unseen
 from .noting import current
 from .waiting import ANSWER_WAIT, Waiter
@@ -70,7 +71,9 @@ class Sending:
         return f"the message of {name_of_file(code.co_filename)}:{line_of(code, instruction)}"
 
 
-def incoming_at(message: str | None, frame: FrameType | None, words: str = "from another process") -> None:
+def incoming_at(
+    message: str | None, frame: FrameType | None, words: str = "from another process", lock: LockIdentity | None = None,
+) -> None:
     note = state.note
     if note is not None and message is not None and NAME.fullmatch(message):
-        note((RECV, current(), message, f"receive {words}", *place(frame)))
+        note((RECV, current(), message, f"receive {words}", *place(frame), lock))

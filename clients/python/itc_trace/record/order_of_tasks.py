@@ -9,7 +9,7 @@ from sys import getrefcount
 from types import CodeType
 
 from ..model.lines import END, GONE, JOIN, RESULT, TAKE, TAKE_END, Line, Note, Reporter, Token
-from ..model.lock_identity import LockOrAsking
+from ..model.lock_identity import LockIdentity, LockOrAsking
 from ..model.loop_runs import STOPS, LoopRun
 from ..model.verdict import Cause
 from .awaited import await_at_exit, take_awaited
@@ -332,10 +332,13 @@ class OrderOfTasks:
 
     def receive_outside(
         self, line: Line, message: str, label: str, code: CodeType | None, instruction: int,
+        lock: LockIdentity | None = None,
     ) -> None:
+        """A lock is one that processes share, and that the message hands over."""
         self.leave(line)
         report = self._reports.report(line, "recv", message, code, instruction, label)
         report.may_be_refused = True
+        report.guard = lock
 
     def keep_ended(self) -> None:
         """Has a task of its own take the ends of those that the end of the program waits for,

@@ -7,7 +7,7 @@ from collections import deque
 from types import CodeType
 
 from ..model.lines import Line, TouchEvent
-from ..model.lock_identity import LockOrAsking
+from ..model.lock_identity import LockIdentity, LockOrAsking
 from .connection import Connection
 from .dividing import Report, request
 from .touch_journal import TouchJournal
@@ -20,7 +20,7 @@ class Outstanding:
 
     __slots__ = (
         "text", "task", "kind", "name", "code", "instruction", "label", "lock", "time", "touches", "waiter",
-        "may_be_refused",
+        "may_be_refused", "guard",
     )
 
     def __init__(self, text: str, task: str, kind: str, name: str, code: CodeType | None, instruction: int, label: str,
@@ -37,6 +37,8 @@ class Outstanding:
         self.touches: TouchEvent | None = None
         self.waiter: Waiter | None = None
         self.may_be_refused = False
+        self.guard: LockIdentity | None = None
+        """The lock that a message between processes hands over."""
 
 
 class Reports:

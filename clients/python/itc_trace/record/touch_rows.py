@@ -6,7 +6,7 @@ from typing import Any
 
 from ..model.conflicts import CHANGING
 from .journal import TouchTexts
-from ..model.lines import Touch, TouchEvent
+from ..model.lines import Acquisition, Touch, TouchEvent
 from .many_jobs import ManyJobs
 
 MOST_PRIVATE = 10000
@@ -57,9 +57,10 @@ class TouchRows:
         event.looked_at += len(touches)
         rows: list[str] = []
         for touch in touches:
-            if touch.job:
+            is_acquisition = isinstance(touch.thing, Acquisition)
+            if touch.job and not is_acquisition:
                 self.jobs.add(touch)
-            if isinstance(touch.thing, str):
+            if is_acquisition or isinstance(touch.thing, str):
                 rows.append(self._row(event, touch))
             else:
                 self._add(event, touch, rows)

@@ -14,6 +14,7 @@ from types import CodeType
 from typing import Protocol
 
 from ..model.lines import FINISH, SPAWN, STOP, TOUCH, LateJob, Line, Note, Stretch, Touched, Waiting, state
+from ..model.lock_identity import LockIdentity
 from ..model.stretches import STRETCHES
 from ..model.verdict import Cause, Unseen, child_ended_row, end_row
 from . import plain
@@ -267,6 +268,22 @@ class Tracer:
             return
         self._journal_row(unseen.row())
         _say(unseen.text)
+
+    def tell_signal(self, lock: LockIdentity) -> None:
+        """The lock was acquired with others held, and is a signal, as was found out."""
+        if not self._reports.is_over and state.tracer is self:
+            self._journal_row(f'{{"signal":{self._texts.lock(lock)}}}\n')
+
+    def _hand_over(self, report: Outstanding) -> str:
+        """How a row tells of the lock that a message hands over.
+
+        If others wait at its condition, or are processes, that is not told as luck.
+        """
+        if report.guard is not None:
+            return f',"guard":{self._texts.lock(report.guard)}'
+        if report.lock is None:
+            return ""
+        return f',"{"lock" if report.lock.is_luck else "guard"}":{self._texts.lock(report.lock)}'
 
     def _journal_row(self, row: str) -> None:
         try:
@@ -527,7 +544,7 @@ class Tracer:
 
     def _row(self, event: int, report: Outstanding) -> str:
         place = self._places.text(report.code, report.instruction)
-        lock = "" if report.lock is None else f',"lock":{self._texts.lock(report.lock)}'
+        lock = self._hand_over(report)
         part = of = ""
         if self.part:
             part, of = part_text(self.part), f',"of":"{report.name}"' if report.name else ""

@@ -33,7 +33,7 @@ def missing_sources(found: Races) -> Iterator[str]:
 
 def _files(found: Races) -> list[str]:
     return list(
-        dict.fromkeys(file for race in [*found.races, *found.possible] for file in map(_file_of, race.sides) if file)
+        dict.fromkeys(file for race in found.found_ones for file in map(_file_of, race.sides) if file)
     )
 
 

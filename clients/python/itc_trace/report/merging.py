@@ -2,11 +2,12 @@
 
 from __future__ import annotations
 
-from collections.abc import Iterable
+from collections.abc import Iterable, Sequence
 from dataclasses import dataclass, field, replace
 
 from ..analyse.benign import Looking
-from ..analyse.races import Race, Races
+from ..analyse.deadlocks import Deadlock
+from ..analyse.races import Race, Races, told_deadlocks
 from ..model.finding import Finding, Seen, runs_in_words
 from ..model.sources import Sources
 from ..model.verdict import PassedOver, Unseen, Verdict, listed, verdict_of
@@ -20,7 +21,7 @@ Key = object
 class Often:
     """A race that was found in some of the runs: one example, and the number and the seed of the run that it is of."""
 
-    example: Race
+    example: Race | Deadlock
     sources: Sources
     first_run: int
     seed: int | None
@@ -41,6 +42,8 @@ class Merged:
     passed_over: list[PassedOver] = field(default_factory=list)
     _races: dict[Key, Often] = field(default_factory=dict)
     _possible: dict[Key, Often] = field(default_factory=dict)
+    _deadlocks: dict[Key, Often] = field(default_factory=dict)
+    _possible_deadlocks: dict[Key, Often] = field(default_factory=dict)
     _meant: dict[Key, Often] = field(default_factory=dict)
     _known: dict[Key, Often] = field(default_factory=dict)
 
@@ -49,8 +52,9 @@ class Merged:
         self.status = self.status or status
         self.passed_over += races.passed_over
         self.unseen += [Unseen(one.cause, f"run {self.runs}: {one.text}") for one in races.unseen]
-        lists = (
-            (races.races, self._races), (races.possible, self._possible), (races.meant, self._meant),
+        lists: tuple[tuple[Sequence[Race | Deadlock], dict[Key, Often]], ...] = (
+            (races.races, self._races), (races.possible, self._possible), (races.deadlocks, self._deadlocks),
+            (races.possible_deadlocks, self._possible_deadlocks), (races.meant, self._meant),
             (races.known, self._known),
         )
         for found, known in lists:
@@ -66,14 +70,27 @@ class Merged:
     def has_possible(self) -> bool:
         return bool(self._only_possible)
 
+    @property
+    def _only_possible_deadlocks(self) -> dict[Key, Often]:
+        """The same of deadlocks."""
+        return {key: often for key, often in self._possible_deadlocks.items() if key not in self._deadlocks}
+
     def verdict(self, fail_on_possible: bool = False) -> Verdict:
-        return verdict_of(len(self._races) + (len(self._only_possible) if fail_on_possible else 0), self.unseen)
+        possible = len(self._only_possible) + len(self._only_possible_deadlocks) if fail_on_possible else 0
+        return verdict_of(len(self._races) + len(self._deadlocks) + possible, self.unseen)
+
+    @property
+    def _found(self) -> list[Often]:
+        """Those that count, and behind them those that are possible only."""
+        found = (self._races, self._deadlocks, self._only_possible, self._only_possible_deadlocks)
+        return [often for one in found for often in one.values()]
 
     def _examples(self) -> Races:
-        """The example of each race."""
+        """The example of each race and each deadlock."""
+        examples = [often.example for often in self._found]
         return Races(
-            [often.example for often in self._races.values()],
-            [often.example for often in self._only_possible.values()],
+            [one for one in examples if isinstance(one, Race)],
+            deadlocks=[one for one in examples if isinstance(one, Deadlock)],
         )
 
     def report(self, looking: Looking, fail_on_possible: bool = False) -> Report:
@@ -82,7 +99,7 @@ class Merged:
 
         return Report(
             self.verdict(fail_on_possible), self._summary(),
-            made([*self._races.values(), *self._only_possible.values()]), made(self._meant.values()),
+            made(self._found), made(self._meant.values()),
             made(self._known.values()), looking.gone(), self.unseen, list(dict.fromkeys(self.passed_over)),
             [*hints(self._examples()), *looking.unfitting()], {"runs": self.runs},
         )
@@ -92,6 +109,7 @@ class Merged:
         found = "no race" if count == 0 else "1 race" if count == 1 else f"{count} races"
         possible = f"; {len(self._only_possible)} possible" if self._only_possible else ""
         seen = "what was seen of " if self.unseen else ""
+        deadlocks = told_deadlocks(len(self._deadlocks), len(self._only_possible_deadlocks))
         silenced = f"; {len(self._meant)} silenced" if self._meant else ""
         known = f"; {len(self._known)} in the baseline" if self._known else ""
-        return f"{found} in {seen}{runs_in_words(self.runs)}{possible}{silenced}{known}{listed(self.passed_over)}"
+        return f"{found} in {seen}{runs_in_words(self.runs)}{possible}{deadlocks}{silenced}{known}{listed(self.passed_over)}"

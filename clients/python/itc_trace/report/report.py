@@ -7,6 +7,7 @@ from collections.abc import Iterable
 from dataclasses import dataclass, field
 
 from ..analyse.benign import Looking
+from ..analyse.deadlocks import Deadlock
 from ..analyse.races import Race, Races
 from ..model.finding import Finding, Known
 from ..model.verdict import PassedOver, Unseen, Verdict
@@ -60,11 +61,11 @@ def report_of(
     """The report of one run."""
     looking = looking or Looking()
 
-    def made(found: Iterable[Race]) -> list[Finding]:
+    def made(found: Iterable[Race | Deadlock]) -> list[Finding]:
         return [race.finding(races.sources) for race in found]
 
     return Report(
-        races.verdict(fail_on_possible), races.summary(), made([*races.races, *races.possible]), made(races.meant),
+        races.verdict(fail_on_possible), races.summary(), made(races.found_ones), made(races.meant),
         made(races.known), looking.gone(), list(races.unseen), list(dict.fromkeys(races.passed_over)),
         [*hints(races), *looking.unfitting(), *beside],
         {"places": races.places, "things": races.things, "events": races.events, "runs": 1}, picture,

@@ -18,6 +18,7 @@ import types
 from _thread import get_ident
 from collections import deque
 from collections.abc import Iterator
+from types import FrameType
 from typing import Any
 
 from .handed_on import called, watched_place
@@ -32,7 +33,7 @@ from ..model.frames import frame_at, is_internal, place
 from ..model.stretches import STRETCHES, TURNS, leave
 from .base import Patches, like, name_as, named_like
 from .futures import is_settled_by_source, take_any
-from .locks import gave, is_of_condition, took
+from .locks import OnePermit, gave, is_of_condition, took
 from .queues import has_few_places, items_of, note_done, room_of, take_done
 from .waiters import Waiters
 
@@ -605,7 +606,7 @@ def _put_locks(patches: Patches) -> None:
 def _lock_begin(original: Any) -> Any:
     def __init__(self: Any, **named: Any) -> None:
         original(self, **named)
-        self._itc_identity = LockIdentity("asyncio.Lock", frame_at(1))
+        self._itc_identity = _identity(frame_at(1))
 
     return __init__
 
@@ -633,8 +634,14 @@ def _is_told_of(lock: Any) -> bool:
     if lock._itc_is_silent:
         return False
     if lock._itc_identity is None:
-        lock._itc_identity = LockIdentity("asyncio.Lock", None)
+        lock._itc_identity = _identity(None)
     return True
+
+
+def _identity(maker: FrameType | None) -> LockIdentity:
+    made = LockIdentity("asyncio.Lock", maker)
+    made.is_inside = True
+    return made
 
 
 def _condition_begin(original: Any) -> Any:
@@ -748,7 +755,9 @@ def _put_semaphores(patches: Patches) -> None:
 def _semaphore_begin(original: Any) -> Any:
     def __init__(self: Any, value: int = 1, **named: Any) -> None:
         original(self, value, **named)
-        if value <= 65536:
+        if value == 1:
+            self._itc_permit = OnePermit("asyncio.Semaphore", frame_at(1))
+        elif value <= 65536:
             self._itc_permits = deque([None] * value)
 
     return __init__
@@ -757,9 +766,11 @@ def _semaphore_begin(original: Any) -> Any:
 def _semaphore_acquire(original: Any) -> Any:
     async def acquire(self: Any) -> Any:
         told = await original(self)
-        permits = self.__dict__.get("_itc_permits")
+        permits, permit = self.__dict__.get("_itc_permits"), self.__dict__.get("_itc_permit")
         if permits:
             take(permits.popleft())
+        elif permit is not None and state.note is not None:
+            took(permit)
         return told
 
     return acquire
@@ -767,9 +778,14 @@ def _semaphore_acquire(original: Any) -> Any:
 
 def _semaphore_release(original: Any) -> Any:
     def release(self: Any) -> None:
-        permits = self.__dict__.get("_itc_permits")
+        permits, permit = self.__dict__.get("_itc_permits"), self.__dict__.get("_itc_permit")
+        if permit is not None and not permit.is_held:
+            permits = self._itc_permits = permit.as_permits(self._value)
+            del self._itc_permit
         if permits is not None:
             permits.append(mark(SEMAPHORE))
+        elif permit is not None and state.note is not None:
+            gave(permit)
         original(self)
 
     return release

@@ -12,16 +12,20 @@ import re
 import sys
 import threading
 from _thread import get_ident
+from collections import deque
+from sys import _getframe
 from types import FrameType
 from typing import Any
 
-from ..model.lines import MARK, TAKE, Line, Section, Stretch, Token, state
+from ..model.lines import MARK, TAKE, Line, Section, Token, state
 from ..model.lock_identity import LockIdentity, Signal
+from ..record.nesting import note_nested, note_signal
 from ..record.noting import current, line_of_now
 from ..model.frames import frame_at, is_internal, place
 from ..model.stretches import STRETCHES, TURNS
 from .base import name_as
 
+_is_walked = False
 _WAITS = re.compile(r"\.(wait|wait_for|notify|notify_all|notifyAll)\b")
 
 _allocate = _thread.allocate_lock
@@ -72,7 +76,7 @@ class TracedLock(metaclass=_LikeLock):
         if not self._lock.acquire(blocking, timeout):
             return False
         if state.note is not None:
-            took(self)
+            took(self, blocking and timeout < 0)
         return True
 
     def __enter__(self) -> bool:
@@ -130,7 +134,7 @@ class TracedRLock(_PlainRLock, metaclass=_LikeRLock):  # type: ignore[misc]
             return False
         self._depth += 1
         if self._depth == 1 and state.note is not None:
-            took(self)
+            took(self, blocking and timeout < 0)
         return True
 
     def __enter__(self) -> bool:
@@ -216,6 +220,27 @@ def traced_rlock(frame: Any, cls: Any = TracedRLock, *words: Any, **named: Any) 
     return made
 
 
+class OnePermit:
+    """A semaphore of one permit, as a lock. What it hands over is meant."""
+
+    __slots__ = ("_itc_token", "_itc_identity", "_itc_holder")
+
+    def __init__(self, kind: str, frame: FrameType | None) -> None:
+        self._itc_token: Token | None = None
+        self._itc_holder: Line | None = None
+        self._itc_identity = LockIdentity(kind, frame)
+        self._itc_identity.is_inside = self._itc_identity.is_of_condition = True
+
+    def as_permits(self, free: int) -> deque[Token | None]:
+        """It is about to have more than one permit, and has so many free ones: it is no lock."""
+        _become_signal(self._itc_identity)
+        return deque([self._itc_token] * free)
+
+    @property
+    def is_held(self) -> bool:
+        return self._itc_holder is not None
+
+
 def is_of_condition(lock: Any, maker: FrameType | None = None) -> None:
     """The lock, where it is a traced one, guards what those look at who wait at a condition.
 
@@ -223,8 +248,10 @@ def is_of_condition(lock: Any, maker: FrameType | None = None) -> None:
     any other.
     """
     identity = getattr(lock, "_itc_identity", None)
-    if identity is not None and (maker is None or _may_wait(maker.f_code.co_filename)):
-        identity.is_of_condition = True
+    if identity is not None:
+        identity.is_inside = True
+        if maker is None or _may_wait(maker.f_code.co_filename):
+            identity.is_of_condition = True
 
 
 @functools.cache
@@ -239,11 +266,18 @@ def gave(lock: Any) -> None:
     thread = get_ident()
     stretch = STRETCHES.pop(thread, None)
     line = line_of_now()
-    if line.section is not None and _left_again(lock, line, line.section):
-        return
+    identity: LockIdentity = lock._itc_identity
+    section = line.section
+    if section is not None and section.is_entered_again and section.token.what is identity:
+        held = line.held
+        if held and held[-1] is identity and not identity.signal:  # Nothing has happened that is not in its stretch.
+            section.is_entered_again = False
+            lock._itc_holder = None
+            line.held = held[:-1]
+            lock._itc_token = section.token
+            return
     code, instruction = place(frame_at(2))
     holder, lock._itc_holder = lock._itc_holder, None
-    identity: LockIdentity = lock._itc_identity
     if holder is line:
         held = line.held
         if held and held[-1] is identity:
@@ -252,7 +286,7 @@ def gave(lock: Any) -> None:
             _outlived(line, identity)
     elif holder is not None and holder.tracer is state.tracer:
         _remove(holder, identity)
-        identity.become_signal()
+        _become_signal(identity)
     what: LockIdentity | Signal = identity.signal or identity
     lock._itc_token = token = Token(line, what, code, instruction)
     line.section = None
@@ -262,32 +296,11 @@ def gave(lock: Any) -> None:
         line.section = Section(token, stretch)
 
 
-def _left_again(lock: Any, line: Line, section: Section) -> bool:
-    """Whether a section ends that was entered again, and in which nothing has happened that is not in its stretch."""
-    identity, held = lock._itc_identity, line.held
-    is_entered_again = section.is_entered_again and section.token.what is identity
-    if not is_entered_again or not held or held[-1] is not identity or identity.signal:
-        return False
-    section.is_entered_again = False
-    lock._itc_holder = None
-    line.held = held[:-1]
-    lock._itc_token = section.token
-    return True
-
-
-def _is_in_turn(stretch: Stretch | None) -> bool:
-    """Whether the stretch may go on: a task of a loop begins another one with each of its turns."""
-    return stretch is None or not stretch.loop or stretch.turn == TURNS.get(stretch.thread)
-
-
-def _entered_again(lock: Any, line: Line, section: Section) -> None:
-    """The task that released the lock goes on in its section."""
-    section.is_entered_again = True
-    lock._itc_holder = line
-    line.held += (lock._itc_identity,)
-    lock._itc_token = None
-    if section.stretch is not None:
-        STRETCHES[section.stretch.thread] = section.stretch
+def _become_signal(identity: LockIdentity) -> None:
+    """The lock hands over more than what it encloses. Whoever looks for cycles of locks passes it over."""
+    if identity.signal is None:
+        identity.become_signal()
+        note_signal(identity)
 
 
 def _outlived(line: Line, identity: LockIdentity) -> None:
@@ -295,8 +308,8 @@ def _outlived(line: Line, identity: LockIdentity) -> None:
     is_later = False
     for one in line.held:
         if is_later:
-            one.become_signal()
-            identity.become_signal()
+            _become_signal(one)
+            _become_signal(identity)
         is_later = is_later or one is identity
     _remove(line, identity)
 
@@ -311,22 +324,52 @@ def _remove(line: Line, identity: LockIdentity) -> None:
             return
 
 
-def took(lock: Any) -> None:
-    """Notes that the lock was acquired. While it is held nobody else needs the place of its last release."""
-    token = lock._itc_token
-    section = None if token is None else token.line.section  # Looked at once: another task may leave its own meanwhile.
-    if token is not None and section is not None and section.token is token:
-        line = line_of_now()
-        if line is token.line and line.section is section and _is_in_turn(section.stretch):
-            _entered_again(lock, line, section)
-            return
+def walk_always() -> None:
+    """From here on functions of the package stand between a lock's methods and the program."""
+    global _is_walked
+    _is_walked = True
+
+
+def took(lock: Any, has_waited: bool = True) -> None:
+    """Notes that the lock was acquired. While it is held nobody else needs the place of its last release.
+
+    Whoever would not have waited for it, or not for ever, had a way back.
+    """
+    identity: LockIdentity = lock._itc_identity
+    try:
+        frame = _getframe(2)
+        identity.taken_by, identity.taken_at = frame.f_code, frame.f_lasti
+        if identity.is_inside or _is_walked:
+            identity.taken_by, identity.taken_at = place(frame)
+    except ValueError:
+        identity.taken_by = None  # The interpreter itself has called.
+    token: Token | None = lock._itc_token
+    if token is not None:
+        line = token.line
+        section = line.section  # Looked at once: another task may leave its own meanwhile.
+        if section is not None and section.token is token and line_of_now() is line and line.section is section:
+            stretch = section.stretch
+            # A task of a loop begins another stretch with each of its turns.
+            if stretch is None or not stretch.loop or stretch.turn == TURNS.get(stretch.thread):
+                section.is_entered_again = True  # The task goes on in it.
+                lock._itc_holder = line
+                lock._itc_token = None
+                if stretch is not None:
+                    STRETCHES[stretch.thread] = stretch
+                if line.held:
+                    line.held += (identity,)
+                    note_nested(line.held, has_waited)
+                else:
+                    line.held = (identity,)
+                return
     line = current()
     lock._itc_holder = line
-    line.held += (lock._itc_identity,)
-    if token is None:
-        return
-    lock._itc_token = None
-    if line is not token.line and token.line.tracer is state.tracer:
-        note = state.note
-        if note is not None:
-            note((TAKE, line, token, *place(frame_at(2))))
+    line.held += (identity,)
+    if token is not None:
+        lock._itc_token = None
+        if line is not token.line and token.line.tracer is state.tracer:
+            note = state.note
+            if note is not None:
+                note((TAKE, line, token, *place(frame_at(2))))
+    if len(line.held) > 1:
+        note_nested(line.held, has_waited)

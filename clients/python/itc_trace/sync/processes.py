@@ -66,20 +66,23 @@ class _Lock:
         self._itc_token: Token | None = None
         self._itc_holder: Line | None = None
         self._itc_identity = LockIdentity(f"multiprocessing.{kind}", frame)
+        self._itc_identity.is_inside = True
         self._slot = slot_of(semlock.name)
         if self._slot is None:
             following.is_not_followed(kind)
+        else:
+            self._itc_identity.across = f"across{self._slot}"
 
     def acquire(self, block: bool = True, timeout: float | None = None) -> bool:
         is_acquired = bool(self._semlock.acquire(block, timeout))
         if is_acquired:
-            self.was_acquired()
+            self.was_acquired(block and timeout is None)
         return is_acquired
 
-    def was_acquired(self) -> None:
+    def was_acquired(self, has_waited: bool = True) -> None:
         if state.note is not None and self._is_outermost():
-            took(self)
-            has_taken(self._slot)
+            has_taken(self._slot, self._itc_identity)
+            took(self, has_waited)
 
     def release(self) -> None:
         self.is_released()

@@ -13,7 +13,7 @@ from typing import Any
 
 from ..model.frames import is_internal
 from .base import like
-from .locks import TracedLock, TracedRLock
+from .locks import TracedLock, TracedRLock, walk_always
 
 SHORTEST_TURN, LONGEST_TURN = 1e-6, 1e-4
 LONGEST_PAUSE = 0.004
@@ -43,6 +43,7 @@ class Shaking:
     def begin(self) -> None:
         """From here on threads take short turns, and pause before they synchronize."""
         sys.setswitchinterval(self._turn)
+        walk_always()
         locks = [(kind, name) for kind in (TracedLock, TracedRLock) for name in _LOCK_CALLS]
         for owner, name in [*_PLACES, *locks]:
             if name in vars(owner):

@@ -7,6 +7,7 @@ import itertools
 
 from ..record import following
 from ..model.lines import state
+from ..model.lock_identity import LockIdentity
 from ..record.messages import Sending, incoming_at
 
 _numbers = itertools.count(1)
@@ -23,8 +24,8 @@ def slot_of(name: str | None) -> int | None:
     return names.slot_of(name or f"{tracer.prefix}{next(_numbers)}")
 
 
-def has_taken(slot: int | None) -> bool:
-    """The current task has acquired the lock.
+def has_taken(slot: int | None, lock: LockIdentity | None = None) -> bool:
+    """The current task has acquired the lock, or whatever else is handed over.
 
     Whether another process has released it: the order of threads is known already.
     """
@@ -34,7 +35,7 @@ def has_taken(slot: int | None) -> bool:
     name = names.name_at(slot)
     if not name or name.startswith(f"{tracer.prefix}out_"):
         return False
-    incoming_at(name, following.frame_of_start(2))
+    incoming_at(name, following.frame_of_start(2), lock=lock)
     return True
 
 

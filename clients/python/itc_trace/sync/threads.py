@@ -14,7 +14,9 @@ from ..record.noting import are_replaced, enter, joining, local, mark, starting,
 from ..model.frames import frame_at, is_internal, place
 from .base import Patches, like
 from ..record.awaited import await_at_exit
-from .locks import IS_CALLED, TracedLock, TracedRLock, allocate_lock, is_of_condition, new_rlock, traced_rlock
+from .locks import (
+    IS_CALLED, OnePermit, TracedLock, TracedRLock, allocate_lock, gave, is_of_condition, new_rlock, took, traced_rlock,
+)
 from .waiters import Waiters
 
 _PLAIN_LOCK: Any = _thread.LockType
@@ -382,7 +384,9 @@ def _semaphore_begin(original: Any) -> Any:
     def __init__(self: Any, value: int = 1) -> None:
         original(self, value)
         is_the_programs = isinstance(self, threading.BoundedSemaphore) or not is_internal(frame_at(1))
-        if is_the_programs and value <= MOST_PERMITS:
+        if is_the_programs and value == 1:
+            self._itc_permit = OnePermit("Semaphore", frame_at(1))
+        elif is_the_programs and value <= MOST_PERMITS:
             self._itc_permits = deque([None] * value)
 
     return __init__
@@ -403,14 +407,20 @@ def _set_value(self: Any, value: Any) -> None:
             permits.extend([local.permit] * more)
         elif more < 0:
             local.permit = permits.popleft() if permits else None
+    elif (one_permit := own.get("_itc_permit")) is not None:
+        local.permit = one_permit
     own["_value"] = value
 
 
 def _semaphore_acquire(original: Any) -> Any:
     def acquire(self: Any, blocking: bool = True, timeout: float | None = None) -> bool:
         is_acquired = bool(original(self, blocking, timeout))
-        if is_acquired and "_itc_permits" in self.__dict__:
-            take(local.permit)
+        if is_acquired and ("_itc_permits" in self.__dict__ or "_itc_permit" in self.__dict__):
+            permit = local.permit
+            if type(permit) is not OnePermit:
+                take(permit)
+            elif state.note is not None:
+                took(permit, blocking and timeout is None)
         return is_acquired
 
     return acquire
@@ -418,11 +428,24 @@ def _semaphore_acquire(original: Any) -> Any:
 
 def _semaphore_release(original: Any) -> Any:
     def release(self: Any, n: int = 1) -> Any:
-        if "_itc_permits" in self.__dict__:
+        one_permit = self.__dict__.get("_itc_permit")
+        if one_permit is not None and (n != 1 or not one_permit.is_held):
+            _have_permits(self, one_permit)
+            one_permit = None
+        if one_permit is not None and state.note is not None:
+            gave(one_permit)
+        elif "_itc_permits" in self.__dict__:
             local.permit = mark(SEMAPHORE)
         return original(self, n)
 
     return release
+
+
+def _have_permits(semaphore: Any, permit: OnePermit) -> None:
+    with semaphore._cond:
+        own = semaphore.__dict__
+        if own.pop("_itc_permit", None) is not None:
+            own["_itc_permits"] = permit.as_permits(own["_value"])
 
 
 # Barriers: the last one that arrives comes after all the others, and all leave after it.

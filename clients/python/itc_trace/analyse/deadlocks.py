@@ -1,0 +1,350 @@
+"""Possible deadlocks: tasks that acquire the same locks in an order that makes a cycle.
+
+A task waits for a lock while it holds others. If each of several tasks wants what the next one holds, all of them may
+wait for ever. This is the lock graph of GoodLock (Havelund 2000), with gate locks for any number of tasks (Bensalem and
+Havelund 2005): two of the tasks must hold no lock in common, since that one lets only one of them in. Acquisitions at
+the same lines with the same locks are one pattern, and cycles are looked for among patterns, as Tunç, Mathur,
+Pavlogiannis and Viswanathan do (2023). Then each cycle needs an acquisition by another task for each of its patterns,
+of which no two are in order by anything but the hand-over of locks. The collector answers that for the trace without
+locks. No schedule is made up for it, so it is a possible deadlock, and none that has been.
+"""
+
+from __future__ import annotations
+
+import re
+from collections import defaultdict
+from collections.abc import Callable, Iterable, Iterator
+from dataclasses import dataclass
+from typing import Any, NamedTuple
+
+from ..model.finding import DEADLOCK, POSSIBLE_DEADLOCK, Finding, FoundSide
+from ..model.sources import Sources
+from ..record.journal import Row
+from ..session import Refused
+from .bit_matrix import transposed
+from .trace import Events, Trace, lock_events
+from .without_locks import WithoutLocks
+
+UNORDERED, CLOSED = "nothing but locks orders them", "each waits for the next one"
+NUMBER = re.compile(r" \d+\Z")
+MOST_STEPS = 200_000
+"""So many steps from lock to lock are gone at most, to look for cycles."""
+
+
+class Place(NamedTuple):
+    """A line of the program."""
+
+    file: str | None
+    line: int
+    function: str
+
+    def __str__(self) -> str:
+        return f"{self.file}:{self.line}" if self.file else "?"
+
+
+@dataclass(frozen=True)
+class LockSide:
+    """One of the lines of a deadlock, as a race has sides."""
+
+    kind: str
+    place: str
+    function: str = ""
+
+
+class Step(NamedTuple):
+    """A task of a cycle: the lock that it holds, and the lock that it wants, which the next task holds."""
+
+    task: str
+    holds: str
+    held_at: Place
+    wants: str
+    wanted_at: Place
+    event: int = 0
+    part: int = 1
+    loop: int = 0
+
+    @property
+    def places(self) -> tuple[str, str]:
+        return str(self.held_at), str(self.wanted_at)
+
+    @property
+    def lines(self) -> tuple[tuple[str, Place], tuple[str, Place]]:
+        """What it does at both places."""
+        return (f"holds {_variable(self.holds)}", self.held_at), (f"wants {_variable(self.wants)}", self.wanted_at)
+
+
+@dataclass
+class Deadlock:
+    """A cycle of tasks, each of which wants a lock that the next one holds."""
+
+    steps: tuple[Step, ...]
+    times: int = 1
+    is_possible: bool = True
+    """Whether it was found by the order of locks, and has not been."""
+
+    @property
+    def key(self) -> object:
+        """What is the same of deadlocks that are listed as one, in other runs too."""
+        return tuple(one.places for one in _turned(self.steps, lambda one: one.places))
+
+    @property
+    def thing(self) -> str:
+        """The locks, in the order of the cycle."""
+        return " and ".join(dict.fromkeys(_variable(one.holds) for one in self.steps))
+
+    @property
+    def sides(self) -> tuple[LockSide, ...]:
+        return tuple(LockSide(kind, str(at), at.function) for one in self.steps for kind, at in one.lines)
+
+    def finding(self, sources: Sources | None = None) -> Finding:
+        """The value that each format is written of."""
+        kept = sources or Sources()
+        made = " and ".join(dict.fromkeys(place for one in self.steps if (place := _maker(one.holds))))
+        return Finding(
+            POSSIBLE_DEADLOCK if self.is_possible else DEADLOCK, self.thing,
+            tuple(_found_side(one, kind, at, kept) for one in self.steps for kind, at in one.lines),
+            UNORDERED if self.is_possible else CLOSED, self.times, f"made at {made}" if made else "", self.is_possible,
+        )
+
+    def __str__(self) -> str:
+        return "\n    ".join(self.finding().lines())
+
+
+def _found_side(step: Step, kind: str, at: Place, sources: Sources) -> FoundSide:
+    file = at.file or ""
+    return FoundSide(
+        kind, file, at.line, at.function, step.task, step.event, step.part, (step.holds,), bool(step.loop), False,
+        *sources.around(file, at.line),
+    )
+
+
+def _turned(steps: tuple[Step, ...], key: Callable[[Step], Any]) -> tuple[Step, ...]:
+    """The same cycle, from the step on by which it is the least."""
+    turned = [(*steps[number:], *steps[:number]) for number in range(len(steps))]
+    return min(turned, key=lambda one: [key(step) for step in one])
+
+
+def _name(lock: str) -> str:
+    """A lock as a person calls it, without what tells it from others of the same name."""
+    return lock.partition(" ")[2] if lock.startswith("#") else lock
+
+
+def _variable(lock: str) -> str:
+    """The name without the place that made it, which other lines may move, and how many were made there before."""
+    return NUMBER.sub("", _name(lock).partition(" (")[0])
+
+
+def _maker(lock: str) -> str:
+    return _name(lock).partition(" (")[2].removesuffix(")")
+
+
+def number_of(lock: str) -> str:
+    return lock.partition(" ")[0]
+
+
+class Pattern(NamedTuple):
+    """What is the same of acquisitions that are looked at as one."""
+
+    wants: str
+    """The number of the lock."""
+    held: tuple[str, ...]
+    at: tuple[Place, ...]
+    """Where each of those was acquired."""
+    place: Place
+    loop: int
+    """The loop whose other tasks wait as well."""
+    names: tuple[str, ...]
+    """Those of the held locks, and then that of the wanted one."""
+
+
+Found = dict[Pattern, dict[str, Events]]
+"""The acquisitions of each pattern: by task, the events at which it was about to wait."""
+
+
+def acquisitions_of(rows: Iterable[Row], signals: frozenset[str] = frozenset()) -> Found:
+    """The acquisitions of locks with others held. A lock that is a signal keeps nobody out."""
+    found: Found = defaultdict(lambda: defaultdict(int))
+    numbers = set(map(number_of, signals))
+    for row in rows:
+        if row.wants is None or number_of(row.wants) in numbers:
+            continue
+        held = [
+            (lock, Place(*at)) for lock, at in zip(row.held, row.at, strict=False) if number_of(lock) not in numbers
+        ]
+        if held:
+            pattern = Pattern(
+                number_of(row.wants), tuple(number_of(lock) for lock, _ in held), tuple(at for _, at in held),
+                Place(row.file, row.line, row.function), row.loop, (*(lock for lock, _ in held), row.wants),
+            )
+            found[pattern][row.task] |= 1 << row.event
+    return found
+
+
+class TooMany(Exception):
+    """There are more ways from lock to lock than are gone."""
+
+
+def cycles(patterns: Iterable[Pattern]) -> Iterator[tuple[Pattern, ...]]:
+    """The cycles of patterns, each from its first pattern on: each wants a lock that the next one holds.
+
+    No two of them hold a lock in common.
+    """
+    left = _in_cycles(list(dict.fromkeys(patterns)))
+    holding: dict[str, list[int]] = defaultdict(list)
+    for number, pattern in enumerate(left):
+        for lock in pattern.held:
+            holding[lock].append(number)
+    steps = 0
+    for start in range(len(left)):
+        paths: list[tuple[int, ...]] = [(start,)]
+        while paths:
+            path = paths.pop()
+            wants = left[path[-1]].wants
+            held = {lock for number in path for lock in left[number].held}
+            for number in holding[wants]:
+                steps += 1
+                if steps > MOST_STEPS:
+                    raise TooMany
+                if number == start and len(path) > 1:
+                    yield tuple(left[one] for one in path)
+                elif number > start and held.isdisjoint(left[number].held):
+                    paths.append((*path, number))
+
+
+def _in_cycles(patterns: list[Pattern]) -> list[Pattern]:
+    """Those of which others want a held lock, and which want a lock that others hold, with the rest left out."""
+    while True:
+        wanted = {pattern.wants for pattern in patterns}
+        held = {lock for pattern in patterns for lock in pattern.held}
+        left = [one for one in patterns if one.wants in held and not wanted.isdisjoint(one.held)]
+        if len(left) == len(patterns):
+            return left
+        patterns = left
+
+
+def has_cycle(found: Found) -> bool:
+    """Whether it is worth to ask for the order."""
+    try:
+        return any(True for _ in cycles(found))
+    except TooMany:
+        return True
+
+
+def before_without(trace: Trace, locks: set[int]) -> list[Events]:
+    """Of each event those before it, by anything but the hand-over of locks."""
+    before = [0]
+    for event in trace.events:
+        source = trace.source(event) if event.number in locks and event.kind == "recv" else None
+        known = 0
+        for one in event.follows:
+            if source is None or one != source.number:
+                known |= before[one] | 1 << one
+        before.append(known)
+    return before
+
+
+def locks_of(rows: Iterable[Row], trace: Trace) -> set[int]:
+    """The hand-over of all locks, also of those at whose conditions others wait."""
+    return lock_events(trace, {row.event for row in rows if row.lock is not None or row.guard is not None})
+
+
+class _Concurrent:
+    """Which of some events no two are in order."""
+
+    def __init__(self, events: Events, before: list[Events]) -> None:
+        self._events = events
+        self._before = before
+        numbers = [number for number in range(events.bit_length()) if events >> number & 1]
+        self._after = transposed((number, before[number] & events) for number in numbers)
+
+    def with_event(self, event: int) -> Events:
+        return self._events & ~self._before[event] & ~self._after.get(event, 0) & ~(1 << event)
+
+
+def find_deadlocks(rows: list[Row], signals: frozenset[str], trace: Trace) -> list[Deadlock]:
+    """The possible deadlocks of one trace. Each is confirmed by a collector that has the trace without locks."""
+    found = acquisitions_of(rows, signals)
+    locks = locks_of(rows, trace)
+    events = 0
+    for tasks in found.values():
+        for mask in tasks.values():
+            events |= mask
+    concurrent = _Concurrent(events, before_without(trace, locks))
+    part = rows[0].part if rows else 1
+    listed: dict[object, Deadlock] = {}
+    for cycle in cycles(found):
+        chosen = None if has_one_loop(cycle) else _chosen(cycle, found, concurrent, [])
+        if chosen is not None:
+            steps = zip(cycle, (*cycle[1:], cycle[0]), chosen, strict=True)
+            add_deadlock(Deadlock(tuple(_step(*one, part) for one in _holding(steps))), listed)
+    if listed:
+        with WithoutLocks(trace, locks) as tenant:
+            confirm_all(listed.values(), tenant)
+    return in_order(listed)
+
+
+def has_one_loop(cycle: tuple[Pattern, ...]) -> bool:
+    """Whether two tasks of one loop are to wait for locks of threads: while one waits, the other does not go on."""
+    loops = [pattern.loop for pattern in cycle if pattern.loop]
+    return len(loops) > len(set(loops))
+
+
+_Chosen = list[tuple[str, int]]
+
+
+def _chosen(cycle: tuple[Pattern, ...], found: Found, concurrent: _Concurrent, chosen: _Chosen) -> _Chosen | None:
+    """An acquisition of another task for each pattern, no two in order."""
+    if len(chosen) == len(cycle):
+        return chosen
+    tasks = {task for task, _ in chosen}
+    free = -1
+    for _, event in chosen:
+        free &= concurrent.with_event(event)
+    for task, events in found[cycle[len(chosen)]].items():
+        left = events & free if task not in tasks else 0
+        while left:
+            event = (left & -left).bit_length() - 1
+            left &= left - 1
+            whole = _chosen(cycle, found, concurrent, [*chosen, (task, event)])
+            if whole is not None:
+                return whole
+    return None
+
+
+def _holding(steps: Iterable[tuple[Pattern, Pattern, tuple[str, int]]]) -> Iterator[tuple[Pattern, str, str, int]]:
+    """Each step with the lock that is held of it: the one that the step before wants."""
+    listed = list(steps)
+    for number, (pattern, _, (task, event)) in enumerate(listed):
+        yield pattern, listed[number - 1][0].wants, task, event
+
+
+def _step(pattern: Pattern, holds: str, task: str, event: int, part: int) -> Step:
+    place = pattern.held.index(holds)
+    return Step(
+        task, pattern.names[place], pattern.at[place], pattern.names[-1], pattern.place, event, part, pattern.loop,
+    )
+
+
+def confirm_all(deadlocks: Iterable[Deadlock], tenant: WithoutLocks) -> None:
+    """Has the collector answer that no two of the acquisitions of each are in order."""
+    pairs = [
+        (min(one.event, other.event), max(one.event, other.event)) for deadlock in deadlocks
+        for number, one in enumerate(deadlock.steps) for other in deadlock.steps[number + 1:]
+    ]
+    tenant.ask(pairs)
+    for pair in pairs:
+        if not tenant.is_concurrent(*pair):
+            raise Refused("order {} {}".format(*pair), "it contradicts what the events follow")
+
+
+def add_deadlock(deadlock: Deadlock, listed: dict[object, Deadlock]) -> None:
+    """Adds one to those that are listed, from the first of its events on."""
+    deadlock.steps = _turned(deadlock.steps, lambda one: (one.part, one.event))
+    known = listed.setdefault(deadlock.key, deadlock)
+    if known is not deadlock:
+        known.times += deadlock.times
+
+
+def in_order(listed: dict[object, Deadlock]) -> list[Deadlock]:
+    return sorted(listed.values(), key=lambda deadlock: [(one.part, one.event) for one in deadlock.steps])
+

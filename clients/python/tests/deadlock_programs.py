@@ -1,0 +1,854 @@
+"""Scenarios whose tasks acquire locks in orders that make a cycle, and such that only seem to.
+
+Each gives what its tasks do, which are run one after another, and nothing that is traced tells so. The lines that are
+to be told have the comment `# told`.
+"""
+
+from __future__ import annotations
+
+import asyncio
+import contextlib
+import queue
+import threading
+from collections.abc import Callable, Iterator
+from concurrent.futures import ThreadPoolExecutor
+from typing import Any
+
+Steps = list[Callable[[], object]]
+
+
+def two_locks() -> Steps:
+    one, other = threading.Lock(), threading.Lock()
+
+    def forth() -> None:
+        with one:  # told
+            with other:  # told
+                pass
+
+    def back() -> None:
+        with other:  # told
+            with one:  # told
+                pass
+
+    return [forth, back]
+
+
+def two_rlocks() -> Steps:
+    one, other = threading.RLock(), threading.RLock()
+
+    def forth() -> None:
+        with one:  # told
+            with one, other:  # told
+                pass
+
+    def back() -> None:
+        with other:  # told
+            with other:
+                with one:  # told
+                    pass
+
+    return [forth, back]
+
+
+def lock_and_rlock() -> Steps:
+    one, other = threading.Lock(), threading.RLock()
+
+    def forth() -> None:
+        with one, other:  # told
+            pass
+
+    def back() -> None:
+        with other, one:  # told
+            pass
+
+    return [forth, back]
+
+
+def by_calls() -> Steps:
+    one, other = threading.Lock(), threading.Lock()
+
+    def forth() -> None:
+        one.acquire()  # told
+        other.acquire()  # told
+        other.release()
+        one.release()
+
+    def back() -> None:
+        other.acquire()  # told
+        one.acquire()  # told
+        one.release()
+        other.release()
+
+    return [forth, back]
+
+
+def three_tasks() -> Steps:
+    locks = [threading.Lock() for _ in range(3)]
+
+    def step(number: int) -> None:
+        with locks[number]:  # told
+            with locks[(number + 1) % 3]:  # told
+                pass
+
+    return [lambda number=number: step(number) for number in range(3)]  # type: ignore[misc]
+
+
+def four_tasks() -> Steps:
+    locks = [threading.Lock() for _ in range(4)]
+
+    def step(number: int) -> None:
+        with locks[number], locks[(number + 1) % 4]:  # told
+            pass
+
+    return [lambda number=number: step(number) for number in (2, 0, 3, 1)]  # type: ignore[misc]
+
+
+def three_locks_of_two_tasks() -> Steps:
+    first, second, third = (threading.Lock() for _ in range(3))
+
+    def forth() -> None:
+        with first:  # told
+            with second:
+                with third:  # told
+                    pass
+
+    def back() -> None:
+        with third:  # told
+            with first:  # told
+                pass
+
+    return [forth, back]
+
+
+def within_functions() -> Steps:
+    one, other = threading.Lock(), threading.Lock()
+
+    def inner_other() -> None:
+        with other:  # told
+            pass
+
+    def inner_one() -> None:
+        with one:  # told
+            pass
+
+    def forth() -> None:
+        with one:  # told
+            inner_other()
+
+    def back() -> None:
+        with other:  # told
+            inner_one()
+
+    return [forth, back]
+
+
+def many_times() -> Steps:
+    one, other = threading.Lock(), threading.Lock()
+
+    def forth() -> None:
+        for _ in range(50):
+            with one:  # told
+                with other:  # told
+                    pass
+
+    def back() -> None:
+        for _ in range(50):
+            with other:  # told
+                with one:  # told
+                    pass
+
+    return [forth, back, forth]
+
+
+class Account:
+    def __init__(self) -> None:
+        self.lock = threading.Lock()
+        self.sum = 100
+
+    def pay(self, other: Account) -> None:
+        with self.lock:  # told by of_objects
+            with other.lock:  # told by of_objects
+                self.sum -= 1
+                other.sum += 1
+
+
+def of_objects() -> Steps:
+    one, other = Account(), Account()
+    return [lambda: one.pay(other), lambda: other.pay(one)]
+
+
+def lock_and_condition() -> Steps:
+    lock, condition = threading.Lock(), threading.Condition()
+
+    def forth() -> None:
+        with lock:  # told
+            with condition:  # told
+                condition.notify()
+
+    def back() -> None:
+        with condition:
+            condition.wait(0.001)  # told
+            with lock:  # told
+                pass
+
+    return [forth, back]
+
+
+def two_conditions() -> Steps:
+    full, free = threading.Condition(), threading.Condition()
+
+    def forth() -> None:
+        with full:  # told
+            with free:  # told
+                free.notify_all()
+
+    def back() -> None:
+        with free:  # told
+            with full:  # told
+                full.notify_all()
+
+    return [forth, back]
+
+
+def wait_with_a_lock() -> Steps:
+    lock, condition = threading.Lock(), threading.Condition()
+
+    def forth() -> None:
+        with lock:  # told
+            condition.acquire()  # told
+            condition.release()
+
+    def back() -> None:
+        with condition, lock:  # told
+            pass
+
+    return [forth, back]
+
+
+def semaphores() -> Steps:
+    one, other = threading.Semaphore(1), threading.BoundedSemaphore()
+
+    def forth() -> None:
+        with one:  # told
+            with other:  # told
+                pass
+
+    def back() -> None:
+        with other:  # told
+            with one:  # told
+                pass
+
+    return [forth, back]
+
+
+def semaphore_and_lock() -> Steps:
+    permit, lock = threading.Semaphore(), threading.Lock()
+
+    def forth() -> None:
+        permit.acquire()  # told
+        with lock:  # told
+            pass
+        permit.release()
+
+    def back() -> None:
+        with lock:  # told
+            permit.acquire()  # told
+            permit.release()
+
+    return [forth, back]
+
+
+def stacks() -> Steps:
+    one, other = threading.Lock(), threading.Lock()
+
+    @contextlib.contextmanager
+    def holding(lock: Any) -> Iterator[None]:
+        lock.acquire()  # told
+        yield
+        lock.release()
+
+    def forth() -> None:
+        with holding(one), holding(other):
+            pass
+
+    def back() -> None:
+        with holding(other), holding(one):
+            pass
+
+    return [forth, back]
+
+
+def jobs() -> Steps:
+    one, other = threading.Lock(), threading.Lock()
+
+    def forth() -> None:
+        with one:  # told
+            with other:  # told
+                pass
+
+    def back() -> None:
+        with other:  # told
+            with one:  # told
+                pass
+
+    def run() -> None:
+        with ThreadPoolExecutor(2) as pool:
+            for job in (forth, back):
+                pool.submit(job)
+
+    return [run]
+
+
+def job_and_thread() -> Steps:
+    one, other = threading.Lock(), threading.Lock()
+
+    def forth() -> None:
+        with one, other:  # told
+            pass
+
+    def back() -> None:
+        with ThreadPoolExecutor(1) as pool:
+            pool.submit(lambda: other.acquire() and one.acquire())  # told
+
+    return [forth, back]
+
+
+def timers() -> Steps:
+    one, other = threading.Lock(), threading.Lock()
+
+    def forth() -> None:
+        with one, other:  # told
+            pass
+
+    def back() -> None:
+        with other, one:  # told
+            pass
+
+    def run() -> None:
+        timers = [threading.Timer(0.001, forth), threading.Timer(0.01, back)]
+        for timer in timers:
+            timer.start()
+        for timer in timers:
+            timer.join()
+
+    return [run]
+
+
+def asyncio_locks() -> Steps:
+    async def main() -> None:
+        one, other = asyncio.Lock(), asyncio.Lock()
+
+        async def forth() -> None:
+            async with one:  # told
+                await asyncio.sleep(0)
+                async with other:  # told
+                    pass
+
+        async def back() -> None:
+            await asyncio.sleep(0.01)
+            async with other:  # told
+                async with one:  # told
+                    pass
+
+        await asyncio.gather(forth(), back())
+
+    return [lambda: asyncio.run(main())]
+
+
+def asyncio_conditions() -> Steps:
+    async def main() -> None:
+        lock, condition = asyncio.Lock(), asyncio.Condition()
+
+        async def forth() -> None:
+            async with lock:  # told
+                async with condition:  # told
+                    condition.notify()
+
+        async def back() -> None:
+            await asyncio.sleep(0.01)
+            async with condition:  # told
+                async with lock:  # told
+                    pass
+
+        await asyncio.gather(forth(), back())
+
+    return [lambda: asyncio.run(main())]
+
+
+def asyncio_semaphores() -> Steps:
+    async def main() -> None:
+        one, other = asyncio.Semaphore(1), asyncio.Lock()
+
+        async def forth() -> None:
+            async with one, other:  # told
+                pass
+
+        async def back() -> None:
+            await asyncio.sleep(0.01)
+            async with other, one:  # told
+                pass
+
+        await asyncio.gather(forth(), back())
+
+    return [lambda: asyncio.run(main())]
+
+
+def loops_of_two_threads() -> Steps:
+    one, other = threading.Lock(), threading.Lock()
+
+    async def forth() -> None:
+        with one, other:  # told
+            pass
+
+    async def back() -> None:
+        with other, one:  # told
+            pass
+
+    return [lambda: asyncio.run(forth()), lambda: asyncio.run(back())]
+
+
+def tried_first() -> Steps:
+    """A lock that was tried for is held all the same."""
+    one, other = threading.Lock(), threading.Lock()
+
+    def forth() -> None:
+        if one.acquire(blocking=False):  # told
+            with other:  # told
+                pass
+            one.release()
+
+    def back() -> None:
+        with other, one:  # told
+            pass
+
+    return [forth, back]
+
+
+TOLD = [
+    two_locks, two_rlocks, lock_and_rlock, by_calls, three_tasks, four_tasks, three_locks_of_two_tasks, within_functions,
+    many_times, of_objects, lock_and_condition, two_conditions, wait_with_a_lock, semaphores, semaphore_and_lock, stacks,
+    jobs, job_and_thread, timers, asyncio_locks, asyncio_conditions, asyncio_semaphores, loops_of_two_threads,
+    tried_first,
+]
+
+
+OF_SEVERAL = [three_tasks, four_tasks]
+"""Those of more than two tasks."""
+
+
+# Those that are none
+
+
+def one_order() -> Steps:
+    one, other = threading.Lock(), threading.Lock()
+
+    def forth() -> None:
+        with one, other:
+            pass
+
+    return [forth, forth]
+
+
+def gate() -> Steps:
+    door, one, other = (threading.Lock() for _ in range(3))
+
+    def forth() -> None:
+        with door, one, other:
+            pass
+
+    def back() -> None:
+        with door, other, one:
+            pass
+
+    return [forth, back]
+
+
+def gate_of_three() -> Steps:
+    door, *locks = (threading.Lock() for _ in range(4))
+
+    def step(number: int) -> None:
+        with locks[number], locks[(number + 1) % 3]:
+            pass
+
+    def guarded(number: int) -> None:
+        with door:
+            step(number)
+
+    return [lambda: guarded(0), lambda: guarded(1), lambda: step(2)]
+
+
+def gate_within() -> Steps:
+    """The gate is acquired between the two."""
+    door, one, other = (threading.Lock() for _ in range(3))
+
+    def forth() -> None:
+        with one, door, other:
+            pass
+
+    def back() -> None:
+        with door, other:
+            pass
+
+    return [forth, back]
+
+
+def gate_that_is_a_condition() -> Steps:
+    door, one, other = threading.Condition(), threading.Lock(), threading.Lock()
+
+    def forth() -> None:
+        with door, one, other:
+            door.notify()
+
+    def back() -> None:
+        with door:
+            door.wait(0.001)
+            with other, one:
+                pass
+
+    return [forth, back]
+
+
+def gate_that_is_a_semaphore() -> Steps:
+    door, one, other = threading.Semaphore(1), threading.Lock(), threading.Lock()
+
+    def forth() -> None:
+        with door, one, other:
+            pass
+
+    def back() -> None:
+        with door, other, one:
+            pass
+
+    return [forth, back]
+
+
+def by_start() -> Steps:
+    one, other = threading.Lock(), threading.Lock()
+
+    def back() -> None:
+        with other, one:
+            pass
+
+    def forth() -> None:
+        with one, other:
+            pass
+        thread = threading.Thread(target=back)
+        thread.start()
+        thread.join()
+
+    return [forth]
+
+
+def by_join() -> Steps:
+    one, other = threading.Lock(), threading.Lock()
+
+    def forth() -> None:
+        with one, other:
+            pass
+
+    def back() -> None:
+        thread = threading.Thread(target=forth)
+        thread.start()
+        thread.join()
+        with other, one:
+            pass
+
+    return [back]
+
+
+def by_queue() -> Steps:
+    one, other = threading.Lock(), threading.Lock()
+    items: queue.Queue[int] = queue.Queue()
+
+    def forth() -> None:
+        with one, other:
+            pass
+        items.put(1)
+
+    def back() -> None:
+        items.get()
+        with other, one:
+            pass
+
+    return [forth, back]
+
+
+def by_event() -> Steps:
+    one, other, done = threading.Lock(), threading.Lock(), threading.Event()
+
+    def forth() -> None:
+        with one, other:
+            pass
+        done.set()
+
+    def back() -> None:
+        done.wait()
+        with other, one:
+            pass
+
+    return [forth, back]
+
+
+def by_future() -> Steps:
+    one, other = threading.Lock(), threading.Lock()
+
+    def forth() -> None:
+        with one, other:
+            pass
+
+    def back() -> None:
+        with ThreadPoolExecutor(1) as pool:
+            pool.submit(forth).result()
+            with other, one:
+                pass
+
+    return [back]
+
+
+def by_barrier() -> Steps:
+    one, other = threading.Lock(), threading.Lock()
+
+    def run() -> None:
+        barrier = threading.Barrier(2)
+
+        def forth() -> None:
+            with one, other:
+                pass
+            barrier.wait()
+
+        def back() -> None:
+            barrier.wait()
+            with other, one:
+                pass
+
+        threads = [threading.Thread(target=work) for work in (forth, back)]
+        for thread in threads:
+            thread.start()
+        for thread in threads:
+            thread.join()
+
+    return [run]
+
+
+def one_task() -> Steps:
+    one, other = threading.Lock(), threading.Lock()
+
+    def both() -> None:
+        with one, other:
+            pass
+        with other, one:
+            pass
+
+    return [both]
+
+
+def jobs_of_one_after_another() -> Steps:
+    one, other = threading.Lock(), threading.Lock()
+
+    def forth() -> None:
+        with one, other:
+            pass
+
+    def back() -> None:
+        with other, one:
+            pass
+
+    def run() -> None:
+        with ThreadPoolExecutor(2) as pool:
+            pool.submit(forth).result()
+            pool.submit(back).result()
+
+    return [run]
+
+
+def re_entrance() -> Steps:
+    one, other = threading.RLock(), threading.RLock()
+
+    def forth() -> None:
+        with one, other, one:
+            pass
+
+    return [forth, forth]
+
+
+def tried() -> Steps:
+    one, other = threading.Lock(), threading.Lock()
+
+    def forth() -> None:
+        with one, other:
+            pass
+
+    def back() -> None:
+        with other:
+            if one.acquire(blocking=False):
+                one.release()
+
+    return [forth, back]
+
+
+def tried_for_a_while() -> Steps:
+    one, other = threading.RLock(), threading.RLock()
+
+    def forth() -> None:
+        with one, other:
+            pass
+
+    def back() -> None:
+        with other:
+            if one.acquire(timeout=1):
+                one.release()
+
+    return [forth, back]
+
+
+def tried_permit() -> Steps:
+    one, other = threading.Semaphore(1), threading.Lock()
+
+    def forth() -> None:
+        with one, other:
+            pass
+
+    def back() -> None:
+        with other:
+            if one.acquire(timeout=1):
+                one.release()
+
+    return [forth, back]
+
+
+def by_identity() -> Steps:
+    accounts = [Account() for _ in range(4)]
+
+    def pay(one: Account, other: Account) -> None:
+        first, second = sorted((one, other), key=id)
+        with first.lock, second.lock:
+            one.sum -= 1
+            other.sum += 1
+
+    return [
+        lambda one=one, other=other: pay(one, other)  # type: ignore[misc]
+        for one in accounts for other in accounts if one is not other
+    ]
+
+
+def not_at_once() -> Steps:
+    one, other = threading.Lock(), threading.Lock()
+
+    def forth() -> None:
+        with one:
+            pass
+        with other:
+            pass
+
+    def back() -> None:
+        with other:
+            pass
+        with one:
+            pass
+
+    return [forth, back]
+
+
+def hand_over_hand() -> Steps:
+    locks = [threading.Lock() for _ in range(3)]
+
+    def walk() -> None:
+        locks[0].acquire()
+        for one, other in zip(locks, locks[1:]):
+            other.acquire()
+            one.release()
+        locks[-1].release()
+
+    return [walk, walk]
+
+
+def signal() -> Steps:
+    """A lock that another task releases keeps nobody out."""
+    door, lock = threading.Lock(), threading.Lock()
+
+    def forth() -> None:
+        with lock:
+            door.acquire()
+
+    def back() -> None:
+        door.release()
+        door.acquire()
+        with lock:
+            pass
+
+    return [forth, back]
+
+
+def permits() -> Steps:
+    one, other = threading.Semaphore(2), threading.Lock()
+
+    def forth() -> None:
+        with one, other:
+            pass
+
+    def back() -> None:
+        with other, one:
+            pass
+
+    return [forth, back]
+
+
+def asyncio_gate() -> Steps:
+    async def main() -> None:
+        door, one, other = asyncio.Lock(), asyncio.Lock(), asyncio.Lock()
+
+        async def forth() -> None:
+            async with door, one, other:
+                pass
+
+        async def back() -> None:
+            async with door, other, one:
+                pass
+
+        await asyncio.gather(forth(), back())
+
+    return [lambda: asyncio.run(main())]
+
+
+def asyncio_in_turn() -> Steps:
+    async def main() -> None:
+        one, other = asyncio.Lock(), asyncio.Lock()
+
+        async def forth() -> None:
+            async with one, other:
+                pass
+
+        async def back() -> None:
+            async with other, one:
+                pass
+
+        await asyncio.create_task(forth())
+        await asyncio.create_task(back())
+
+    return [lambda: asyncio.run(main())]
+
+
+def one_loop() -> Steps:
+    """Locks of threads that tasks of one loop hold without an await are not held by two at once."""
+    async def main() -> None:
+        one, other = threading.Lock(), threading.Lock()
+
+        async def forth() -> None:
+            with one, other:
+                pass
+
+        async def back() -> None:
+            with other, one:
+                pass
+
+        await asyncio.gather(forth(), back())
+
+    return [lambda: asyncio.run(main())]
+
+
+CLEAN = [
+    one_order, gate, gate_of_three, gate_within, gate_that_is_a_condition, gate_that_is_a_semaphore, by_start, by_join,
+    by_queue, by_event, by_future, by_barrier, one_task, jobs_of_one_after_another, re_entrance, tried,
+    tried_for_a_while, tried_permit, by_identity, not_at_once, hand_over_hand, signal, permits, asyncio_gate,
+    asyncio_in_turn, one_loop,
+]

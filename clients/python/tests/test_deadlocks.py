@@ -1,0 +1,89 @@
+"""Possible deadlocks: cycles of locks that are told with all their places, and those that are none."""
+
+from __future__ import annotations
+
+import inspect
+import unittest
+from collections.abc import Callable
+
+from itc_trace import Races, Verdict
+from itc_trace.analyse.benign import Looking, Pattern
+from itc_trace.analyse.deadlocks import Deadlock
+from itc_trace.analyse.deadlocks_of_parts import ACROSS
+
+from . import deadlock_programs
+from .deadlock_programs import CLEAN, OF_SEVERAL, TOLD, Steps, two_locks
+from .support import PART_EVENTS, PROGRAM_RUNS, TracedCase, in_turn
+
+
+def marked(scenario: Callable[[], Steps]) -> set[int]:
+    """The lines of the scenario that are to be told."""
+    lines, begin = inspect.getsourcelines(scenario)
+    own = {begin + number for number, line in enumerate(lines) if line.rstrip().endswith("# told")}
+    every, _ = inspect.getsourcelines(deadlock_programs)
+    by_name = f"# told by {scenario.__name__}"
+    return own | {number for number, line in enumerate(every, 1) if line.rstrip().endswith(by_name)}
+
+
+def lines_of(deadlocks: list[Deadlock]) -> set[int]:
+    return {at.line for one in deadlocks for step in one.steps for at in (step.held_at, step.wanted_at)}
+
+
+class Deadlocks(TracedCase):
+    def found(self, scenario: Callable[[], Steps]) -> Races:
+        def run() -> None:
+            in_turn(*scenario())
+
+        return self.races(run)
+
+    def test_each_is_told_with_all_its_places(self) -> None:
+        for scenario in TOLD * PROGRAM_RUNS:
+            with self.subTest(scenario.__name__):
+                found = self.found(scenario)
+                if scenario in OF_SEVERAL and PART_EVENTS:  # Of two tasks alone it is looked for across parts.
+                    self.assertIn(ACROSS, [one.what for one in found.passed_over])
+                    continue
+                told = found.possible_deadlocks
+                self.assertEqual(lines_of(told), marked(scenario), "\n".join(map(str, told)))
+                self.assertTrue(marked(scenario))
+
+    def test_what_is_none_is_not_told(self) -> None:
+        for scenario in CLEAN * PROGRAM_RUNS:
+            with self.subTest(scenario.__name__):
+                found = self.found(scenario)
+                self.assertEqual(list(map(str, found.possible_deadlocks)), [])
+                self.assertEqual(found.passed_over, [])
+
+
+class Findings(TracedCase):
+    def test_it_counts_as_a_possible_race_does(self) -> None:
+        found = self.races(lambda: in_turn(*two_locks()))
+        self.assertEqual(found.verdict(), Verdict.NO_RACE)
+        self.assertEqual(found.verdict(fail_on_possible=True), Verdict.RACES)
+        self.assertRegex(found.summary(), r"\Ano race in this run; 1 possible deadlock: ")
+
+    def test_it_is_known_if_other_lines_move_it(self) -> None:
+        found = self.races(lambda: in_turn(*two_locks()))
+        again = self.races(lambda: in_turn(*two_locks()))
+        known = found.possible_deadlocks[0].finding().known_as
+        self.assertEqual(again.possible_deadlocks[0].finding().known_as, known)
+        self.assertNotRegex(str(known), r":\d")
+        looking = Looking(baseline=[known])
+        looking.silence(again)
+        self.assertEqual((again.possible_deadlocks, len(again.known)), ([], 1))
+        self.assertEqual(again.verdict(fail_on_possible=True), Verdict.NO_RACE)
+
+    def test_it_is_silenced_by_any_two_of_its_places(self) -> None:
+        lines = sorted(marked(two_locks))
+        file = deadlock_programs.__file__
+        for first, second in ((0, 2), (1, 3), (3, 0)):
+            found = self.races(lambda: in_turn(*two_locks()))
+            Looking(patterns=[Pattern("lock*", (f"{file}:{lines[first]}", f"{file}:{lines[second]}"))]).silence(found)
+            self.assertEqual((found.possible_deadlocks, len(found.meant)), ([], 1))
+        found = self.races(lambda: in_turn(*two_locks()))
+        Looking(patterns=[Pattern("lock*", (f"{file}:{lines[0]}", f"{file}:1"))]).silence(found)
+        self.assertEqual(len(found.possible_deadlocks), 1)
+
+
+if __name__ == "__main__":
+    unittest.main()
