@@ -12,14 +12,14 @@ import { why } from "./reasons.mjs";
 import { svg } from "./saving.mjs";
 import { broadcasts, busyTrace, lanes, shapes, topic, workedExport } from "./showing.mjs";
 import { frames, size } from "./size.mjs";
-import { ends as breaks, keys, parts, processes, whole } from "./whole.mjs";
+import { ends as breaks, crowds, keys, parts, processes, whole } from "./whole.mjs";
 import { address, keyboard, labels, listsAndSearch, moving, tips } from "./using.mjs";
 
 export const CHECKS = { "worked export": workedExport, shapes, "500 events": busyTrace, topic, broadcasts, lanes, "spoilt exports": spoilt,
   opening, versions, "spoilt pictures": spoiltPictures, names, "hostile text": hostileText, "lists and search": listsAndSearch, labels, keyboard,
   address, moving, tips, races, "hostile races": hostileRaces, "hostile files": hostileFiles, ends, why, filters, stamps,
   "spoilt stamps": spoiltStamps, worker, "big pages": bigPages, svg, beside, clocks, looks,
-  "first race": firstRace, uncovered, "many tasks": manyTasks, words, whole, processes, keys, parts, breaks,
+  "first race": firstRace, uncovered, "many tasks": manyTasks, words, whole, crowds, processes, keys, parts, breaks,
   "unjoined tasks": unjoinedTasks, frames, "16384 events": size };
 
 // What takes longest, and is begun first.

@@ -4,7 +4,7 @@ import { readFileSync } from "node:fs";
 import { join } from "node:path";
 import { exportOf, file, pictureOf, TOP } from "./program.mjs";
 import { race, rows, side } from "./racing.mjs";
-import { opened, placeOf, press, shown, text } from "./tab.mjs";
+import { opened, placeOf, press, shown, text, written } from "./tab.mjs";
 import { LOST_UPDATE } from "./traces.mjs";
 
 const head = (races, unseen = []) => ({ races, possible: 0, unseen });
@@ -16,16 +16,16 @@ export function alike(tasks) {
     reports.push(report);
     journal.push({ event: reports.length, task: report.split(" ")[1], thing: null, file: "server.py", line: 0, time: 1795798400 + reports.length / 1000, ...row });
   };
-  for (let task = 1; task <= tasks; task++) note(`spawn root ${name(task)}`, { kind: "spawn", line: 12, label: `start ${name(task)}` });
+  for (let task = 1; task <= tasks; task++) note(`spawn root ${name(task)}`, { kind: "spawn", line: 21, label: `start ${name(task)}` });
   const first = reports.length + 1;
   for (let task = 1; task <= tasks; task++) {
-    note(`local ${name(task)}`, { kind: "read", thing: "#1", name: "stock['left']", line: 6, label: "read stock['left']" });
-    journal.push({ ...journal.at(-1), kind: "write", line: 8, label: "write stock['left']" });
+    note(`local ${name(task)}`, { kind: "read", thing: "#1", name: "shop.stock", line: 11, label: "read shop.stock" });
+    journal.push({ ...journal.at(-1), kind: "write", line: 12, label: "write shop.stock" });
   }
   for (let task = 1; task <= tasks; task++) note(`end ${name(task)}`, { kind: "end", file: null, label: "end" });
-  for (let task = 1; task <= tasks; task++) note(`join root ${name(task)}`, { kind: "join", line: 14, label: `join ${name(task)}` });
+  for (let task = 1; task <= tasks; task++) note(`join root ${name(task)}`, { kind: "join", line: 23, label: `join ${name(task)}` });
   const at = (event, kind, line) => ({ ...side(event, name(event - first + 1), kind, line), file: "server.py" });
-  return { reports, journal, races: [race("stock['left']", [at(first, "read", 11), at(first + tasks - 1, "write", 12)], { times: tasks })] };
+  return { reports, journal, races: [race("shop.stock", [at(first, "read", 11), at(first + tasks - 1, "write", 12)], { times: tasks })] };
 }
 
 export const pictureOfAlike = (name, { reports, journal, races }, words = []) =>
@@ -55,6 +55,9 @@ export async function manyTasks(tab) {
     assert.deepEqual([await text(tab, "#title"), await text(tab, "#reason")], ["1 race in server.py", "Nothing orders them."]);
     const bottom = await tab.run(() => document.querySelector("#freedom").getBoundingClientRect().top);
     assert.ok(bottom < 500, `why nothing orders them stands at ${bottom}`);
+    const texts = (await written(tab)).map(([words]) => words);
+    assert.ok(texts.some((words) => /^\d+ starts$/.test(words)) && texts.some((words) => /^\d+ joins$/.test(words)), texts.join());
+    assert.ok(!texts.some((words) => /^× /.test(words)), texts.join());
   }
   const lanes = () => tab.run(() => page.view.layout.lanes);
   assert.equal(await lanes(), 4);
@@ -111,7 +114,7 @@ export async function firstRace(tab) {
 const SIZES = [[1280, 800], [900, 600]];
 
 /** Neither the map nor the line that tells how to move lies over an event of the race, whatever the size of the window. */
-export async function uncovered(tab) {
+export async function uncovered(tab, phone) {
   const path = join(TOP, "browser/checks/stored/day"), words = ["--labels", `${path}.journal`, "--races", `${path}.races`];
   const drawn = pictureOf("uncovered.html", readFileSync(`${path}.export`), words);
   for (const [width, height] of SIZES) {
@@ -125,6 +128,14 @@ export async function uncovered(tab) {
     }
   }
   await tab.send("Emulation.setDeviceMetricsOverride", { width: SIZES[0][0], height: SIZES[0][1], deviceScaleFactor: 1, mobile: false });
+  await opened(phone, drawn);
+  const [hint, cut] = await phone.run(() => {
+    const { scrollHeight, clientHeight } = document.getElementById("legend");
+    return [document.getElementById("hint").innerText, scrollHeight - clientHeight];
+  });
+  assert.match(hint, /two fingers/);
+  assert.doesNotMatch(hint, /wheel|Ctrl/);
+  assert.ok(cut <= 0, `${cut} pixels of the legend are cut off`);
 }
 
 const ROW = { thing: null, file: null, line: 0 };
@@ -149,8 +160,12 @@ export async function words(tab) {
   const path = { ...ROW, event: 4, task: "root", kind: "send", label: "release lock (/home/somebody/shop.py:13)" };
   await opened(tab, pictureOf("path.html", exportOf(["spawn root a", "local root", "local a", "send root m1"]), ["--labels", file("path.journal", rows([path]))]));
   assert.deepEqual(await tab.run(() => [page.view.wordsOfMessages.get("m1"), page.labelInPicture(4)]), ["release lock (shop.py:13)", "release lock (shop.py:13)"]);
-  await opened(tab, pictureOf("loop.html", exportOf(["spawn root a", "spawn root ended_tasks_1", "local a", "send root m1", "send root m2"]),
+  await opened(tab, pictureOf("loop.html", exportOf(["spawn root a", "spawn root ended_tasks_1", "local a", "send root m1", "send root m2", "local ended_tasks_1"]),
     ["--labels", file("loop.journal", rows([lock, { ...lock, event: 5, label: "send GET /stock" }]))]));
   const lists = await tab.run(() => ["unread", "open"].map((id) => document.querySelector(`#${id} summary`).textContent));
   assert.deepEqual(lists, ["Messages that nobody received: 1", "Tasks that did not end: 2"]);
+  const lanes = () => tab.run(() => [page.view.layout.lanes, document.getElementById("hidden").textContent]);
+  assert.deepEqual(await lanes(), [2, "Nothing is hidden."], "a task of the tool has no lane");
+  await tab.run(() => page.choose(6));
+  assert.deepEqual(await lanes(), [3, "Nothing is hidden."], "a task that is chosen has one");
 }

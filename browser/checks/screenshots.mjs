@@ -9,6 +9,7 @@ import { opened, pause, shown } from "./tab.mjs";
 import { greatest, LOST_UPDATE, seeded, WITH_LOCK, WORKED } from "./traces.mjs";
 
 const DESK = ["desk", 1280, 800, {}], DARK = ["dark", 1280, 800, { isDark: true }], SMALL = ["small", 900, 600, {}];
+const SMALL_DARK = ["small_dark", 900, 600, { isDark: true }], ALL = [DESK, DARK, SMALL, SMALL_DARK];
 const PHONE = ["phone", 390, 844, { ratio: 2, mobile: true }], GUIDE = ["guide", 1000, 400, {}], README = ["readme", 1120, 720, {}];
 const EXAMPLE = "clients/python/examples/lost_update.py", AROUND = 2, STORED = join(TOP, "browser/checks/stored");
 
@@ -68,18 +69,17 @@ function parts() {
 /** Each trace, what is chosen in it, in which sizes, and what is done first. */
 function traces() {
   const many = (tasks) => pictureOfAlike(`tasks_${tasks}_shot.html`, alike(tasks), ["--program", "server.py"]);
-  const all = [DESK, DARK, SMALL];
-  return [["race", guide(), "", [...all, PHONE, README]], ["no_race", guide([], "none"), "", [DESK]], ["one_process", stored("shop", "shop.py"), "", all],
-    ["three_processes", stored("day", "system.toml"), "", all], ["tasks_200", many(200), "", all], ["tasks_2000", many(2000), "", [DESK, SMALL]],
-    ["events_16384", pictureOf("greatest_shot.html", exportOf(greatest(seeded(3)))), "", [DESK, DARK]], ["parts", parts(), "", [DESK]],
-    ["by_clock", stored("day", "system.toml"), "#time=clock", [DESK, DARK]],
-    ["search", guide(RACES, "search"), "", [DESK], (tab) => tab.run(() => {
+  return [["race", guide(), "", [...ALL, PHONE, README]], ["no_race", guide([], "none"), "", ALL], ["one_process", stored("shop", "shop.py"), "", ALL],
+    ["three_processes", stored("day", "system.toml"), "", ALL], ["tasks_200", many(200), "", ALL], ["tasks_2000", many(2000), "", ALL],
+    ["events_16384", pictureOf("greatest_shot.html", exportOf(greatest(seeded(3)))), "", ALL], ["parts", parts(), "", ALL],
+    ["by_clock", stored("day", "system.toml"), "#time=clock", ALL],
+    ["search", guide(RACES, "search"), "", ALL, (tab) => tab.run(() => {
       document.getElementById("search").value = "nothing like it";
       page.search("nothing like it");
     })],
-    ["help", guide(RACES, "help"), "", [DESK], (tab) => tab.run(() => document.getElementById("help").showModal())],
-    ["empty", pageOf("empty_shot.html", exportOf([])), "", [DESK]],
-    ["worked", pictureOf("worked_shot.html", exportOf(WORKED)), "#event=5", [DESK, GUIDE]],
+    ["help", guide(RACES, "help"), "", ALL, (tab) => tab.run(() => document.getElementById("help").showModal())],
+    ["empty", pageOf("empty_shot.html", exportOf([])), "", ALL],
+    ["worked", pictureOf("worked_shot.html", exportOf(WORKED)), "#event=5", [...ALL, GUIDE]],
     ["lost_update", pictureOf("lost_update_shot.html", exportOf(LOST_UPDATE)), "#event=6", [GUIDE]],
     ["lock", pictureOf("lock_shot.html", exportOf(WITH_LOCK)), "#event=5", [GUIDE]]];
 }

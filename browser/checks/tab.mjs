@@ -40,6 +40,15 @@ export const placeOf = (tab, event) => tab.run((sought) => {
   return [box.left + view.x(view.layout.times[sought]), box.top + view.y(view.layout.lane(sought))];
 }, event);
 
+/** The texts that the picture draws, each with its place. */
+export const written = (tab) => tab.run(() => {
+  const { view } = page, texts = [];
+  view.context.fillText = (words, x, y) => texts.push([words, x, y]);
+  view.draw();
+  delete view.context.fillText;
+  return texts;
+});
+
 /** Clicks on the middle of what the selector finds. */
 export async function press(tab, selector) {
   const [x, y] = await tab.run((sought) => {

@@ -5,7 +5,7 @@ import { join } from "node:path";
 import { exportOf, file, inWork, pictureOf, TOP } from "./program.mjs";
 import { alike, pictureOfAlike } from "./first_glance.mjs";
 import { race, rows, side } from "./racing.mjs";
-import { opened, placeOf, press, shown, text } from "./tab.mjs";
+import { opened, placeOf, press, shown, text, written } from "./tab.mjs";
 import { LOST_UPDATE, WITH_LOCK } from "./traces.mjs";
 
 /** Whole is whole, also where there are more lanes than pixels: each event is in view, and what is drawn has a mark where it stands. The
@@ -59,18 +59,16 @@ const SYSTEM = PROCESSES.map((report, place) => ({ event: place + 1, task: repor
  * stands where its clock says, with a bar for when it was by the other clock, as the messages bound it. */
 export async function processes(tab) {
   await opened(tab, pictureOf("processes.html", exportOf(PROCESSES), ["--labels", file("processes.journal", rows(SYSTEM))]));
+  const texts = (await written(tab)).map(([words]) => words);
   const found = await tab.run(() => {
-    const { view } = page, texts = [];
-    view.context.fillText = (words) => texts.push(words);
-    view.draw();
-    delete view.context.fillText;
+    const { view } = page;
     const { headings, laneOf, tops } = view.layout, names = page.trace.tasks.map(({ name }) => name);
-    return { texts, headings: headings.map(({ group }) => group), tops: names.map((name, place) => [name, tops[laneOf[place]]]),
+    return { headings: headings.map(({ group }) => group), tops: names.map((name, place) => [name, tops[laneOf[place]]]),
       colours: [...Array(view.layout.lanes).keys()].map((lane) => view.colourOfLane(lane)), checked: document.getElementById("groups").checked };
   });
   assert.deepEqual([found.headings, found.checked, new Set(found.colours).size], [["root", "till", "store"], true, 3]);
-  for (const words of ["GET /stock", "200", "till: 1 task", "store: 1 task"]) assert.ok(found.texts.includes(words), `${words} of ${found.texts}`);
-  assert.ok(!found.texts.some((words) => /another process/.test(words)), found.texts.join());
+  for (const words of ["GET /stock", "200", "till: 1 task", "store: 1 task"]) assert.ok(texts.includes(words), `${words} of ${texts}`);
+  assert.ok(!texts.some((words) => /another process/.test(words)), texts.join());
   await tab.run(() => {
     const time = document.getElementById("time");
     time.value = "clock";
@@ -94,6 +92,12 @@ export async function processes(tab) {
   assert.match(await tab.run(() => location.hash), /time=clock/);
   const skew = await tab.run(() => page.view.skewOf("store") + page.view.skewOf("till"));
   assert.match(skew, /; clock .* (ahead|behind), ± /);
+  const steps = await tab.run(() => {
+    page.choose(4);
+    page.choose(5, { asOther: true });
+    return [...document.querySelectorAll("#chain li span")].map((step) => step.textContent);
+  });
+  assert.deepEqual(steps, ["comes after: GET /stock"]);
   await unboundedSkew(tab);
 }
 
@@ -111,15 +115,47 @@ async function unboundedSkew(tab) {
     return [Math.max(...bars), bars.length, view.width];
   });
   assert.ok(count > 0 && longest < width, `a bar of ${longest} in a picture of ${width}`);
+  const carried = (await written(tab)).filter(([words]) => ["GET /sell", "200"].includes(words));
+  const onLanes = await tab.run((places) => places.filter(([, , y]) => page.view.laneNear(y - 4, 6) >= 0), carried);
+  assert.deepEqual([carried.length > 3, onLanes], [true, []], "what a message carries reads as if it stood in a lane");
+}
+
+/** A lane of many tasks says what they are called, and how many they are. */
+export async function crowds(tab) {
+  const one = (task) => [`spawn root job_${task}`, `local job_${task}`, `end job_${task}`, `join root job_${task}`];
+  await opened(tab, pictureOf("crowd.html", exportOf(Array.from({ length: 300 }, (_, task) => one(task)).flat())));
+  const names = (texts) => texts.map(([words]) => words).filter((words) => /^job/.test(words));
+  assert.deepEqual(names(await written(tab)), ["job × 300"]);
+  await tab.run(() => page.view.zoom(40));
+  assert.match(names(await written(tab))[0], /^job_\d+$/);
+  const two = (task) => [`spawn root ${"ab"[task % 2]}_${task}`, `end ${"ab"[task % 2]}_${task}`, `join root ${"ab"[task % 2]}_${task}`];
+  await opened(tab, pictureOf("crowds.html", exportOf(Array.from({ length: 300 }, (_, task) => two(task)).flat())));
+  assert.ok((await written(tab)).some(([words]) => words === "300 tasks"));
 }
 
 const RACES = [race("stock", [side(4, "alice", "read", 11), side(7, "bob", "write", 12)]), race("price", [side(6, "alice", "write", 12), side(7, "bob", "write", 12)])];
+
+/** The list of keys opens at its beginning, also in a window that is too low for it. */
+async function helpBegins(tab) {
+  const low = (height) => tab.send("Emulation.setDeviceMetricsOverride", { width: 900, height, deviceScaleFactor: 1, mobile: false });
+  await low(400);
+  await tab.key("?");
+  const [scrolled, isHigher] = await tab.run(() => {
+    const { scrollTop, scrollHeight, clientHeight } = document.getElementById("help");
+    return [scrollTop, scrollHeight > clientHeight];
+  });
+  assert.deepEqual([scrolled, isHigher], [0, true]);
+  await tab.key("Escape");
+  await tab.until(() => !document.getElementById("help").open);
+  await tab.send("Emulation.setDeviceMetricsOverride", { width: 1280, height: 800, deviceScaleFactor: 1, mobile: false });
+}
 
 /** The keys do what the list of keys says; the panel becomes wider and narrower, and is hidden; the filters stand beside the picture. */
 export async function keys(tab) {
   const path = pictureOf("keys.html", exportOf(LOST_UPDATE), ["--races", file("keys.races", rows(RACES))]);
   await opened(tab, path);
   assert.equal(await tab.run(() => document.getElementById("hint").hidden), false, "a line tells how to move");
+  await helpBegins(tab);
   await tab.key("?");
   const help = await tab.run(() => [document.getElementById("help").open, document.getElementById("help").textContent]);
   assert.ok(help[0]);

@@ -81,7 +81,7 @@ class Beside {
     };
     try {
       this.worker = new CheckingWorker(({ isDone, fault }) => {
-        if (isDone) tellIf(fault === null ? `Checked: yes ${trace.events}.` : wordsOfFault(fault));
+        if (isDone) tellIf(fault === null ? checkedWords(trace) : wordsOfFault(fault));
       }, () => tellIf("Not checked: no worker can be made."));
       this.worker.check(trace);
     } catch {

@@ -28,7 +28,7 @@ const Choosing = (Base) => class extends Base {
   /** Whether these events only show up in a new layout: by the filters, or since they stand in a fold. They keep lanes of their own. */
   wantsLayout(events) {
     const { layout } = this.view, places = events.filter((event) => event > 0).map((event) => this.trace.taskOf[event]);
-    const isFolded = places.some((place) => layout !== null && layout.isFolded(place));
+    const isFolded = places.some((place) => layout !== null && (layout.isFolded(place) || layout.filter.isAside(place)));
     if (isFolded) for (const place of places) this.kept.add(place);
     return isFolded || this.isFiltered();
   }

@@ -21,6 +21,9 @@ function headerWords({ tenant, events, tasks, messages }) {
   return [element("h2", {}, `Tenant ${tenant}`), element("p", { id: "limits" }, `Limits: ${limits.join(", ")}.`)];
 }
 
+/** Says of an export that each line of it was found right. */
+const checkedWords = ({ events }) => `Checked: ${counted(events, "line")}, all right.`;
+
 /** The answer to an export with this fault, and what it means. */
 const wordsOfFault = ({ line, reason }) => `no ${line} ${reason}. Line ${line} is faulty, reason ${reason}: ${REASONS[reason]}`;
 

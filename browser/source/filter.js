@@ -14,6 +14,7 @@ class Filter {
     this.opened = new Set();
     this.closed = new Set();
     this.own = null;
+    this.aside = new Set();
   }
 
   shows(event) {
@@ -22,6 +23,11 @@ class Filter {
 
   showsTask(place) {
     return this.tasks === null || this.tasks[place] === 1;
+  }
+
+  /** Whether a task has no lane, since it is of the tool itself and nobody has chosen it. */
+  isAside(place) {
+    return this.aside.has(place) && !this.kept.has(place) && this.lanes === null;
   }
 
   groupOf(place) {

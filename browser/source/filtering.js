@@ -16,9 +16,10 @@ const Filtering = (Base) => class extends Base {
 
   /** What is folded where lanes do not fit, and what is not. */
   folds() {
-    const { view, trace, kept, openedFolds: opened, closedFolds: closed, own } = this, mostLanes = Math.max(4, Math.floor(view.room / LEAST_LANE));
+    const { view, trace, kept, openedFolds: opened, closedFolds: closed, own } = this;
+    const mostLanes = Math.max(4, Math.floor(view.room / LEAST_LANE));
     for (const event of [...view.racing, view.chosen, view.other]) if (event > 0) kept.add(trace.taskOf[event]);
-    return { families: at("alike").checked ? this.families() : null, mostLanes, kept, opened, closed, own };
+    return { families: at("alike").checked ? this.families() : null, mostLanes, kept, opened, closed, own, aside: this.ownTasks };
   }
 
   families() {
@@ -119,6 +120,7 @@ const Filtering = (Base) => class extends Base {
     this.openedFolds = new Set();
     this.closedFolds = new Set();
     this.own = null;
+    this.ownTasks = new Set();
     this.groupsOfTasks = this.familiesOfTasks = null;
     this.listFolds();
   }

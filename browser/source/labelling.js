@@ -1,6 +1,8 @@
 // Writing names and labels
 
-const LEAST_LETTERS = 5, MOST_LETTERS = 44;
+const LEAST_LETTERS = 5, MOST_LETTERS = 44, LABEL_HALF = 8, FEW_NAMES = 3;
+// What edges from or to a band are called, by their kind.
+const EDGES_IN_WORDS = ["step", "start", "message", "join", "edge"];
 
 /** The text, if it has no more than so many letters, else its beginning. */
 const clipped = (text, most) => text.length <= most ? text : most < 2 ? "" : `${text.slice(0, most - 1).trimEnd()}…`;
@@ -14,6 +16,7 @@ const Labelling = (Base) => class extends Base {
     for (let lane = this.fromLane; lane <= this.toLane; lane++) {
       if (layout.folded.has(lane)) continue;
       const places = layout.tasksIn[lane], y = Math.round(this.y(lane) - Math.min(17, high * 0.3));
+      if (this.nameCrowd(lane, y)) continue;
       let taken = 0;
       for (let at = layout.taskInLane(lane, this.fromTime); at < places.length && layout.from[places[at]] <= this.toTime; at++) {
         const next = at + 1 < places.length ? this.x(layout.from[places[at + 1]]) - 8 : this.width - 4;
@@ -26,6 +29,18 @@ const Labelling = (Base) => class extends Base {
         taken = x + width + 6;
       }
     }
+  }
+
+  /** Writes over a lane what its tasks are called and how many are in view, if they have no room for a name each. */
+  nameCrowd(lane, y) {
+    const { layout, letter } = this, places = layout.tasksIn[lane], first = layout.taskInLane(lane, this.fromTime);
+    const last = layout.taskInLane(lane, this.toTime), count = last - first + 1;
+    const x = Math.max(layout.headings.length > 0 ? 10 : 4, this.x(layout.from[places[first]]));
+    if (count < FEW_NAMES || (this.x(layout.from[places[last]]) - x) / (count - 1) >= LEAST_LETTERS * letter) return false;
+    const stems = new Set(places.slice(first, last + 1).map((place) => stemOf(layout.names[place])));
+    const words = stems.size === 1 ? `${[...stems][0]} × ${count}` : counted(count, "task"), width = words.length * letter;
+    if (y >= this.head + 8 && this.labels.isFree(x, y - 9, width, 10)) this.write(words, x, y, width, this.colourOfLane(lane) ?? palette.name);
+    return true;
   }
 
   /** Says what is hidden, and how many edges are drawn, where not all in view are. */
@@ -98,15 +113,18 @@ const Labelling = (Base) => class extends Base {
   labelEdge(edge) {
     const { layout, labels } = this, event = layout.edgeEvents[edge], count = layout.edgeCounts[edge];
     if (count === 1 && layout.filter.isOwn(event)) return;
-    const name = layout.trace.nameOf[event], text = count > 1 ? `× ${count}` : clipped(this.wordsOfMessages.get(name) ?? name, MOST_LETTERS);
-    const width = text.length * this.letter + 4;
+    const name = layout.trace.nameOf[event], words = clipped(this.wordsOfMessages.get(name) ?? name, MOST_LETTERS);
+    const text = count > 1 ? counted(count, EDGES_IN_WORDS[layout.edgeKinds[edge]]) : words, width = text.length * this.letter + 4;
     const fromX = this.x(layout.edgeFrom[edge]), fromY = this.y(layout.edgeFromLane[edge]);
     const byX = this.x(layout.edgeTo[edge]) - fromX, byY = this.y(layout.edgeToLane[edge]) - fromY;
-    for (const part of [0.5, 0.4, 0.6, 0.3, 0.7]) {
-      const x = fromX + part * byX - width / 2, y = fromY + part * byY + 4;
-      if (x < 0 || x + width > this.width || y < this.head + 10 || !labels.isFree(x, y - 10, width, 13)) continue;
-      this.write(text, x + 2, y, width - 4, palette.message);
-      return;
-    }
+    const places = [0.5, 0.4, 0.6, 0.3, 0.7].map((part) => [fromX + part * byX - width / 2, fromY + part * byY + 4]);
+    const isFree = ([x, y]) => x >= 0 && x + width <= this.width && y >= this.head + 10 && labels.isFree(x, y - 10, width, 13);
+    const free = places.filter(isFree), [x, y] = free.find((place) => !this.isOnLane(place[1] - 4)) ?? free[0] ?? [];
+    if (x !== undefined) this.write(text, x + 2, y, width - 4, palette.message);
+  }
+
+  /** Whether a text at this height would read as one of a lane. */
+  isOnLane(atY) {
+    return this.laneNear(atY, LABEL_HALF) >= 0;
   }
 };

@@ -32,7 +32,8 @@ const WithLabels = (Base) => class extends Base {
   /** Finds the events of the tool itself, and those by which tasks of its own begin and end. */
   findOwn() {
     const { trace, labels } = this, own = this.own = new Uint8Array(trace.events + 1);
-    const isOwnTask = (name) => OWN_TASKS.has(stemOf(name)) && trace.tasks[trace.taskPlaces.get(name)].started > 0;
+    this.ownTasks = new Set(trace.tasks.flatMap(({ name, started }, place) => OWN_TASKS.has(stemOf(name)) && started > 0 ? [place] : []));
+    const isOwnTask = (name) => this.ownTasks.has(trace.taskPlaces.get(name));
     for (let event = 1; event <= trace.events; event++) {
       const kind = trace.kinds[event], { lines = [] } = labels.get(event) ?? {};
       const namesOwn = (kind === SPAWN || kind === JOIN) && isOwnTask(trace.nameOf[event]);

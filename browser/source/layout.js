@@ -69,10 +69,18 @@ class Layout {
 
   /** The tasks that are shown, in the order of their beginning. */
   listTasks() {
-    const { trace, filter } = this, begins = (place) => trace.tasks[place].started || trace.tasks[place].first;
+    const { trace } = this, begins = (place) => trace.tasks[place].started || trace.tasks[place].first;
     this.names = trace.tasks.map(({ name }) => name);
-    this.ordered = trace.tasks.map((task, place) => place).filter((place) => begins(place) > 0 && filter.showsTask(place));
+    this.ordered = trace.tasks.map((task, place) => place).filter((place) => begins(place) > 0 && this.showsTask(place));
     this.ordered.sort((one, other) => begins(one) - begins(other) || one - other);
+  }
+
+  showsTask(place) {
+    return this.filter.showsTask(place) && !this.filter.isAside(place);
+  }
+
+  shows(event) {
+    return this.filter.shows(event) && !this.filter.isAside(this.trace.taskOf[event]);
   }
 
   /** How many steps each event is from the beginning. */
@@ -86,14 +94,14 @@ class Layout {
 
   /** Places events by the clocks of their processes. One without a time stands where the last before it does. */
   useClocks(clocks) {
-    const { trace, filter, times } = this, seconds = new Float64Array(trace.events + 2);
+    const { trace, times } = this, seconds = new Float64Array(trace.events + 2);
     const least = clocks.times.reduce((one, time) => time > 0 ? Math.min(one, time) : one, Infinity);
     for (let event = 1; event <= trace.events; event++) {
       const before = Math.max(least, seconds[trace.previous[event]], ...trace.preds(event).map((pred) => seconds[pred]));
       seconds[event] = clocks.times[event] > 0 ? clocks.times[event] : before;
     }
     const shown = [];
-    for (let event = 1; event <= trace.events; event++) if (filter.shows(event)) shown.push(seconds[event]);
+    for (let event = 1; event <= trace.events; event++) if (this.shows(event)) shown.push(seconds[event]);
     this.clockAxis = new ClockAxis(shown.length > 0 ? shown : [least]);
     for (let event = 1; event <= trace.events; event++) times[event] = this.clockAxis.placeOf(seconds[event]);
     this.columns = this.clockAxis.places.at(-1);
@@ -152,10 +160,10 @@ class Layout {
 
   /** Leaves out the steps at which no event is shown, and narrows those that only have to do with what is folded. */
   closeGaps() {
-    const { trace, steps, filter } = this, weights = new Uint8Array(trace.events + 2), places = new Float64Array(trace.events + 2);
+    const { trace, steps } = this, weights = new Uint8Array(trace.events + 2), places = new Float64Array(trace.events + 2);
     this.minor = new Uint8Array(trace.events + 2);
     for (let event = 1; event <= trace.events; event++) {
-      if (!filter.shows(event)) continue;
+      if (!this.shows(event)) continue;
       this.minor[event] = this.isMinor(event) ? 1 : 0;
       weights[steps[event]] = Math.max(weights[steps[event]], 2 - this.minor[event]);
     }
@@ -273,7 +281,7 @@ class Layout {
   }
 
   listLanes() {
-    const { trace, filter } = this;
+    const { trace } = this;
     this.eventsIn = Array.from({ length: this.lanes }, () => []);
     this.tasksIn = Array.from({ length: this.lanes }, () => []);
     for (const place of this.ordered) {
@@ -281,7 +289,7 @@ class Layout {
       if (!this.folded.has(lane) || this.tasksIn[lane].length === 0) this.tasksIn[lane].push(place);
     }
     for (const places of this.tasksIn) places.sort((one, other) => this.from[one] - this.from[other]);
-    for (let event = 1; event <= trace.events; event++) if (filter.shows(event)) this.eventsIn[this.lane(event)].push(event);
+    for (let event = 1; event <= trace.events; event++) if (this.shows(event)) this.eventsIn[this.lane(event)].push(event);
     const byTime = (one, other) => this.times[one] - this.times[other] || one - other;
     this.eventsIn = this.eventsIn.map((events) => Int32Array.from(events.sort(byTime)));
   }
@@ -302,6 +310,7 @@ class Layout {
     const { trace, times, filter } = this, edges = [], bundles = new Map();
     let all = 0, shown = 0;
     const add = (kind, pred, event, place) => {
+      if (filter.isAside(place) || filter.isAside(trace.taskOf[pred])) return;
       all++;
       const isShown = event === 0 || kind === SPAWN_EDGE || filter.shows(event);
       if (!isShown || !filter.shows(pred) || !filter.showsTask(place)) return;

@@ -150,7 +150,7 @@ const Moving = (Base) => class extends Base {
     if (this.layout === null || this.chosen === 0) return;
     const pair = [this.chosen, this.other].filter((event) => event > 0), { trace } = this.layout;
     const before = pair.length === 2 ? trace.latestBeforeBoth(...pair) : 0;
-    const events = [...pair, ...before > 0 && this.layout.filter.shows(before) ? [before] : []];
+    const events = [...pair, ...before > 0 && this.layout.shows(before) ? [before] : []];
     if (events.length > 1) this.showAll(events);
     else this.show(events[0]);
   }

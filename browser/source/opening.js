@@ -80,7 +80,8 @@ const Opening = (Base) => class extends Base {
   tellVerdict() {
     const { trace, verdict, fault, name } = this, isFaulty = trace.fault !== null || trace.events === 0 || (verdict !== null && fault !== null);
     const isEmpty = trace.fault === null && trace.events === 0;
-    const words = isEmpty ? "the export has no event, so nothing is drawn." : isFaulty ? this.faultWords() : this.countWords() + (verdict === null ? "" : ` Checked: ${verdict}.`);
+    const checked = verdict === null ? "" : ` ${checkedWords(trace)}`;
+    const words = isEmpty ? "the export has no event, so nothing is drawn." : isFaulty ? this.faultWords() : this.countWords() + checked;
     const progress = verdict === null ? `Not yet checked: ${this.compared} of ${trace.events} lines compared.` : "";
     if (verdict !== null && fault !== null && this.isShown) at("title").classList.add("racy");
     tell(name === "" ? words[0].toUpperCase() + words.slice(1) : `${name}: ${words}`, progress, this.compared / Math.max(1, trace.events));

@@ -20,6 +20,7 @@ class Page extends Parting(Panes(Reaching(Racing(WithLabels(Search(Panel(Tips(Ch
     this.openedFolds = new Set();
     this.closedFolds = new Set();
     this.own = null;
+    this.ownTasks = new Set();
     this.groupsOfTasks = this.familiesOfTasks = null;
     this.headOfRaces = null;
     this.racingTouches = new Map();

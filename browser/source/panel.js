@@ -178,7 +178,8 @@ const Panel = (Base) => class extends Base {
 
   edgeWords(kind, event) {
     const { trace } = this, name = trace.nameOf[event], task = trace.taskName(event);
-    return { [LANE_EDGE]: `later in ${task}`, [SPAWN_EDGE]: `in ${task}, which that started`, [MESSAGE_EDGE]: `receives message ${name}`,
+    const words = this.view.wordsOfMessages.get(name), message = words === undefined ? `receives message ${name}` : `comes after: ${words}`;
+    return { [LANE_EDGE]: `later in ${task}`, [SPAWN_EDGE]: `in ${task}, which that started`, [MESSAGE_EDGE]: message,
       [JOIN_EDGE]: `takes in ${name}`, [OTHER_EDGE]: "follows it" }[kind];
   }
 

@@ -55,8 +55,8 @@ const Measuring = (Base) => class extends Base {
   shownSteps() {
     const { layout } = this;
     if (layout.stepsShown !== undefined) return layout.stepsShown;
-    const found = new Map(), { trace, filter, steps, times } = layout;
-    for (let event = 1; event <= trace.events; event++) if (filter.shows(event)) found.set(times[event], steps[event]);
+    const found = new Map(), { trace, steps, times } = layout;
+    for (let event = 1; event <= trace.events; event++) if (layout.shows(event)) found.set(times[event], steps[event]);
     layout.stepsShown = [...found].map(([place, step]) => ({ place, step })).sort((one, other) => one.place - other.place);
     return layout.stepsShown;
   }
