@@ -10,6 +10,7 @@ from __future__ import annotations
 
 import ast
 import contextlib
+import os
 import sys
 import weakref
 from collections.abc import Generator, Iterator
@@ -21,16 +22,33 @@ from _pytest.assertion.rewrite import AssertionRewritingHook, rewrite_asserts
 from _pytest.runner import runtestprotocol
 
 from . import watch
+from .analyse.baseline import read_baseline, write_baseline
 from .analyse.benign import Looking, read_patterns
+from .cli.reporting import STANDARD_OUTPUT, Wanted, deliver
+from .cli.saying import say
+from .cli.settings import FILE, Settings, read_settings
 from .record.collector import Collector
+from .record.faults import Fault
+from .report.as_json import as_object, report_of_object
+from .report.formats import FORMATS
+from .report.of_tests import OfTests, not_traced, short
+from .report.report import Report, report_of
+from .report.text import Shown, text
 from .sync import put_all
-from .report.report import report_of
-from .report.text import text
 from .api.tracing import Tracing
 from .watch import doctests
 
 MARK = "races"
 FAIL_ON, RACE, POSSIBLE = "--races-fail-on", "race", "possible"
+FILES = {
+    "--races-baseline": "races that are known: fail on others only",
+    "--races-write-baseline": "write the races that were found there, for --races-baseline",
+    "--races-json": "write what was found there as JSON",
+    "--races-sarif": "write it there as SARIF 2.1.0",
+}
+"""The options that name a file."""
+FOUND = "itc_trace_found"
+"""The attribute of a test's report by which what was found comes from the process of a worker."""
 TENANTS = tuple(f"test{number}" for number in range(16))
 
 _tenants: Any = pytest.StashKey["_Tenants"]()
@@ -39,6 +57,8 @@ _modules: Any = pytest.StashKey[set[str]]()
 _marked: Any = pytest.StashKey[bool]()
 _traced: Any = pytest.StashKey["_Traced"]()
 _report: Any = pytest.StashKey[pytest.TestReport | None]()
+_asked: Any = pytest.StashKey["_Asked"]()
+_met: Any = pytest.StashKey[OfTests]()
 _logged: weakref.WeakSet[pytest.TestReport] = weakref.WeakSet()
 """The reports that were shown already. Nothing can be added to them."""
 
@@ -62,30 +82,56 @@ class _Tenants:
             self._collector = None
 
 
+class _Asked:
+    """What is asked for by options, and else by the settings of the project."""
+
+    def __init__(self, config: pytest.Config) -> None:
+        settings = read_settings(config.rootpath / FILE) if (config.rootpath / FILE).is_file() else Settings()
+        self.watch = [*(config.getoption("--races-watch") or settings.watch), *map(watch.excluding, settings.exclude)]
+        self.fails_on_possible = (config.getoption(FAIL_ON) or settings.fail_on) == POSSIBLE
+        files = config.getoption("--races-benign") or settings.benign
+        self._patterns = [pattern for file in files for pattern in read_patterns(file)]
+        self.new_baseline: str | None = config.getoption("--races-write-baseline")
+        baseline = config.getoption("--races-baseline") or settings.baseline
+        is_first = self.new_baseline is not None and not os.path.exists(baseline or "")
+        self.baseline = [] if baseline is None or is_first else read_baseline(baseline)
+        typed = {name: config.getoption(f"--races-{name}") for name in ("json", "sarif")}
+        typed["github"] = STANDARD_OUTPUT if config.getoption("--races-github") else None
+        self.formats = {name: file for name, file in typed.items() if file is not None} or settings.formats
+
+    def looking(self) -> Looking:
+        """How the races of one test are looked for."""
+        return Looking(patterns=self._patterns, baseline=self.baseline)
+
+
 class _Traced:
     """The run of one test, from the setup of its fixtures to their end."""
 
     def __init__(self, config: pytest.Config) -> None:
-        self._fails_on_possible = config.getoption(FAIL_ON) == POSSIBLE
+        self._fails_on_possible = config.stash[_asked].fails_on_possible
         self._tracing: Tracing | None = None
+        self.report: Report | None = None
         self.found: str | None = None
         """Why the test fails, if it does."""
         try:
             port, tenant = config.stash[_tenants].next()
-            self._tracing = Tracing(port, tenant, looking=_looking(config)).start()
+            self._tracing = Tracing(port, tenant, looking=config.stash[_asked].looking()).start()
         except Exception as fault:  # No collector, say, or the process is traced already.
-            self.found = f"itc_trace: the test was not traced: {fault}"
+            self._miss(f"the test was not traced: {fault}")
+
+    def _miss(self, why: str) -> None:
+        self.found, self.report = f"itc_trace: {why}", not_traced(why)
 
     def end(self) -> None:
         traced, self._tracing = self._tracing, None
         if traced is None:
             return
         try:
-            races = traced.races()
-            if races.verdict(self._fails_on_possible):
-                self.found = text(report_of(races))
+            self.report = report_of(traced.races(), fail_on_possible=self._fails_on_possible)
+            if self.report.verdict:
+                self.found = text(self.report)
         except Exception as fault:  # The collector is gone, say.
-            self.found = f"itc_trace: the test was not traced to its end: {fault}"
+            self._miss(f"the test was not traced to its end: {fault}")
         finally:
             traced.close()
 
@@ -98,13 +144,23 @@ def pytest_addoption(parser: pytest.Parser) -> None:
     )
     group.addoption("--races-watch-nothing", action="store_true", help="note only what is shared or touched by hand")
     group.addoption("--races-benign", metavar="FILE", action="append", default=[], help="races that are meant")
-    group.addoption(FAIL_ON, choices=(RACE, POSSIBLE), default=RACE, help="fail a test where a race is possible, too")
+    group.addoption(FAIL_ON, choices=(RACE, POSSIBLE), help="fail a test where a race is possible, too")
+    for option, told in FILES.items():
+        group.addoption(option, metavar="FILE", help=told)
+    group.addoption("--races-github", action="store_true", help="write annotations of GitHub behind the summary")
 
 
 def pytest_configure(config: pytest.Config) -> None:
     config.addinivalue_line(
         "markers", f"{MARK}: trace the test, and fail it where its run has a race or was not seen whole",
     )
+    try:
+        config.stash[_asked] = _Asked(config)
+    except Fault as fault:
+        raise pytest.UsageError(f"itc_trace: {fault}") from fault
+    config.stash[_met] = OfTests(config.stash[_asked].baseline)
+    if not hasattr(config, "workerinput"):
+        config.pluginmanager.register(_Summary(config), "itc_trace_summary")
     if not _hands_tests_on(config):
         config.stash[_tenants] = _Tenants()
         put_all()
@@ -121,14 +177,10 @@ def _hands_tests_on(config: pytest.Config) -> bool:
     return is_distributed and not hasattr(config, "workerinput")
 
 
-def _looking(config: pytest.Config) -> Looking:
-    return Looking(patterns=[pattern for file in config.getoption("--races-benign") for pattern in read_patterns(file)])
-
-
 def _watch(config: pytest.Config) -> None:
     """Has the functions of the project noted, also those of tests that were imported meanwhile."""
     if not config.getoption("--races-watch-nothing") and config.stash.get(_modules, None) != set(sys.modules):
-        watch.watch_loaded([str(config.rootpath)], config.getoption("--races-watch"), _with_assertions(config))
+        watch.watch_loaded([str(config.rootpath)], config.stash[_asked].watch, _with_assertions(config))
         _let_pytest_find_first(config)
         config.stash[_modules] = set(sys.modules)
 
@@ -249,12 +301,71 @@ def pytest_runtest_makereport(item: pytest.Item, call: pytest.CallInfo[None]) ->
         return
     traced, shown = item.stash.get(_traced, None), item.stash.get(_report, None)
     found = "itc_trace: the test was not traced" if traced is None else traced.found
+    if traced is not None and traced.report is not None:
+        setattr(report, FOUND, as_object(traced.report))
     if found is not None and shown is not None and not _is_skipped(shown):
         _tell(report if shown in _logged else shown, found)
 
 
 def pytest_runtest_logreport(report: pytest.TestReport) -> None:
     _logged.add(report)
+
+
+class _Summary:
+    """Tells at the end what all tests met, in whichever processes they ran."""
+
+    def __init__(self, config: pytest.Config) -> None:
+        self._config = config
+
+    def pytest_runtest_logreport(self, report: pytest.TestReport) -> None:
+        found = getattr(report, FOUND, None)
+        if found is not None:
+            self._config.stash[_met].add(report.nodeid, report_of_object(found))
+
+    @pytest.hookimpl(trylast=True)  # type: ignore[misc]
+    def pytest_sessionfinish(self, session: pytest.Session) -> None:
+        """Writes the files that are asked for."""
+        met, asked = self._config.stash[_met], self._config.stash[_asked]
+        if not met.reports:
+            return
+        files = {name: file for name, file in asked.formats.items() if file != STANDARD_OUTPUT}
+        is_written = deliver(met.report(asked.fails_on_possible), Wanted(files))
+        try:
+            if asked.new_baseline is not None:
+                write_baseline(asked.new_baseline, met.met)
+        except OSError as fault:
+            say(f"itc_trace: {asked.new_baseline} cannot be written: {fault.strerror}")
+            is_written = False
+        if not is_written:
+            session.exitstatus = pytest.ExitCode.INTERNAL_ERROR
+
+    def pytest_terminal_summary(self, terminalreporter: Any) -> None:
+        met, asked = self._config.stash[_met], self._config.stash[_asked]
+        report = met.report(asked.fails_on_possible)
+        is_quiet, is_verbose = self._config.option.verbose < 0, self._config.option.verbose > 0
+        if met.reports and (not is_quiet or report.findings or report.unseen):
+            terminalreporter.ensure_newline()
+            terminalreporter.section("races")
+            terminalreporter.write_line("\n".join(_section(met, report, is_quiet, is_verbose)))
+        for name, file in asked.formats.items():
+            if file == STANDARD_OUTPUT and met.reports:
+                terminalreporter.write(FORMATS[name](report))
+
+
+def _section(met: OfTests, report: Report, is_quiet: bool, is_verbose: bool) -> Iterator[str]:
+    """What was found, and how much of it each test met. The last line counts."""
+    if is_quiet:
+        yield from short(report.findings)
+        yield f"itc_trace: {report.summary}"
+        return
+    told = text(report, Shown(is_all=is_verbose)).splitlines()
+    yield from told[:-1]
+    if is_verbose:
+        yield from (f"id {one.identity} in {test}" for one in report.findings for test in one.tests[1:])
+    yield from met.by_test()
+    if report.gone:
+        yield f"itc_trace: of the baseline did not occur: {', '.join(map(str, report.gone))}"
+    yield told[-1]
 
 
 def _is_skipped(report: pytest.TestReport) -> bool:

@@ -74,7 +74,7 @@ class Pictures(unittest.TestCase):
         _, race = carried(self.page, "carriedRaces")
         self.assertEqual((race["why"], race["possible"]), ("nothing orders them", False))
         events, times = [side["event"] for side in race["sides"]], "once" if race["times"] == 1 else f"{race['times']} times"
-        self.assertIn(f"nothing orders them; {times}, as events {events[0]} and {events[1]}\n", told)
+        self.assertIn(f"nothing orders them; {times}, as events {events[0]} and {events[1]}; id ", told)
         self.assertIn(f"{self.page}#event={events[0]}&other={events[1]}", told)
         for side in race["sides"]:
             self.assertEqual(side["text"][side["line"] - side["begin"]], '    stock["left"] -= 1')

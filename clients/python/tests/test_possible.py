@@ -57,7 +57,7 @@ class Possible(ProgramCase):
             self.assertEqual((status, first), ("0", "itc_trace: possible race on stock"))
             self.assertRegex(add, r'^    write at .*program.py:7 in add:  itc_trace.touch\("stock", write=True\)$')
             self.assertRegex(look, r'^    read  at .*program.py:16 in look:  itc_trace.touch\("stock"\)$')
-            self.assertRegex(why, r"ordered in this run only by lock guard \(.*program.py:3\), which neither holds; once, as events \d+ and \d+$")
+            self.assertRegex(why, r"ordered in this run only by lock guard \(.*program.py:3\), which neither holds; once, as events \d+ and \d+; id \w+$")
             self.assertRegex(last, "^itc_trace: no race in this run; 1 possible: 2 places of 1 thing, ")
 
     def test_it_fails_if_that_is_asked_for(self) -> None:

@@ -23,12 +23,13 @@ from .output_files import check_outputs
 from .parser import Parser
 from .saying import UNWRITTEN, say, write
 from .settings import Settings, settings_here
-from .reporting import STANDARD_OUTPUT, Wanted, deliver
+from .reporting import STANDARD_OUTPUT, Wanted, deliver, is_at_terminal, next_step
 from .run import MOST_SEED, Run, run, tell_if_untouched
 from ..session import Refused
 from ..analyse.snapshot import snapshot
 from ..report.hints import missing_sources
 from ..report.report import report_of
+from ..report.style import style_of
 from ..report.text import Shown, text
 from .system import run_system
 from .system_file import read_system
@@ -127,7 +128,7 @@ def _wanted(words: argparse.Namespace, settings: Settings) -> Wanted:
     files = {name: file for name in ("json", "sarif") if (file := getattr(words, name)) is not None}
     if words.github:
         files["github"] = STANDARD_OUTPUT
-    return Wanted(files or dict(settings.formats), Shown(words.all, words.max))
+    return Wanted(files or dict(settings.formats), Shown(words.all, words.max), words.called)
 
 
 def _system(words: argparse.Namespace) -> int:
@@ -167,7 +168,11 @@ def _explain(words: argparse.Namespace) -> int:
 
 def _tell(words: argparse.Namespace, found: Races, picture: str | None = None) -> int:
     report = report_of(found, words.looking, words.fail_on == "possible", picture, missing_sources(found))
-    is_written = _tell_person(text(report, words.wanted.shown), words.wanted)
+    stream = sys.stderr if words.wanted.takes_output else sys.stdout
+    is_written = _tell_person(text(report, words.wanted.shown, style_of(stream)), words.wanted)
+    step = next_step(report, words.wanted, words.trace if words.port is None else None, False)
+    if step and is_at_terminal(stream):
+        say(step)
     tell_if_untouched(found)
     return int(report.verdict) if deliver(report, words.wanted) and is_written else UNWRITTEN
 
@@ -216,7 +221,7 @@ def main(name: str = "python3 -m itc_trace") -> int:
         if own[0] == "run" and word in OPTIONS_OF_PYTHON and before not in TO_STANDARD_OUTPUT:
             made.commands["run"].refuse(f"run takes {OPTIONS_OF_PYTHON[word]}")
     words = made.parse_all(own)
-    words.typed, words.options = own, made.commands["run"]
+    words.typed, words.options, words.called = own, made.commands["run"], name
     words.is_program_marked = "--" in sys.argv[1 : len(own) + 2]
     try:
         return _done(words, program)

@@ -6,11 +6,13 @@ import contextlib
 import os
 from collections.abc import Iterator
 from dataclasses import dataclass, field
+from typing import TextIO
 
 from ..record.faults import Fault
 from ..report.formats import FORMATS
 from ..report.report import Report
 from ..report.text import Shown
+from ..model.verdict import Verdict
 from .saying import say, write
 
 STANDARD_OUTPUT = "-"
@@ -23,6 +25,8 @@ class Wanted:
     files: dict[str, str] = field(default_factory=dict)
     """By the name of a format the file, or `-` for standard output."""
     shown: Shown = field(default_factory=Shown)
+    called: str = "python3 -m itc_trace"
+    """How the command line is called."""
 
     def outputs(self) -> list[tuple[str, str | None]]:
         """The files, each with its option. Standard output may be given once."""
@@ -34,6 +38,22 @@ class Wanted:
     @property
     def takes_output(self) -> bool:
         return STANDARD_OUTPUT in self.files.values()
+
+
+def next_step(report: Report, wanted: Wanted, export: str | None, is_run: bool) -> str:
+    """What to do next, in one line for whoever sits at a terminal. Empty if there is nothing to say."""
+    kept = export or next((file for name, file in wanted.outputs() if name == "--json" and file is not None), None)
+    if not report.findings:
+        is_whole = is_run and report.verdict is Verdict.NO_RACE
+        return "itc_trace: next: --runs 10 tries other schedules" if is_whole else ""
+    identity = report.findings[0].identity
+    if kept is None:
+        return f"itc_trace: next: keep the trace by --export FILE, and `{wanted.called} explain {identity} FILE` explains"
+    return f"itc_trace: next: `{wanted.called} explain {identity} {kept}` tells of this race, and --picture draws it"
+
+
+def is_at_terminal(stream: TextIO | None) -> bool:
+    return stream is not None and not stream.closed and stream.isatty()
 
 
 def deliver(report: Report, wanted: Wanted) -> bool:

@@ -25,7 +25,7 @@ from ..record.environment import OWN_TENANT
 from ..record.faults import WORDS_REFUSED, Fault, look
 from .launch import RAISED, REFUSED
 from .output_files import check_outputs
-from .reporting import Wanted, deliver
+from .reporting import Wanted, deliver, is_at_terminal, next_step
 from .saying import UNWRITTEN, say
 from .statuses import OWN_STATUSES, forget_status, keep_status, own_status
 from ..report.merging import Merged
@@ -34,13 +34,14 @@ from ..analyse.parts import number_of_parts, races_of_parts
 from ..analyse.progress import Bar
 from ..report.race_rows import race_rows
 from ..report.report import Report, report_of
+from ..report.style import style_of
 from ..report.text import text
 from ..analyse.races import Races
 from ..analyse.seeing import races_seen
 from ..session import Refused
 from ..analyse.snapshot import snapshot
 from ..model.verdict import BREAKS_OFF, REMOVED, Cause, PassedOver, Unseen, Verdict
-from ..watch.finder import excluding
+from ..watch import excluding
 
 UNTOUCHED = """\
 itc_trace: nothing was touched, so there was no race to find
@@ -189,7 +190,11 @@ def _is_told(asked: Run, report: Report, status: int) -> bool:
 def _tell(asked: Run, report: Report, status: int) -> bool:
     """Tells what was found. Gives whether all formats that are asked for were written."""
     if _is_told(asked, report, status):
-        say(text(report, asked.wanted.shown) + own_status(report.verdict, status))
+        told = text(report, asked.wanted.shown, style_of(sys.stderr))
+        say(told + own_status(report.verdict, status))
+        step = next_step(report, asked.wanted, asked.export if asked.runs == 1 else None, asked.runs == 1)
+        if step and is_at_terminal(sys.stderr):
+            say(step)
     return deliver(report, asked.wanted)
 
 

@@ -34,11 +34,12 @@ from ..record.environment import PARTS, Reporting
 from ..record.faults import Fault
 from ..record.journal import NoJournal, read_whole
 from ..report.report import report_of
+from ..report.style import style_of
 from ..report.text import text
 from ..session import Refused
 from .ending import name_of
 from .launch import REFUSED
-from .reporting import Wanted, deliver
+from .reporting import Wanted, deliver, is_at_terminal, next_step
 from .run import draw, draw_parts, environment_of_package
 from .saying import UNWRITTEN, say
 from .statuses import forget_status, keep_status, own_status
@@ -401,7 +402,10 @@ def run_system(
             races.unseen = [*running.unseen, *races.unseen]
             picture = _keep(system, collectors.port, lines, folder, races)
         report, wanted = report_of(races, looking, fail_on_possible, picture), wanted or Wanted()
-        say(text(report, wanted.shown) + own_status(report.verdict, running.status))
+        say(text(report, wanted.shown, style_of(sys.stderr)) + own_status(report.verdict, running.status))
+        step = next_step(report, wanted, system.export, False)
+        if step and is_at_terminal(sys.stderr):
+            say(step)
         status = keep_status(status_file, report.verdict, running.status)
         return status if deliver(report, wanted) else UNWRITTEN
 

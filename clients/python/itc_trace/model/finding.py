@@ -165,9 +165,16 @@ class Finding:
         names = " and ".join(dict.fromkeys(side.task for side in self.sides))
         return f"{tasks} {names}: {self.why}; {times}, as {_events(self.sides)}; id {self.identity}"
 
+    @property
+    def told_tests(self) -> str:
+        """Which tests met it."""
+        first = self.tests[0]
+        return f"in {first}" if len(self.tests) == 1 else f"in {len(self.tests)} tests, first in {first}"
+
     def lines(self) -> list[str]:
         """In words for a person. All but the first are to be indented."""
-        return [self.title, *self.told_sides, self.told_order, *([str(self.seen)] if self.seen else [])]
+        seen = [str(self.seen)] if self.seen else []
+        return [self.title, *self.told_sides, self.told_order, *seen, *([self.told_tests] if self.tests else [])]
 
 
 def _events(sides: tuple[FoundSide, ...]) -> str:

@@ -74,12 +74,12 @@ def _side_as_object(side: FoundSide) -> dict[str, Any]:
 def report_of_json(text: str) -> Report:
     """The report that was written so."""
     try:
-        return _report(json.loads(text))
+        return report_of_object(json.loads(text))
     except (ValueError, TypeError, KeyError, AttributeError) as fault:
         raise NoReport("it is no report of --json") from fault
 
 
-def _report(told: dict[str, Any]) -> Report:
+def report_of_object(told: dict[str, Any]) -> Report:
     if told["version"] != VERSION:
         raise NoReport(f"it is a report of version {told['version']}, and not of {VERSION}")
     found, silenced, known = (

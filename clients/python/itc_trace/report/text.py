@@ -8,9 +8,10 @@ from dataclasses import dataclass
 from urllib.parse import quote
 
 from ..model.finding import Finding
-from ..model.verdict import reasons
+from ..model.verdict import Verdict, reasons
 from .grouping import Entry, entries
 from .report import Report
+from .style import Style
 
 MOST_WITHOUT_SUMMARY = 5
 
@@ -25,12 +26,12 @@ class Shown:
     """So many entries at most."""
 
 
-def text(report: Report, shown: Shown = Shown()) -> str:
+def text(report: Report, shown: Shown = Shown(), style: Style = Style()) -> str:
     """Why it is incomplete, where it is, and what was found, each with a link into the picture, where there is one."""
-    return "\n".join(_lines(report, shown))
+    return "\n".join(_lines(report, shown, style))
 
 
-def _lines(report: Report, shown: Shown) -> Iterator[str]:
+def _lines(report: Report, shown: Shown, style: Style) -> Iterator[str]:
     if report.unseen:
         yield f"itc_trace: incomplete: {reasons(report.unseen)}"
     found = [Entry([one]) for one in report.findings] if shown.is_all else entries(report.findings)
@@ -38,16 +39,16 @@ def _lines(report: Report, shown: Shown) -> Iterator[str]:
     if len(causes) > MOST_WITHOUT_SUMMARY:
         yield f"itc_trace: {_summary(causes)}"
     for entry in found[: shown.most]:
-        yield from _entry(entry, report)
+        yield from _entry(entry, report, style)
     if shown.most is not None and len(found) > shown.most:
         yield f"itc_trace: and {len(found) - shown.most} more, which --max {shown.most} leaves out"
     for hint in report.hints:
         yield f"itc_trace: {hint}"
-    yield f"itc_trace: {report.summary}"
+    yield f"itc_trace: {style.summary(report.summary, report.verdict is Verdict.NO_RACE)}"
 
 
-def _entry(entry: Entry, report: Report) -> Iterator[str]:
-    yield "itc_trace: " + "\n    ".join(entry.shown.lines())
+def _entry(entry: Entry, report: Report, style: Style) -> Iterator[str]:
+    yield "itc_trace: " + "\n    ".join(style.lines(entry.shown, report.folder))
     if report.picture is not None:
         yield f"    {link(entry.shown, report.picture)}"
     if len(entry.findings) > 1:

@@ -18,13 +18,13 @@ from ..model.verdict import PassedOver, Unseen
 from ..sync.base import like
 from . import handed, hooks, leaving, named, passed_over, things
 from .commands import own_program
-from .finder import UNWATCHED, Finder, Selection, look_around, with_hooks
+from .finder import UNWATCHED, Finder, Selection, excluding, look_around, with_hooks
 from .loaded import Prepare, folder_of_main, rewrite_loaded
 from .named import tell_missing
 from .unwatched import files_without_hooks, touches_lost
 
 __all__ = [
-    "Prepare", "begin", "code_of", "end", "program_of", "selection", "tell_missing", "unwatched", "watch",
+    "Prepare", "begin", "code_of", "end", "excluding", "program_of", "selection", "tell_missing", "unwatched", "watch",
     "watch_loaded", "watch_main", "watch_path_runs",
 ]
 

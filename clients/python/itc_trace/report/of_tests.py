@@ -1,0 +1,93 @@
+"""Puts together what the tests of pytest met, which may have run in several processes."""
+
+from __future__ import annotations
+
+from collections.abc import Iterable, Iterator
+from dataclasses import dataclass, field, replace
+
+from ..model.finding import Finding, Known
+from ..model.verdict import Cause, PassedOver, Unseen, Verdict, listed, verdict_of
+from .report import Report
+
+Key = tuple[str, str]
+
+
+@dataclass
+class OfTests:
+    """The reports of all tests that were traced."""
+
+    baseline: list[Known] = field(default_factory=list)
+    reports: dict[str, Report] = field(default_factory=dict)
+    """By the name of the test."""
+
+    def add(self, test: str, report: Report) -> None:
+        self.reports[test] = report
+
+    @property
+    def met(self) -> set[Known]:
+        """All that was found and is not meant, whether it was known or not."""
+        return {one.known_as for report in self.reports.values() for one in (*report.findings, *report.known)}
+
+    def report(self, fail_on_possible: bool) -> Report:
+        """What all tests met. What several of them met stands there once, with their names."""
+        found = self._merged("findings")
+        races = [one for one in found if not one.is_possible]
+        raced = {(one.identity, one.thing) for one in races}
+        possible = [one for one in found if one.is_possible and (one.identity, one.thing) not in raced]
+        unseen = [
+            Unseen(one.cause, f"{test}: {one.text}") for test, report in self.reports.items() for one in report.unseen
+        ]
+        passed_over = list(dict.fromkeys(one for report in self.reports.values() for one in report.passed_over))
+        silenced, known = self._merged("silenced"), self._merged("known")
+        return Report(
+            verdict_of(len(races) + (len(possible) if fail_on_possible else 0), unseen),
+            self._summary(len(races), len(possible), len(silenced), len(known), bool(unseen), passed_over),
+            [*races, *possible], silenced, known, [one for one in self.baseline if one not in self.met], unseen,
+            passed_over, list(dict.fromkeys(hint for report in self.reports.values() for hint in report.hints)),
+            {"tests": len(self.reports)},
+        )
+
+    def _merged(self, name: str) -> list[Finding]:
+        """The findings of one list of each report, each with its tests."""
+        merged: dict[Key, Finding] = {}
+        tests: dict[Key, list[str]] = {}
+        for test, report in self.reports.items():
+            for finding in getattr(report, name):
+                key = finding.kind, finding.identity
+                merged.setdefault(key, finding)
+                if test not in tests.setdefault(key, []):
+                    tests[key].append(test)
+        return [replace(finding, tests=tuple(tests[key])) for key, finding in merged.items()]
+
+    def _summary(
+        self, races: int, possible: int, silenced: int, known: int, is_cut: bool, passed_over: list[PassedOver],
+    ) -> str:
+        found = "no race" if races == 0 else "1 race" if races == 1 else f"{races} races"
+        tests = "1 test" if len(self.reports) == 1 else f"{len(self.reports)} tests"
+        seen = "what was seen of " if is_cut else ""
+        further = ((possible, "possible"), (silenced, "silenced"), (known, "in the baseline"))
+        told = "".join(f"; {count} {what}" for count, what in further if count)
+        return f"{found} in {seen}{tests}{told}{listed(passed_over)}"
+
+    def by_test(self) -> Iterator[str]:
+        """How many races each test met, a line for each that met some."""
+        for test, report in self.reports.items():
+            possible = sum(one.is_possible for one in report.findings)
+            races = len(report.findings) - possible
+            parts = [f"{races} race{'' if races == 1 else 's'}"] if races else []
+            parts += [f"{possible} possible"] if possible else []
+            if parts:
+                yield f"{', '.join(parts)}: {test}"
+
+
+def short(findings: Iterable[Finding]) -> Iterator[str]:
+    """A line for each finding."""
+    for finding in findings:
+        places = " and ".join(dict.fromkeys(side.place for side in finding.sides))
+        tests = "1 test" if len(finding.tests) == 1 else f"{len(finding.tests)} tests"
+        yield f"{finding.kind} on {finding.thing} at {places}, in {tests}; id {finding.identity}"
+
+
+def not_traced(why: str) -> Report:
+    """Of a test that was not traced."""
+    return Report(Verdict.INCOMPLETE, why, unseen=[Unseen(Cause.TRACER, why)])

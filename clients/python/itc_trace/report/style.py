@@ -1,0 +1,61 @@
+"""How the list for a person looks: plain, or on a terminal with colours and with places that lead to their files."""
+
+from __future__ import annotations
+
+import os
+from collections.abc import Mapping
+from typing import TextIO
+from urllib.parse import quote
+
+from ..model.finding import Finding, FoundSide
+
+RED, YELLOW, GREEN, FAINT, END = "\033[1;31m", "\033[1;33m", "\033[32m", "\033[2m", "\033[0m"
+WITHOUT_COLOURS, WITHOUT_LINKS = ("dumb", ""), ("linux",)
+"""What `TERM` is called where a terminal has no colours, and where it shows links as letters."""
+
+
+class Style:
+    """Plain text."""
+
+    def lines(self, finding: Finding, folder: str) -> list[str]:
+        """The lines of a finding, of which the first is its title."""
+        return finding.lines()
+
+    def summary(self, text: str, is_good: bool) -> str:
+        return text
+
+
+class TerminalStyle(Style):
+    """With colours, and with links by OSC 8 if the terminal has them."""
+
+    def __init__(self, has_links: bool) -> None:
+        self._has_links = has_links
+
+    def lines(self, finding: Finding, folder: str) -> list[str]:
+        title, *rest = finding.lines()
+        colour = YELLOW if finding.is_possible else RED
+        for number, side in enumerate(finding.sides):
+            rest[number] = rest[number].replace(f" at {side.place}", f" at {self._linked(side, folder)}", 1)
+        shown = rest[: len(finding.sides)]
+        faint = [f"{FAINT}{line}{END}" for line in rest[len(finding.sides) :]]
+        return [title.replace(finding.kind, f"{colour}{finding.kind}{END}", 1), *shown, *faint]
+
+    def _linked(self, side: FoundSide, folder: str) -> str:
+        if not self._has_links or not side.file or side.file.startswith("<"):
+            return side.place
+        return f"\033]8;;file://{quote(os.path.join(folder, side.file))}\033\\{side.place}\033]8;;\033\\"
+
+    def summary(self, text: str, is_good: bool) -> str:
+        return f"{GREEN if is_good else RED}{text}{END}"
+
+
+def style_of(stream: TextIO | None, environment: Mapping[str, str] = os.environ) -> Style:
+    """Colours are for terminals alone, and for those who have not set `NO_COLOR`."""
+    kind = environment.get("TERM", "")
+    try:
+        is_terminal = stream is not None and stream.isatty()
+    except ValueError:  # It is closed.
+        is_terminal = False
+    if not is_terminal or environment.get("NO_COLOR") or kind in WITHOUT_COLOURS:
+        return Style()
+    return TerminalStyle(kind not in WITHOUT_LINKS)
