@@ -224,8 +224,8 @@ def races_of_parts(
         except (NoCollector, OSError, Refused) as fault:
             found.unseen.append(Unseen(Cause.COLLECTOR, f"the collector does not tell the order of events ({fault})"))
         all_found = [*found.races, *found.possible]
-        parts = sorted({row.part for race in all_found for row in race.example})
-        add_stories(all_found, (row for part in parts for row in divided.rows(part)))
+        numbers = sorted({row.part for race in all_found for row in race.example})
+        add_stories(all_found, (row for number in numbers for row in divided.rows(number)))
         looking.silence(found)
         return found
 

@@ -48,7 +48,7 @@ def next_step(report: Report, wanted: Wanted, export: str | None, is_run: bool) 
         return "itc_trace: next: --runs 10 tries other schedules" if is_whole else ""
     identity = report.findings[0].identity
     if kept is None:
-        return f"itc_trace: next: keep the trace by --export FILE, and `{wanted.called} explain {identity} FILE` explains"
+        return f"itc_trace: next: keep the trace by --export FILE, and type `{wanted.called} explain {identity} FILE`"
     return f"itc_trace: next: `{wanted.called} explain {identity} {kept}` tells of this race, and --picture draws it"
 
 

@@ -2,10 +2,12 @@
 
 from __future__ import annotations
 
+from collections import Counter
 from collections.abc import Iterable, Iterator
 from dataclasses import dataclass, field, replace
 
-from ..model.finding import Finding, Known
+from ..analyse.races import told_deadlocks
+from ..model.finding import DEADLOCK, POSSIBLE_DEADLOCK, POSSIBLE_RACE, RACE, Finding, Known
 from ..model.verdict import Cause, PassedOver, Unseen, Verdict, listed, verdict_of
 from .report import Report
 
@@ -41,7 +43,7 @@ class OfTests:
         silenced, known = self._merged("silenced"), self._merged("known")
         return Report(
             verdict_of(len(races) + (len(possible) if fail_on_possible else 0), unseen),
-            self._summary(len(races), len(possible), len(silenced), len(known), bool(unseen), passed_over),
+            self._summary([*races, *possible], len(silenced), len(known), bool(unseen), passed_over),
             [*races, *possible], silenced, known, [one for one in self.baseline if one not in self.met], unseen,
             passed_over, list(dict.fromkeys(hint for report in self.reports.values() for hint in report.hints)),
             {"tests": len(self.reports)},
@@ -60,24 +62,26 @@ class OfTests:
         return [replace(finding, tests=tuple(tests[key])) for key, finding in merged.items()]
 
     def _summary(
-        self, races: int, possible: int, silenced: int, known: int, is_cut: bool, passed_over: list[PassedOver],
+        self, findings: list[Finding], silenced: int, known: int, is_cut: bool, passed_over: list[PassedOver],
     ) -> str:
+        kinds = Counter(finding.kind for finding in findings)
+        races = kinds[RACE]
         found = "no race" if races == 0 else "1 race" if races == 1 else f"{races} races"
         tests = "1 test" if len(self.reports) == 1 else f"{len(self.reports)} tests"
         seen = "what was seen of " if is_cut else ""
-        further = ((possible, "possible"), (silenced, "silenced"), (known, "in the baseline"))
+        possible = f"; {kinds[POSSIBLE_RACE]} possible" if kinds[POSSIBLE_RACE] else ""
+        deadlocks = told_deadlocks(kinds[DEADLOCK], kinds[POSSIBLE_DEADLOCK])
+        further = ((silenced, "silenced"), (known, "in the baseline"))
         told = "".join(f"; {count} {what}" for count, what in further if count)
-        return f"{found} in {seen}{tests}{told}{listed(passed_over)}"
+        return f"{found} in {seen}{tests}{possible}{deadlocks}{told}{listed(passed_over)}"
 
     def by_test(self) -> Iterator[str]:
         """How many races each test met, a line for each that met some."""
         for test, report in self.reports.items():
-            possible = sum(one.is_possible for one in report.findings)
-            races = len(report.findings) - possible
-            parts = [f"{races} race{'' if races == 1 else 's'}"] if races else []
-            parts += [f"{possible} possible"] if possible else []
-            if parts:
-                yield f"{', '.join(parts)}: {test}"
+            kinds = Counter(finding.kind for finding in report.findings)
+            if kinds:
+                told = ", ".join(f"{count} {kind}{'' if count == 1 else 's'}" for kind, count in kinds.items())
+                yield f"{told}: {test}"
 
 
 def short(findings: Iterable[Finding]) -> Iterator[str]:
