@@ -67,7 +67,7 @@ class Styles(unittest.TestCase):
         identity = found.findings[0].identity
         self.assertIn(f"`itc-trace explain {identity} g`", next_step(found, Wanted(called="itc-trace"), "g", True))
         self.assertIn(f"explain {identity} r.json`", next_step(found, Wanted({"json": "r.json"}), None, True))
-        self.assertIn(f"--export FILE, and `python3 -m itc_trace explain {identity} FILE`", next_step(found, Wanted({"json": "-"}), None, True))
+        self.assertIn(f"--export FILE, and type `python3 -m itc_trace explain {identity} FILE`", next_step(found, Wanted({"json": "-"}), None, True))
         self.assertIn("--runs 10", next_step(clean, Wanted(), None, True))
         self.assertEqual(next_step(clean, Wanted(), None, False), "")
         self.assertEqual(next_step(Report(Verdict.INCOMPLETE, ""), Wanted(), None, True), "")

@@ -112,4 +112,5 @@ class Merged:
         deadlocks = told_deadlocks(len(self._deadlocks), len(self._only_possible_deadlocks))
         silenced = f"; {len(self._meant)} silenced" if self._meant else ""
         known = f"; {len(self._known)} in the baseline" if self._known else ""
-        return f"{found} in {seen}{runs_in_words(self.runs)}{possible}{deadlocks}{silenced}{known}{listed(self.passed_over)}"
+        told = f"{possible}{deadlocks}{silenced}{known}{listed(self.passed_over)}"
+        return f"{found} in {seen}{runs_in_words(self.runs)}{told}"
