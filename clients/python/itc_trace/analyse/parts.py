@@ -19,7 +19,8 @@ from .deadlocks_of_parts import DeadlocksOfParts
 from ..record.collector import Collector, NoCollector
 from ..model.conflicts import MAKING
 from ..record.dividing import Border, Report
-from ..record.journal import BORDER, Begun, Children, ChildTold, Count, End, Row, SignalTold, read_line
+from ..record.journal import BORDER, Begun, Children, ChildTold, Count, End, Row, SignalTold, SourceText, read_line
+from .kept_sources import sources_of
 from ..model.lock_identity import ANSWER, REQUEST
 from .progress import Bar, Shown
 from .races import Race, Races, add_race, events_of_lock, find_in, in_order, list_pair, sides_of
@@ -216,7 +217,9 @@ def races_of_parts(
     looking = looking or Looking()
     with tempfile.TemporaryDirectory(prefix="itc_trace_") as folder:
         divided = _Divided(journal, folder)
-        found = Races(unseen=divided.unseen, passed_over=divided.passed_over)
+        found = Races(
+            unseen=divided.unseen, passed_over=divided.passed_over, sources=sources_of(divided.sources),
+        )
         try:
             keep = None if export is None else _Exports(export, divided).keep
             parts, signals = divided.parts(found, last), frozenset(divided.signals)
@@ -258,6 +261,7 @@ class _Divided:
         self.unseen: list[Unseen] = []
         self.passed_over: list[PassedOver] = []
         self.signals: set[str] = set()
+        self.sources: list[SourceText] = []
         children = Children()
         count = Count()
         with contextlib.closing(_Files(self.file)) as files, open(journal, encoding="utf-8", errors="replace") as lines:
@@ -270,6 +274,8 @@ class _Divided:
                     files.add(read.part, line)
                 elif isinstance(read, Unseen):
                     self.unseen.append(read)
+                elif isinstance(read, SourceText):
+                    self.sources.append(read)
                 elif isinstance(read, ChildTold):
                     children.add(read)
                 elif isinstance(read, Begun):

@@ -22,6 +22,7 @@ from .deadlocks import Deadlock, TooMany, acquisitions_of, find_deadlocks, has_c
 from .fast_track import deciding_pairs
 from .looks import looks_of
 from ..record.journal import Row, read_whole
+from .kept_sources import sources_of
 from ..model.lock_identity import ANSWER, REQUEST
 from .order import Order
 from .progress import Bar, Shown
@@ -203,6 +204,7 @@ def find_races(
         unseen=whole.unseen, passed_over=whole.passed_over, touches=len(touches),
         events=len({row.event for row in rows}),
     )
+    found.sources = sources_of(whole.sources)
     found.places = len({(row.thing, row.place) for row in touches})
     found.things = len({row.thing for row in touches})
     things = [thing for thing in _things_of(rows) if thing.may_race]

@@ -18,6 +18,7 @@ from pathlib import Path
 from typing import IO
 
 from ..analyse.benign import Looking
+from ..analyse.kept_sources import add_sources
 from ..record.collector import HOST, find_in_repository
 from ..record.dividing import LEAVE
 from .ending import Child, Ended, ends_by_signals, is_asked_to_end
@@ -246,6 +247,8 @@ def _outcome(asked: Run, seed: int | None) -> Outcome | None:
             if not os.path.exists(journal):
                 races.unseen = [REMOVED if one == BREAKS_OFF else one for one in races.unseen]
         races.passed_over += [PassedOver("files", pattern) for pattern in asked.excluded]
+        if (asked.journal or asked.export) and os.path.exists(journal):
+            add_sources(journal)
         if child.signal_name and not _is_killed(races):
             killed = Unseen(Cause.KILLED, f"the program was ended by {child.signal_name}")
             races.unseen = [killed, *(one for one in races.unseen if one != BREAKS_OFF)]

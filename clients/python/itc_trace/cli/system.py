@@ -21,6 +21,7 @@ from types import FrameType
 from typing import IO, Any
 
 from ..analyse.benign import Looking
+from ..analyse.kept_sources import source_rows
 from ..analyse.parts import races_of_parts
 from ..analyse.progress import Bar
 from ..analyse.races import Races
@@ -39,6 +40,7 @@ from ..report.text import text
 from ..session import Refused
 from .ending import name_of
 from .launch import REFUSED
+from .process_sources import ProcessSources
 from .reporting import Wanted, deliver, is_at_terminal, next_step
 from .run import draw, draw_parts, environment_of_package
 from .saying import UNWRITTEN, say
@@ -351,8 +353,9 @@ class Running:
                 self._miss(Cause.JOURNAL, f"process {process.name} reported nothing")
             if len(written) > 1:
                 say(f"itc_trace: process {process.name} reported {len(written)} times: it was started again")
-            for path in written:
-                lines += self._lines_of(process, path)
+            own = [line for path in written for line in self._lines_of(process, path)]
+            lines += own
+            lines += [one.row() for one in source_rows(own, ProcessSources(process.described).find)]
         return [*lines, END_OF_ALL]
 
     def _is_refused(self, name: str) -> bool:

@@ -88,6 +88,8 @@ class Journal(NamedTuple):
     passed_over: list[PassedOver]
     signals: frozenset[str] = frozenset()
     """The locks that are signals."""
+    sources: tuple[SourceText, ...] = ()
+    """Lines of the program that were kept with the journal."""
 
 
 class NoJournal(Exception):
@@ -105,6 +107,7 @@ def read_whole(lines: Iterable[str]) -> Journal:
     unseen: list[Unseen] = []
     passed_over: list[PassedOver] = []
     signals: set[str] = set()
+    sources: list[SourceText] = []
     children = Children()
     count = Count()
     for number, line in enumerate(lines, 1):
@@ -114,6 +117,8 @@ def read_whole(lines: Iterable[str]) -> Journal:
         count.add(read)
         if isinstance(read, Row):
             rows.append(read)
+        elif isinstance(read, SourceText):
+            sources.append(read)
         elif isinstance(read, Unseen):
             unseen.append(read)
         elif isinstance(read, PassedOver):
@@ -132,7 +137,7 @@ def read_whole(lines: Iterable[str]) -> Journal:
             unseen.append(Unseen(Cause.JOURNAL, f"line {number} of the journal is none"))
     unseen += children.unseen()
     missing = count.missing(unseen)
-    return Journal(rows, [*unseen, *missing], missing, passed_over, frozenset(signals))
+    return Journal(rows, [*unseen, *missing], missing, passed_over, frozenset(signals), tuple(sources))
 
 
 class End(NamedTuple):
@@ -157,7 +162,7 @@ class Count:
             self.end = read
         elif isinstance(read, Unseen):
             self.told += 1
-        elif read is not None:
+        elif read is not None and not isinstance(read, SourceText):
             self.others += 1
         if isinstance(read, ChildTold):
             self.of_children += read.lines
@@ -175,6 +180,17 @@ class Count:
         if self.others <= written <= self.others + self.told:
             return []
         return [Unseen(Cause.JOURNAL, f"the journal has {self.others + self.told} lines where {written} were written")]
+
+
+class SourceText(NamedTuple):
+    """Lines of a file of the program by their numbers, which whoever keeps a journal adds behind its end."""
+
+    file: str
+    lines: dict[int, str]
+
+    def row(self) -> str:
+        lines = {str(number): text for number, text in self.lines.items()}
+        return json.dumps({"source": self.file, "lines": lines}, separators=(",", ":")) + "\n"
 
 
 class ChildTold(NamedTuple):
@@ -236,10 +252,12 @@ def read_line(line: str) -> Read | None:
             return PassedOver(str(read["passed_over"]), str(read["place"]))
         if "signal" in read:
             return SignalTold(str(read["signal"]))
+        if "source" in read:
+            return SourceText(str(read["source"]), {int(one): str(text) for one, text in read["lines"].items()})
         if "end" in read:
             return End(None if read.get("lines") is None else int(read["lines"]))
         return None
-    except (ValueError, TypeError, KeyError):
+    except (ValueError, TypeError, KeyError, AttributeError):
         return None
 
 
@@ -268,7 +286,7 @@ class Begun(NamedTuple):
     border: Border
 
 
-Read = Row | Unseen | PassedOver | ChildTold | SignalTold | Begun | End
+Read = SourceText | Row | Unseen | PassedOver | ChildTold | SignalTold | Begun | End
 """What a line of a journal says."""
 
 

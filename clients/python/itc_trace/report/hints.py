@@ -25,7 +25,7 @@ def hints(found: Races) -> Iterator[str]:
 
 def missing_sources(found: Races) -> Iterator[str]:
     """Why lines have no source, where races are listed that were kept."""
-    missing = [file for file in _files(found) if not os.path.isfile(file)]
+    missing = [file for file in _files(found) if not os.path.isfile(file) and file not in found.sources.kept]
     if missing:
         named = ", ".join(missing)
         yield f"no line of {named} is shown, as it is not here: list the races in the folder of the run to see them"

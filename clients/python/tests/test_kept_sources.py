@@ -1,0 +1,133 @@
+"""A list that is made elsewhere shows the lines of the program that ran, and no others."""
+
+from __future__ import annotations
+
+import os
+import shutil
+import subprocess
+import sys
+import tempfile
+import unittest
+from pathlib import Path
+
+from itc_trace.analyse.kept_sources import MOST_KEPT, add_sources, source_rows, sources_of
+from itc_trace.cli.process_sources import ProcessSources
+from itc_trace.cli.system_file import Described
+from itc_trace.record.journal import SourceText, read_line, read_whole
+
+from .support import PACKAGE
+from .test_report import SELLING
+
+ROW = '{"event":3,"task":"a","thing":"x","kind":"write","file":"%s","line":%d,"label":"write x"}\n'
+END = '{"end":true,"lines":1}\n'
+
+
+def described(folder: Path, *command: str) -> Described:
+    return Described("shop", list(command), str(folder), None, None, [], {}, True, False, [])
+
+
+class Rows(unittest.TestCase):
+    def setUp(self) -> None:
+        self.folder = Path(self.enterContext(tempfile.TemporaryDirectory()))
+
+    def write(self, name: str, text: str) -> str:
+        (self.folder / name).parent.mkdir(parents=True, exist_ok=True)
+        (self.folder / name).write_text(text)
+        return str(self.folder / name)
+
+    def test_the_lines_around_each_place_are_kept(self) -> None:
+        file = self.write("a.py", "".join(f"line {number}\n" for number in range(1, 31)))
+        (row,) = source_rows([ROW % (file, 10), ROW % (file, 29)])
+        self.assertEqual(sorted(row.lines), [*range(7, 14), *range(26, 31)])
+        self.assertEqual(row.lines[10], "line 10")
+        self.assertEqual(read_line(row.row()), row)
+
+    def test_the_line_of_the_place_is_whole_and_others_are_cut(self) -> None:
+        file = self.write("a.py", f"{'x' * 500}\n{'y' * 500}\n")
+        (row,) = source_rows([ROW % (file, 1)])
+        self.assertEqual([len(row.lines[number]) for number in (1, 2)], [500, 160])
+
+    def test_no_more_is_kept_than_there_is_room_for(self) -> None:
+        small, large = self.write("a.py", "a\n"), self.write("b.py", "b" * (MOST_KEPT + 1) + "\n")
+        self.assertEqual([one.file for one in source_rows([ROW % (small, 1), ROW % (large, 1)])], [small])
+        self.assertEqual(list(source_rows([ROW % (self.write("c.py", "c\n" * (1 << 20)), 1), ROW % (str(self.folder), 1), ROW % ("no", 1)])), [])
+
+    def test_a_journal_with_sources_says_the_same(self) -> None:
+        file = self.write("a.py", "x = 1\n")
+        journal = self.write("journal", ROW % (file, 1) + END)
+        before = read_whole(Path(journal).read_text().splitlines(True))
+        add_sources(journal)
+        after = read_whole(Path(journal).read_text().splitlines(True))
+        self.assertEqual((after.rows, after.unseen, after.missing), (before.rows, [], []))
+        self.assertEqual(after.sources, (SourceText(file, {1: "x = 1"}),))
+
+    def test_a_journal_that_breaks_off_still_does(self) -> None:
+        file = self.write("a.py", "x = 1\n")
+        for text in (ROW % (file, 1), ROW % (file, 1) + '{"end"', END.replace("1", "2")):
+            journal = self.write("journal", text)
+            add_sources(journal)
+            self.assertTrue(read_whole(Path(journal).read_text().splitlines(True)).unseen, text)
+        cut = self.write("journal", ROW % (file, 1) + '{"event"')
+        add_sources(cut)
+        self.assertEqual(Path(cut).read_text(), ROW % (file, 1) + '{"event"')
+
+    def test_files_of_one_name_that_say_otherwise_are_left_out(self) -> None:
+        told = sources_of([SourceText("a.py", {1: "x"}), SourceText("a.py", {1: "x", 2: "y"}), SourceText("b.py", {1: "x"}), SourceText("b.py", {1: "y"})])
+        self.assertEqual(told.kept, {"a.py": {1: "x", 2: "y"}})
+
+    def test_a_line_that_is_none_is_told(self) -> None:
+        for line in ('{"source":"a.py"}\n', '{"source":"a.py","lines":[1]}\n', '{"source":"a.py","lines":{"x":"y"}}\n'):
+            self.assertIsNone(read_line(line), line)
+
+
+class Files(unittest.TestCase):
+    """Where a process of a system has its sources."""
+
+    def setUp(self) -> None:
+        self.folder = Path(self.enterContext(tempfile.TemporaryDirectory())).resolve()
+
+    def write(self, name: str) -> str:
+        (self.folder / name).parent.mkdir(parents=True, exist_ok=True)
+        (self.folder / name).write_text("")
+        return str(self.folder / name)
+
+    def test_each_language_names_its_files_otherwise(self) -> None:
+        of_python, of_rust, of_java = self.write("py/shop.py"), self.write("rs/src/main.rs"), self.write("java/shop/b/Store.java")
+        self.write("rs/target/debug/app")
+        self.write("java/one/Twice.java"), self.write("java/two/Twice.java"), self.write("java/target/Made.java")
+        for folder, command, file, due in (
+            ("py", "python3", "shop.py", of_python), ("py", "python3", of_python, of_python), ("py", "python3", "/no/such.py", None),
+            ("elsewhere", str(self.folder / "rs/target/debug/app"), "src/main.rs", of_rust), ("rs", "target/debug/app", "src/main.rs", of_rust),
+            ("java", "java", "Store.java", of_java), ("java", "java", "Twice.java", None), ("java", "java", "Made.java", None),
+            ("java", "java", "None.java", None),
+        ):
+            with self.subTest(file=file, folder=folder):
+                self.assertEqual(ProcessSources(described(self.folder / folder, command)).find(file), due)
+
+
+class Lists(unittest.TestCase):
+    def test_a_list_that_is_made_elsewhere_has_the_sources_and_the_identity(self) -> None:
+        with tempfile.TemporaryDirectory() as folder, tempfile.TemporaryDirectory() as away:
+            (Path(folder) / "py").mkdir()
+            Path(folder, "py", "shop.py").write_text(SELLING)
+            Path(folder, "shop.toml").write_text('export = "s"\n[process.shop]\ncommand = ["python3", "shop.py"]\ndirectory = "py"\n')
+            environment = {**os.environ, "PYTHONPATH": str(PACKAGE)}
+
+            def run(cwd: str, *words: str) -> "subprocess.CompletedProcess[str]":
+                return subprocess.run([sys.executable, "-m", "itc_trace", *words], capture_output=True, text=True, env=environment, cwd=cwd, timeout=600, check=False)
+
+            first = run(f"{folder}/py", "run", "--export", "../g", "shop.py").stderr
+            system = run("/", "system", f"{folder}/shop.toml").stderr
+            self.assertIn('    write at shop.py:4 in sell:  stock["left"] -= 1\n', system)
+            for name in ("g", "s"):
+                for end in ("", ".journal"):
+                    shutil.move(f"{folder}/{name}{end}", away)
+                listed = run(away, "races", name)
+                self.assertEqual((listed.returncode, listed.stderr), (66, ""))
+                self.assertEqual(listed.stdout, first if name == "g" else system)
+            Path(away, "shop.py").write_text("\n" * 9)
+            self.assertIn('  stock["left"] -= 1\n', run(away, "races", "g").stdout)
+
+
+if __name__ == "__main__":
+    unittest.main()
