@@ -7,7 +7,7 @@ import { hostileFiles } from "./hostile.mjs";
 import { looks } from "./looks.mjs";
 import { hostileText, names, opening, spoilt, spoiltPictures, versions } from "./opening.mjs";
 import { bigPages, spoiltStamps, stamps, unjoinedTasks, worker } from "./packing.mjs";
-import { ends, hostileRaces, races } from "./racing.mjs";
+import { deadlocks, ends, hostileRaces, races } from "./racing.mjs";
 import { why } from "./reasons.mjs";
 import { svg } from "./saving.mjs";
 import { broadcasts, busyTrace, lanes, shapes, topic, workedExport } from "./showing.mjs";
@@ -17,7 +17,7 @@ import { address, keyboard, labels, listsAndSearch, moving, tips } from "./using
 
 export const CHECKS = { "worked export": workedExport, shapes, "500 events": busyTrace, topic, broadcasts, lanes, "spoilt exports": spoilt,
   opening, versions, "spoilt pictures": spoiltPictures, names, "hostile text": hostileText, "lists and search": listsAndSearch, labels, keyboard,
-  address, moving, tips, races, "hostile races": hostileRaces, "hostile files": hostileFiles, ends, why, filters, stamps,
+  address, moving, tips, races, deadlocks, "hostile races": hostileRaces, "hostile files": hostileFiles, ends, why, filters, stamps,
   "spoilt stamps": spoiltStamps, worker, "big pages": bigPages, svg, beside, clocks, looks,
   "first race": firstRace, uncovered, "many tasks": manyTasks, words, whole, crowds, processes, keys, parts, breaks,
   "unjoined tasks": unjoinedTasks, frames, "16384 events": size };

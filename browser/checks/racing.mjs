@@ -57,6 +57,39 @@ export async function races(tab) {
   assert.ok((await tab.spokenButtons()).some((name) => name.startsWith("stock read shop.py:11, write shop.py:12 alice, bob")));
 }
 
+const lockSide = (event, task, kind, line) => ({ ...side(event, task, kind, line), kind });
+
+const DEADLOCKS = [race("one and other", [lockSide(4, "alice", "holds one", 10), lockSide(4, "alice", "wants other", 11),
+  lockSide(7, "bob", "holds other", 11), lockSide(7, "bob", "wants one", 12)],
+{ kind: "possible deadlock", possible: true, made: "made at shop.py:3", why: "nothing but locks orders them" }), RACES[0]];
+
+/** A deadlock is chosen at opening as a race is: its cycle, each line of source, and the acquisitions in the picture. */
+export async function deadlocks(tab) {
+  await opened(tab, pictureOfRaces("deadlocks", LOST_UPDATE, DEADLOCKS));
+  assert.equal(await text(tab, "#races h2"), "1 race, 1 possible deadlock");
+  assert.deepEqual([await chosen(tab), await text(tab, "#reason")], ["Possible deadlock on one and other", "Nothing but locks orders them."]);
+  const sides = await tab.run(() => [...document.querySelectorAll("#sides button")].map((button) => button.textContent));
+  assert.deepEqual(sides, ["alice holds one at shop.py:10 in buy: event\u00a04", "alice wants other at shop.py:11 in buy: event\u00a04",
+    "bob holds other at shop.py:11 in buy: event\u00a07", "bob wants one at shop.py:12 in buy: event\u00a07"]);
+  const sources = await tab.run(() => [...document.querySelectorAll("#chosen figure")].map((figure) => figure.querySelector("strong").textContent));
+  assert.deepEqual(sources, ["> 10  def buy(shop):", "> 11      left = shop.stock", "> 11      left = shop.stock", "> 12      shop.stock = left - 1"]);
+  await pairIsMarked(tab, [4, 7]);
+  assert.equal(await tab.run(() => page.labelInPicture(4)), "holds one, wants other");
+  assert.equal(await tab.run(() => page.labelInPicture(7)), "holds other, wants one");
+  const listed = await tab.run(() => document.querySelector("#races li button .quiet").textContent);
+  assert.equal(listed, "possible deadlock; alice, bob; once");
+  await tab.key("n");
+  assert.deepEqual([await chosen(tab), await text(tab, "#reason")], ["Race on stock", "Nothing orders them."]);
+  await tab.key("p");
+  assert.equal(await chosen(tab), "Possible deadlock on one and other");
+  const spoilt = [{ ...DEADLOCKS[0], sides: DEADLOCKS[0].sides.slice(1) }, { ...DEADLOCKS[0], sides: [] }, { ...RACES[0], sides: DEADLOCKS[0].sides },
+    { ...DEADLOCKS[0], sides: Array(17).fill(DEADLOCKS[0].sides).flat() }];
+  for (const one of spoilt) {
+    await tab.run((list) => page.openRaces(list), rows([one]));
+    assert.equal(await tab.run(() => page.races.length), 0);
+  }
+}
+
 const pressed = (tab) => tab.run(() =>
   [...document.querySelectorAll("#races li button")].map((button) => button.getAttribute("aria-pressed")));
 

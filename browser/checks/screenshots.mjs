@@ -70,6 +70,7 @@ function parts() {
 function traces() {
   const many = (tasks) => pictureOfAlike(`tasks_${tasks}_shot.html`, alike(tasks), ["--program", "server.py"]);
   return [["race", guide(), "", [...ALL, PHONE, README]], ["no_race", guide([], "none"), "", ALL], ["one_process", stored("shop", "shop.py"), "", ALL],
+    ["deadlock", stored("deadlock", "transfer.py"), "", ALL],
     ["three_processes", stored("day", "system.toml"), "", ALL], ["tasks_200", many(200), "", ALL], ["tasks_2000", many(2000), "", ALL],
     ["events_16384", pictureOf("greatest_shot.html", exportOf(greatest(seeded(3)))), "", ALL], ["parts", parts(), "", ALL],
     ["by_clock", stored("day", "system.toml"), "#time=clock", ALL],

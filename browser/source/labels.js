@@ -59,7 +59,7 @@ const WithLabels = (Base) => class extends Base {
   labelInPicture(event) {
     if (this.isOwn(event)) return "";
     const race = this.chosenRace(), side = race?.sides.find((one) => one.event === event && one.part === this.part);
-    if (side !== undefined) return `${side.kind} ${race.thing}`;
+    if (side !== undefined) return labelOfSide(race, side);
     const touch = this.racingTouches.get(event), { lines = [] } = this.labels.get(event) ?? {};
     if (touch !== undefined || lines.length === 0) return touch ?? "";
     const others = new Set(lines.map(({ words }) => words)).size - 1;

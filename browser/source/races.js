@@ -1,5 +1,6 @@
 // Reading races
 
+const DEADLOCKS = ["deadlock", "possible deadlock"], MOST_SIDES = 32;
 const KINDS_IN_WORDS = { read: "reads", write: "writes", lookup: "looks up in", replacement: "replaces an entry of", making: "makes" };
 
 /** A touch of a race, or null. One of a run in parts says in which part. */
@@ -10,18 +11,40 @@ function sideOf(side) {
   return areTexts && areNumbers && side.text.length <= MOST_SOURCE ? { ...side, part } : null;
 }
 
-/** The race that a row tells of, or null. */
+/** Whether so many lines belong to it: two of a race, and two of each task of a deadlock, which holds one lock and wants another. */
+function isCountOfSides(isDeadlock, count) {
+  return isDeadlock ? count % 2 === 0 && count >= 2 && count <= MOST_SIDES : count === 2;
+}
+
+/** The race or the deadlock that a row tells of, or null. `pair` has the two sides that the picture joins. */
 function raceOf(row) {
-  if (row === null || !Array.isArray(row.sides) || row.sides.length !== 2) return null;
+  if (row === null || !Array.isArray(row.sides)) return null;
+  const isDeadlock = DEADLOCKS.includes(row.kind);
+  if (!isCountOfSides(isDeadlock, row.sides.length)) return null;
   const sides = row.sides.map(sideOf), areTexts = [row.thing, row.made, row.why].every((text) => typeof text === "string");
   if (sides.includes(null) || !areTexts || !Number.isInteger(row.times)) return null;
-  return { thing: row.thing, made: row.made, why: row.why, times: row.times, isPossible: row.possible === true, sides };
+  const { thing, made, why, times } = row, pair = [sides[0], sides.at(-1)];
+  return { thing, made, why, times, isPossible: row.possible === true, isDeadlock, sides, pair };
 }
+
+/** What it is, in words. */
+const nameOfRace = ({ isDeadlock, isPossible }) => `${isPossible ? "possible " : ""}${isDeadlock ? "deadlock" : "race"}`;
+
+const capital = (words) => `${words.slice(0, 1).toUpperCase()}${words.slice(1)}`;
 
 /** What the first line of a list of races says of all of it, or null: how many there are, and why more may not have been seen. */
 function headOfRaces(row) {
   if (row === null || !Number.isInteger(row.races) || !Number.isInteger(row.possible) || !Array.isArray(row.unseen)) return null;
   return { unseen: row.unseen.filter((why) => typeof why === "string") };
+}
+
+/** Whether the side tells of a lock: what it holds or wants stands in its kind. */
+const isLockSide = ({ kind }) => /^(holds|wants) /.test(kind);
+
+/** What the picture writes beside the event of a side. A task of a deadlock holds one lock there, and wants another. */
+function labelOfSide(race, side) {
+  if (!race.isDeadlock) return `${side.kind} ${race.thing}`;
+  return race.sides.filter(({ task, event, part }) => task === side.task && event === side.event && part === side.part).map(({ kind }) => kind).join(", ");
 }
 
 const timesOf = ({ times }) => times === 1 ? "once" : `${times} times`;

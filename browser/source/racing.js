@@ -23,9 +23,10 @@ const Racing = (Base) => class extends Base {
   racing() {
     const { view } = this;
     this.racingTouches = new Map();
-    for (const { thing, sides } of this.races) {
-      for (const { event, kind, part } of sides) {
-        if (part === this.part && !this.racingTouches.has(event)) this.racingTouches.set(event, `${kind} ${thing}`);
+    for (const race of this.races) {
+      for (const side of race.sides) {
+        const { event, part } = side;
+        if (part === this.part && !this.racingTouches.has(event)) this.racingTouches.set(event, labelOfSide(race, side));
       }
     }
     view.racing = new Set(this.racingTouches.keys());
@@ -34,7 +35,7 @@ const Racing = (Base) => class extends Base {
   /** The race whose two events are chosen, if there is one. */
   chosenRace() {
     const { chosen, other } = this.view, isChosen = (side, event) => side.event === event && side.part === this.part;
-    const isIt = ({ sides: [one, two] }) => {
+    const isIt = ({ pair: [one, two] }) => {
       if (one.part !== two.part) return other === 0 && (isChosen(one, chosen) || isChosen(two, chosen));
       return (isChosen(one, chosen) && isChosen(two, other)) || (isChosen(two, chosen) && isChosen(one, other));
     };
@@ -44,7 +45,7 @@ const Racing = (Base) => class extends Base {
 
   /** Chooses both events of a race, or the one that is in this part. A race of another part opens that. */
   chooseRace(place, writes = true) {
-    const { view } = this, race = this.races[place], here = race.sides.filter(({ part }) => part === this.part);
+    const { view } = this, race = this.races[place], here = race.pair.filter(({ part }) => part === this.part);
     this.racePlace = place;
     if (here.length === 0) {
       this.openPart(race.sides.at(-1).part, () => this.chooseRace(place));
@@ -70,8 +71,11 @@ const Racing = (Base) => class extends Base {
 
   /** How many races there are, in words: nothing is said of a trace of which nobody has looked for races. */
   racesInWords() {
-    const { races, headOfRaces: head } = this, sure = races.filter(({ isPossible }) => !isPossible).length, possible = races.length - sure;
-    const counts = [...sure > 0 ? [counted(sure, "race")] : [], ...possible > 0 ? [counted(possible, "possible race")] : []].join(", ");
+    const { races, headOfRaces: head } = this, names = ["race", "deadlock", "possible race", "possible deadlock"];
+    const counts = names.flatMap((name) => {
+      const count = races.filter((race) => nameOfRace(race) === name).length;
+      return count > 0 ? [counted(count, name)] : [];
+    }).join(", ");
     if (counts !== "" || head === null) return counts;
     return head.unseen.length > 0 ? "Incomplete, no race seen" : "No race in this run";
   }
@@ -95,11 +99,11 @@ const Racing = (Base) => class extends Base {
   }
 
   raceButton(race, place) {
-    const { sides } = race, [one, other] = sides, parts = new Set(sides.map(({ part }) => part));
+    const { sides } = race, [one, other] = race.pair, tasks = [...new Set(sides.map(({ task }) => task))], parts = new Set(sides.map(({ part }) => part));
     const where = this.partCount > 1 ? `; part ${[...parts].join(" and ")}` : "";
-    const line = isOneLine(sides) ? `${one.kind}, ${other.kind} ${placeIn(one)}` : sides.map((side) => `${side.kind} ${placeIn({ ...side, function: "" })}`).join(", ");
+    const line = !race.isDeadlock && isOneLine(sides) ? `${one.kind}, ${other.kind} ${placeIn(one)}` : sides.map((side) => `${side.kind} ${placeIn({ ...side, function: "" })}`).join(", ");
     const button = element("button", { type: "button" }, element("strong", {}, race.thing), element("span", {}, line),
-      element("span", { className: "quiet" }, `${race.isPossible ? "possible; " : ""}${one.task}, ${other.task}; ${timesOf(race)}${where}`));
+      element("span", { className: "quiet" }, `${race.isDeadlock ? `${nameOfRace(race)}; ` : race.isPossible ? "possible; " : ""}${tasks.join(", ")}; ${timesOf(race)}${where}`));
     button.dataset.race = place;
     button.setAttribute("aria-pressed", "false");
     return button;
@@ -107,24 +111,23 @@ const Racing = (Base) => class extends Base {
 
   /** Says which race it is, and first why. */
   describeRace(section, race) {
-    const { thing, made, why, sides, isPossible } = race;
-    section.append(element("h2", {}, `${isPossible ? "Possible race" : "Race"} on ${thing}`),
-      element("p", { id: "reason" }, `${why.slice(0, 1).toUpperCase()}${why.slice(1)}.`),
+    const { thing, made, why, sides } = race;
+    section.append(element("h2", {}, `${capital(nameOfRace(race))} on ${thing}`), element("p", { id: "reason" }, `${capital(why)}.`),
       element("ul", { id: "sides" }, ...sides.map((side) => element("li", {}, this.sideButton(side)))),
       element("p", { className: "quiet" }, `Seen ${timesOf(race)}${made === "" ? "" : `, on ${made}`}`));
   }
 
   sideButton(side) {
     const where = side.part === this.part ? "" : ` (part ${side.part})`;
-    const words = `${side.task} ${KINDS_IN_WORDS[side.kind] ?? side.kind} ${placeIn(side)}: event\u00a0${side.event}${where}`;
+    const words = `${side.task} ${KINDS_IN_WORDS[side.kind] ?? side.kind} ${isLockSide(side) ? "at " : ""}${placeIn(side)}: event\u00a0${side.event}${where}`;
     const button = element("button", { type: "button" }, words);
     if (side.part === this.part) button.dataset.event = side.event;
     else Object.assign(button.dataset, { part: side.part, eventThere: side.event });
     return button;
   }
 
-  describeSource(section, { sides }) {
-    if (isOneLine(sides)) section.append(sourceOf(sides));
+  describeSource(section, { sides, isDeadlock }) {
+    if (!isDeadlock && isOneLine(sides)) section.append(sourceOf(sides));
     else for (const side of sides) section.append(sourceOf([side]));
   }
 

@@ -11,7 +11,9 @@ from __future__ import annotations
 import ast
 import contextlib
 import os
+import signal
 import sys
+import threading
 import weakref
 from collections.abc import Generator, Iterator
 from types import ModuleType
@@ -27,6 +29,7 @@ from .analyse.benign import Looking, read_patterns
 from .cli.reporting import STANDARD_OUTPUT, Wanted, deliver
 from .cli.saying import say
 from .cli.settings import FILE, Settings, read_settings
+from .processes.hanging import limited
 from .record.collector import Collector
 from .record.faults import Fault
 from .report.as_json import as_object, report_of_object
@@ -39,6 +42,7 @@ from .api.tracing import Tracing
 from .watch import doctests
 
 MARK = "races"
+TIMEOUT = "--races-timeout"
 FAIL_ON, RACE, POSSIBLE = "--races-fail-on", "race", "possible"
 FILES = {
     "--races-baseline": "races that are known: fail on others only",
@@ -148,6 +152,9 @@ def pytest_addoption(parser: pytest.Parser) -> None:
     for option, told in FILES.items():
         group.addoption(option, metavar="FILE", help=told)
     group.addoption("--races-github", action="store_true", help="write annotations of GitHub behind the summary")
+    group.addoption(
+        TIMEOUT, type=float, metavar="S", help="fail a traced test after S seconds, with what each task waits for",
+    )
 
 
 def pytest_configure(config: pytest.Config) -> None:
@@ -266,8 +273,24 @@ def pytest_runtest_setup(item: pytest.Item) -> Generator[None, Any, None]:
 
 @pytest.hookimpl(hookwrapper=True, trylast=True)  # type: ignore[misc]
 def pytest_runtest_call(item: pytest.Item) -> Generator[None, Any, None]:
-    with _with_its_lines_watched(item):
+    with _with_its_lines_watched(item), _within_its_time(item):
         yield
+
+
+@contextlib.contextmanager
+def _within_its_time(item: pytest.Item) -> Iterator[None]:
+    """A traced test that takes longer than it may fails by what each of its tasks waits for."""
+    seconds = item.config.getoption(TIMEOUT)
+    is_limited = seconds is not None and _is_marked(item) and threading.current_thread() is threading.main_thread()
+    if is_limited and hasattr(signal, "SIGALRM"):
+        with limited(seconds, _fail_by):
+            yield
+    else:
+        yield
+
+
+def _fail_by(lines: list[str]) -> None:
+    pytest.fail("\n".join(lines), pytrace=False)
 
 
 @contextlib.contextmanager

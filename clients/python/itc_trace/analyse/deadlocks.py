@@ -19,7 +19,7 @@ from typing import Any, NamedTuple
 
 from ..model.finding import DEADLOCK, POSSIBLE_DEADLOCK, Finding, FoundSide
 from ..model.sources import Sources
-from ..record.journal import Row
+from ..record.journal import DeadlockTold, Row
 from ..session import Refused
 from .bit_matrix import transposed
 from .trace import Events, Trace, lock_events
@@ -159,6 +159,27 @@ class Pattern(NamedTuple):
 
 Found = dict[Pattern, dict[str, Events]]
 """The acquisitions of each pattern: by task, the events at which it was about to wait."""
+
+
+def deadlocks_told(told: Iterable[DeadlockTold], rows: Iterable[Row]) -> list[Deadlock]:
+    """Those that have been, as the program's process has told them.
+
+    A task waits behind its last event. One that has none is shown where it was started.
+    """
+    told = list(told)
+    last = {name: row for row in rows for name in (row.of, row.task)} if told else {}
+    listed: dict[object, Deadlock] = {}
+    for one in told:
+        steps = []
+        for step in one.steps:
+            task = str(step["task"])
+            event, part = (last[task].event, last[task].part) if task in last else (1, 1)
+            steps.append(Step(
+                task, str(step["holds"]), Place(*step["held_at"]), str(step["wants"]), Place(*step["wanted_at"]), event,
+                part,
+            ))
+        add_deadlock(Deadlock(tuple(steps), is_possible=False), listed)
+    return in_order(listed)
 
 
 def acquisitions_of(rows: Iterable[Row], signals: frozenset[str] = frozenset()) -> Found:

@@ -13,13 +13,15 @@ from typing import IO, Any
 
 from .across_parts import AcrossParts, Pairing
 from .benign import Looking
-from .deadlocks import add_deadlock, acquisitions_of
+from .deadlocks import acquisitions_of, add_deadlock, deadlocks_told
 from .deadlocks import in_order as deadlocks_in_order
 from .deadlocks_of_parts import DeadlocksOfParts
 from ..record.collector import Collector, NoCollector
 from ..model.conflicts import MAKING
 from ..record.dividing import Border, Report
-from ..record.journal import BORDER, Begun, Children, ChildTold, Count, End, Row, SignalTold, SourceText, read_line
+from ..record.journal import (
+    BORDER, Begun, Children, ChildTold, Count, DeadlockTold, End, Row, SignalTold, SourceText, read_line,
+)
 from .kept_sources import sources_of
 from ..model.lock_identity import ANSWER, REQUEST
 from .progress import Bar, Shown
@@ -218,12 +220,14 @@ def races_of_parts(
     with tempfile.TemporaryDirectory(prefix="itc_trace_") as folder:
         divided = _Divided(journal, folder)
         found = Races(
-            unseen=divided.unseen, passed_over=divided.passed_over, sources=sources_of(divided.sources),
+            deadlocks=deadlocks_told(divided.deadlocks, divided.all_rows()), unseen=divided.unseen,
+            passed_over=divided.passed_over, sources=sources_of(divided.sources),
         )
         try:
             keep = None if export is None else _Exports(export, divided).keep
-            parts, signals = divided.parts(found, last), frozenset(divided.signals)
-            find_in_parts(parts, found, looking.strict, collected, bar, keep, signals)
+            find_in_parts(
+                divided.parts(found, last), found, looking.strict, collected, bar, keep, frozenset(divided.signals),
+            )
         except (NoCollector, OSError, Refused) as fault:
             found.unseen.append(Unseen(Cause.COLLECTOR, f"the collector does not tell the order of events ({fault})"))
         all_found = [*found.races, *found.possible]
@@ -262,6 +266,7 @@ class _Divided:
         self.passed_over: list[PassedOver] = []
         self.signals: set[str] = set()
         self.sources: list[SourceText] = []
+        self.deadlocks: list[DeadlockTold] = []
         children = Children()
         count = Count()
         with contextlib.closing(_Files(self.file)) as files, open(journal, encoding="utf-8", errors="replace") as lines:
@@ -282,6 +287,8 @@ class _Divided:
                     self._borders[read.part] = read.border
                 elif isinstance(read, PassedOver):
                     self.passed_over.append(read)
+                elif isinstance(read, DeadlockTold):
+                    self.deadlocks.append(read)
                 elif isinstance(read, SignalTold):
                     self.signals.add(read.lock)
                 elif not isinstance(read, End):
@@ -298,6 +305,10 @@ class _Divided:
                 return [row for line in lines if isinstance(row := read_line(line), Row)]
         except FileNotFoundError:
             return []  # It has no event.
+
+    def all_rows(self) -> Iterator[Row]:
+        for part in range(1, max(self._borders, default=1) + 1):
+            yield from self.rows(part)
 
     def parts(self, found: Races, last: tuple[str, int] | None) -> Iterator[Part]:
         """The parts, of which one is in memory at a time with the one behind it. What they have is counted."""

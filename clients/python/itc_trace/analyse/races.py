@@ -18,7 +18,7 @@ from typing import Protocol
 from ..record.collector import HOST, NoCollector
 from ..model.conflicts import CONFLICTING, MAKING, WRITE
 from ..model.finding import POSSIBLE_RACE, RACE, Finding, FoundSide, Story
-from .deadlocks import Deadlock, TooMany, acquisitions_of, find_deadlocks, has_cycle
+from .deadlocks import Deadlock, TooMany, acquisitions_of, deadlocks_told, find_deadlocks, has_cycle
 from .fast_track import deciding_pairs
 from .looks import looks_of
 from ..record.journal import Row, read_whole
@@ -201,7 +201,8 @@ def find_races(
     rows = sorted(dict.fromkeys(whole.rows), key=lambda row: row.event)
     touches = [row for row in rows if row.is_touch and row.kind != MAKING]
     found = Races(
-        unseen=whole.unseen, passed_over=whole.passed_over, touches=len(touches),
+        deadlocks=deadlocks_told(whole.deadlocks, rows), unseen=whole.unseen, passed_over=whole.passed_over,
+        touches=len(touches),
         events=len({row.event for row in rows}),
     )
     found.sources = sources_of(whole.sources)
@@ -275,7 +276,9 @@ class _Finder:
         if not has_cycle(acquisitions_of(self._rows, signals)):
             return
         try:
-            self._found.possible_deadlocks = find_deadlocks(self._rows, signals, self._trace)
+            been = {deadlock.key for deadlock in self._found.deadlocks}
+            found = find_deadlocks(self._rows, signals, self._trace)
+            self._found.possible_deadlocks = [deadlock for deadlock in found if deadlock.key not in been]
         except TooMany:
             self._found.passed_over.append(cycles_passed_over(self._rows))
         except (NoCollector, Refused, OSError) as fault:

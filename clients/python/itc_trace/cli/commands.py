@@ -70,7 +70,8 @@ def _run(words: argparse.Namespace, program: list[str]) -> int:
         program, words.port, words.tenant, words.process, words.export, words.journal, words.picture, _host(words),
         quiet=words.quiet, fail_on_possible=words.fail_on == "possible", runs=words.runs, is_shaken=not words.no_shake,
         seed=random.SystemRandom().randrange(MOST_SEED) if words.shake == NEW_SEED else words.shake,
-        part_events=words.part_events, status_file=words.status_file,
+        part_events=words.part_events, timeout=words.timeout, is_confirmed=words.confirm,
+        status_file=words.status_file,
         watched=None if words.watch_nothing else words.watch or [], excluded=words.exclude or [],
         looking=words.looking, inputs=_read(words), baseline=words.write_baseline, wanted=words.wanted,
     ))
@@ -141,7 +142,9 @@ def _system(words: argparse.Namespace) -> int:
         ("--write-baseline", words.write_baseline), *words.wanted.outputs(),
     )
     check_outputs(outputs, [(words.file, words.file), *_read(words)])
-    return run_system(system, words.looking, words.fail_on == "possible", words.status_file, words.wanted)
+    return run_system(
+        system, words.looking, words.fail_on == "possible", words.status_file, words.wanted, words.timeout,
+    )
 
 
 def _races(words: argparse.Namespace) -> int:

@@ -6,12 +6,19 @@ import contextlib
 import os
 import signal
 import subprocess
+import time
 from collections.abc import Iterator
 from pathlib import Path
 from types import FrameType
 
+from .asking import Asking
 from .sentinel import Sentinel
 
+LOOK_AGAIN = 0.02
+BEGINNING_SECONDS = 60.0
+"""So long it takes at most until the program begins, from when on its time counts."""
+GRACE_SECONDS = 5.0
+"""So long a program that is ended after its time has to report what was noted."""
 SIGNALS = [getattr(signal, name) for name in ("SIGTERM", "SIGHUP") if hasattr(signal, name)]
 
 _asked: list[int] = []
@@ -60,26 +67,64 @@ class Child:
     One that was sent to the whole group is not: the program has it already.
     """
 
-    def __init__(self, words: list[str], environment: dict[str, str], told: str) -> None:
+    def __init__(
+        self, words: list[str], environment: dict[str, str], told: str, asked: str, timeout: float | None = None,
+    ) -> None:
+        """With a limit of seconds it is asked then what it waits for, and ended."""
         self._told = Path(told)
+        self._asking = Asking(asked)
+        self.is_timed_out = False
         self._process: subprocess.Popen[bytes] | None = None
         self._sentinel = Sentinel()
         before = {
             number: signal.signal(number, self._end) for number in SIGNALS if signal.getsignal(number) == _end_here
         }
+        quitting = getattr(signal, "SIGQUIT", None)
+        if quitting is not None and signal.getsignal(quitting) == signal.SIG_DFL:
+            before[quitting] = signal.signal(quitting, self._ask)
         self._process = subprocess.Popen(words, env=environment)
         # The program is told of it too, and decides.
         before[signal.SIGINT] = signal.signal(signal.SIGINT, signal.SIG_IGN)
         try:
             if _asked:
                 self._end(_asked[-1], None)
-            status = self._process.wait()
+            status = self._wait(self._process, timeout)
         finally:
             for number, handler in before.items():
                 signal.signal(number, handler)
             self._sentinel.close()
         self.signal_name = name_of(-status) if status < 0 else ""
         self.status = status if status >= 0 else 128 - status
+
+    def _wait(self, process: subprocess.Popen[bytes], timeout: float | None) -> int:
+        if timeout is None:
+            return process.wait()
+        begun = time.monotonic()
+        while not self._asking.has_begun and time.monotonic() - begun < BEGINNING_SECONDS:
+            with contextlib.suppress(subprocess.TimeoutExpired):
+                return process.wait(LOOK_AGAIN)
+        try:
+            return process.wait(timeout)
+        except subprocess.TimeoutExpired:
+            self.is_timed_out = True
+        self._asking.ask(process.pid)
+        process.terminate()
+        try:
+            return process.wait(GRACE_SECONDS)
+        except subprocess.TimeoutExpired:
+            process.kill()
+        return process.wait()
+
+    def _ask(self, number: int, _: FrameType | None) -> None:
+        """Hands on that somebody asks what the program waits for, unless it was asked itself."""
+        process = self._process
+        if process is None:
+            return
+        is_of_group = self._sentinel.has(number)
+        if is_of_group:
+            self._sentinel.close()
+            self._sentinel = Sentinel()
+        self._asking.ask_beside(lambda: process.pid, not is_of_group)
 
     def _end(self, number: int, frame: FrameType | None) -> None:
         if frame is not None:

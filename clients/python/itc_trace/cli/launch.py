@@ -23,9 +23,12 @@ from .. import watch
 from ..record.dividing import LEAVE
 from ..record.faults import WORDS_REFUSED
 from ..model.file_names import call
+from ..model.verdict import Verdict
 from ..record.following import ChildProcess
 from ..own_path import leave_to_program
+from ..processes.hanging import Hanging
 from ..processes.part_collectors import SHARED, ask_for_port
+from ..sync.confirming import Confirming
 from ..sync.shaking import Shaking
 from ..sync.tracebacks import leave_out_of
 from ..record.tracer_parts import Parts
@@ -43,6 +46,8 @@ def main() -> None:
     tell = partial(Path(configuration.pop("told")).write_text, encoding="ascii")
     seed = configuration.pop("seed")
     child = configuration.pop("child", None)
+    asked = configuration.pop("asked", None)
+    cycles = configuration.pop("confirm", None)
     words = sys.argv[2:]
     packages = configuration.pop("watched")
     asked_at, events = configuration.pop("parts", (None, None))
@@ -59,6 +64,10 @@ def main() -> None:
     except OSError as fault:  # Another session reports, say.
         _refuse(tell, str(fault))
     Ending(traced).begin(folders, packages)
+    if asked is not None:
+        Hanging(asked, traced.write, None if cycles is None else _break_off).begin()
+    if cycles is not None:
+        Confirming(cycles).begin()
     try:
         error = _error_of(_run_module if words[0] == "-m" else _run_file, words)
     except _NotRun as fault:
@@ -87,6 +96,11 @@ def _refuse(tell: Callable[[str], object], text: str) -> NoReturn:
     if sys.stderr is not None:
         print(f"itc_trace: {text}", file=sys.stderr)
     sys.exit(WORDS_REFUSED)
+
+
+def _break_off() -> None:
+    """A deadlock is there: nothing more of the program is to be seen."""
+    os._exit(Verdict.RACES)
 
 
 def _parts(asked_at: int, events: int) -> Parts:

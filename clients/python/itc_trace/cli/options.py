@@ -2,6 +2,8 @@
 
 from __future__ import annotations
 
+import argparse
+
 from ..record.collector import HOST
 from ..record.dividing import LEAVE
 from ..record.environment import OWN_TENANT
@@ -13,6 +15,7 @@ from .table import COMMANDS
 NEW_SEED = -1
 LEAST_PART = 100
 MOST_SHOWN = 1_000_000
+MOST_SECONDS = 1_000_000.0
 
 
 def parser(called: str) -> Parser:
@@ -29,9 +32,15 @@ def _add_system(parser: Parser) -> None:
     parser.add_argument("file", type=file, metavar="FILE", help="the TOML file that describes them")
     _add_file(parser, "--export", "keep the trace there, and its journal beside it")
     _add_file(parser, "--picture", "draw the trace there")
+    _add_timeout(parser, "the system")
     _add_status_file(parser)
     _add_fail_on(parser)
     _add_looking(parser)
+
+
+def _add_timeout(parser: Parser, ended: str) -> None:
+    parser.add_argument("--timeout", type=_seconds, metavar="S",
+                        help=f"after S seconds tell what each task waits for, and end {ended}")
 
 
 def _add_races(parser: Parser) -> None:
@@ -131,6 +140,9 @@ def _add_run(parser: Parser) -> None:
     shaking.add_argument("--no-shake", action="store_true", help="leave the schedule of each run as it is")
     parser.add_argument("--part-events", type=_part_events, default=LEAVE.events, metavar="N",
                         help=f"begin a new part of the trace after N events ({LEAVE.events})")
+    parser.add_argument("--confirm", action="store_true",
+                        help="try possible deadlocks in a further run, which a deadlock ends")
+    _add_timeout(parser, "the program")
     parser.add_argument("--quiet", action="store_true", help="write nothing where there is no race")
     watching = parser.add_mutually_exclusive_group()
     watching.add_argument("--watch", type=name, metavar="PACKAGE", action="append",
@@ -151,6 +163,16 @@ def _most(word: str) -> int:
 
 def _runs(word: str) -> int:
     return number(word, 1, MOST_RUNS)
+
+
+def _seconds(word: str) -> float:
+    try:
+        seconds = float(word)
+    except ValueError:
+        seconds = 0.0
+    if not 0 < seconds <= MOST_SECONDS:
+        raise argparse.ArgumentTypeError(f"{word!r} is no number of seconds from above 0 to {MOST_SECONDS:g}")
+    return seconds
 
 
 def _part_events(word: str) -> int:

@@ -81,6 +81,12 @@ class Run:
     """The files that are read for the list of races, each with the word for it."""
     baseline: str | None = None
     """Where the races that were found are written, to be known."""
+    is_confirmed: bool = False
+    """Whether possible deadlocks are tried in a further run."""
+    cycles: list[list[tuple[str, str]]] | None = None
+    """The steps of those that this run tries."""
+    timeout: float | None = None
+    """After so many seconds it is told what the program waits for, and the program is ended."""
     status_file: str | None = None
     """Where the verdict and the program's status are written apart."""
     wanted: Wanted = field(default_factory=Wanted)
@@ -174,12 +180,34 @@ def _run_once(asked: Run, seed: int | None) -> int:
     outcome = _outcome(asked, seed)
     if outcome is None:
         return WORDS_REFUSED
+    if asked.is_confirmed and outcome.races.possible_deadlocks:
+        _confirm(asked, outcome.races)
     report = report_of(outcome.races, asked.looking, asked.fail_on_possible, outcome.picture)
     is_delivered = _tell(asked, report, outcome.status)
     is_untouched = asked.watched is None and _is_untouched(outcome.races) and not outcome.has_raised
     if is_untouched and _is_told(asked, report, outcome.status):
         say(UNTOUCHED)
     return _kept(asked, report, outcome.status, is_delivered)
+
+
+def _confirm(asked: Run, found: Races) -> None:
+    """Runs the program again, and has each task wait before its inner lock. What came of it is told."""
+    cycles = [[one.places for one in deadlock.steps] for deadlock in found.possible_deadlocks]
+    if not asked.quiet:
+        say("itc_trace: --confirm runs the program again, and holds its tasks before their inner locks")
+    tried = replace(
+        asked, export=None, journal=None, picture=None, status_file=None, cycles=cycles, timeout=asked.timeout,
+        looking=Looking(asked.looking.strict),
+    )
+    outcome = _outcome(tried, None)
+    keys = set() if outcome is None else {deadlock.key for deadlock in outcome.races.deadlocks}
+    for deadlock in [one for one in found.possible_deadlocks if one.key in keys]:
+        found.possible_deadlocks.remove(deadlock)
+        deadlock.is_possible = False
+        found.deadlocks.append(deadlock)
+    if found.possible_deadlocks and not asked.quiet:
+        count = len(found.possible_deadlocks)
+        say(f"itc_trace: --confirm: {count} possible deadlock{'' if count == 1 else 's'} did not come about")
 
 
 def _is_told(asked: Run, report: Report, status: int) -> bool:
@@ -233,7 +261,7 @@ def _outcome(asked: Run, seed: int | None) -> Outcome | None:
     with tempfile.TemporaryDirectory(prefix="itc_trace_") as work, _collectors(asked) as collectors:
         journal = asked.journal or (f"{asked.export}.journal" if asked.export else os.path.join(work, "journal"))
         Path(journal).write_bytes(b"")
-        child = _run_program(asked, collectors, journal, os.path.join(work, "told"), seed)
+        child = _run_program(asked, collectors, journal, os.path.join(work, "told"), os.path.join(work, "asked"), seed)
         if child.told == REFUSED:
             return None
         number = number_of_parts(journal) if collectors is not None and os.path.exists(journal) else 1
@@ -249,7 +277,12 @@ def _outcome(asked: Run, seed: int | None) -> Outcome | None:
         races.passed_over += [PassedOver("files", pattern) for pattern in asked.excluded]
         if (asked.journal or asked.export) and os.path.exists(journal):
             add_sources(journal)
-        if child.signal_name and not _is_killed(races):
+        if child.is_timed_out:
+            races.unseen = [
+                Unseen(Cause.KILLED, f"the program was ended after {asked.timeout:g} s"),
+                *(one for one in races.unseen if one != BREAKS_OFF and one.cause is not Cause.KILLED),
+            ]
+        elif child.signal_name and not _is_killed(races):
             killed = Unseen(Cause.KILLED, f"the program was ended by {child.signal_name}")
             races.unseen = [killed, *(one for one in races.unseen if one != BREAKS_OFF)]
         if is_divided:
@@ -285,18 +318,20 @@ def _port(asked: Run, collectors: PartCollectors | None, part: int = 1) -> int:
     return collectors.port_of(part) if collectors is not None else asked.port or 0
 
 
-def _run_program(asked: Run, collectors: PartCollectors | None, journal: str, told: str, seed: int | None) -> Child:
+def _run_program(
+    asked: Run, collectors: PartCollectors | None, journal: str, told: str, asked_by: str, seed: int | None,
+) -> Child:
     configuration = {
         "port": _port(asked, collectors), "tenant": asked.tenant, "journal": os.path.abspath(journal),
         "process": asked.process, "host": asked.host,
         "watched": None if asked.watched is None else [*asked.watched, *map(excluding, asked.excluded)],
-        "told": told, "seed": seed,
+        "told": told, "seed": seed, "asked": asked_by, "confirm": asked.cycles,
         "parts": (None if collectors is None or asked.process is not None else collectors.asked_at, asked.part_events),
     }
     words = [
         sys.executable, *options_of_interpreter(), "-m", "itc_trace.cli.launch", json.dumps(configuration), *asked.words
     ]
-    return Child(words, environment_of_package(), told)
+    return Child(words, environment_of_package(), told, asked_by, asked.timeout)
 
 
 def options_of_interpreter() -> list[str]:

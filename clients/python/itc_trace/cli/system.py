@@ -38,6 +38,7 @@ from ..report.report import report_of
 from ..report.style import style_of
 from ..report.text import text
 from ..session import Refused
+from .asking import Asking
 from .ending import name_of
 from .launch import REFUSED
 from .process_sources import ProcessSources
@@ -119,6 +120,10 @@ class Process:
             reader.join(1)  # A process that it left behind may hold its output open.
         self._told.put(self)
 
+    @property
+    def pid(self) -> int:
+        return self._process.pid
+
     def is_ready(self) -> bool:
         """Whether it has written the line, or listens at the port, that those who come after it wait for."""
         if self.described.port is not None:
@@ -142,8 +147,11 @@ class Process:
 class Running:
     """A system that runs: its processes, and what of it was not seen."""
 
-    def __init__(self, system: System, port: int, folder: str) -> None:
+    def __init__(self, system: System, port: int, folder: str, timeout: float | None = None) -> None:
         self._system = system
+        self._timeout = timeout
+        self._askings: dict[str, Asking] = {}
+        """By the name of a process of Python that is traced."""
         self._port = port
         self._folder = folder
         self._told: SimpleQueue[Any] = SimpleQueue()
@@ -156,7 +164,7 @@ class Running:
 
     def run(self) -> None:
         """Starts the processes in order, and returns once all have ended."""
-        with self._heeding_signals():
+        with self._heeding_signals(), self._limited():
             try:
                 for described in self._system.in_order():
                     if self._is_ending or not self._are_ready(described.after):
@@ -241,8 +249,12 @@ class Running:
         configuration = {
             "port": said.port, "tenant": said.tenant, "journal": said.journal, "process": said.process, "host": HOST,
             "watched": described.watched, "told": self._told_by(described.name), "seed": None,
+            "asked": self._asking(described.name).asked,
         }
         return [*words[:place], "-m", "itc_trace.cli.launch", json.dumps(configuration), *words[place:]]
+
+    def _asking(self, name: str) -> Asking:
+        return self._askings.setdefault(name, Asking(os.path.join(self._folder, f"{name}.asked")))
 
     def _told_by(self, name: str) -> str:
         return os.path.join(self._folder, f"{name}.told")
@@ -326,8 +338,42 @@ class Running:
             process.end(signal.SIGKILL)
 
     @contextlib.contextmanager
+    def _limited(self) -> Iterator[None]:
+        """Within the block the system is ended after its time, if it has a limit."""
+        if self._timeout is None:
+            yield
+            return
+        timer = threading.Timer(self._timeout, self._time_out)
+        timer.daemon = True
+        timer.start()
+        try:
+            yield
+        finally:
+            timer.cancel()
+
+    def _time_out(self) -> None:
+        if not self._is_ending:
+            self._ask_all()
+            self._miss(Cause.KILLED, f"this system was ended after {self._timeout:g} s")
+            self._end_all()
+            self._told.put(None)
+
+    def _ask_all(self) -> None:
+        """Asks each process that runs what its tasks wait for."""
+        for process in self.processes:
+            asking = self._askings.get(process.name)
+            if process.is_running and asking is not None:
+                asking.ask(process.pid)
+            elif process.is_running:
+                _write_line(f"itc_trace: what process {process.name} waits for is not known", sys.stderr)
+
+    @contextlib.contextmanager
     def _heeding_signals(self) -> Iterator[None]:
         before = {number: signal.signal(number, self._asked_to_end) for number in SIGNALS}
+        if hasattr(signal, "SIGQUIT"):
+            before[signal.SIGQUIT] = signal.signal(
+                signal.SIGQUIT, lambda *_: threading.Thread(target=self._ask_all, daemon=True).start(),
+            )
         try:
             yield
         finally:
@@ -385,14 +431,14 @@ ENDED_AS_A_SERVICE = Unseen(Cause.KILLED, "the program was ended by SIGTERM").ro
 
 def run_system(
     system: System, looking: Looking, fail_on_possible: bool = False, status_file: str | None = None,
-    wanted: Wanted | None = None,
+    wanted: Wanted | None = None, timeout: float | None = None,
 ) -> int:
     """The verdict's status, and where that is 0 the first status of a process that was not 0."""
     forget_status(status_file)
     with tempfile.TemporaryDirectory(prefix="itc_trace_") as folder, PartCollectors(system.tenant) as collectors:
         parts = RelayParts(lambda: ask_for_port(collectors.asked_at), os.path.join(folder, BORDERS))
         with Relaying(collectors.port, parts) as relay:
-            running = Running(system, relay.port, folder)
+            running = Running(system, relay.port, folder, timeout)
             running.run()
         lines = running.lines()
         if parts.number > 1:

@@ -163,6 +163,8 @@ class Finding:
         tasks = "tasks" if any(side.is_in_loop for side in self.sides) else "threads"
         times = "once" if self.times == 1 else f"{self.times} times"
         names = " and ".join(dict.fromkeys(side.task for side in self.sides))
+        if self.kind == DEADLOCK:
+            return f"{tasks} {names}: {self.why}; id {self.identity}"
         return f"{tasks} {names}: {self.why}; {times}, as {_events(self.sides)}; id {self.identity}"
 
     @property

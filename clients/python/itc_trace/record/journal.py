@@ -90,6 +90,7 @@ class Journal(NamedTuple):
     """The locks that are signals."""
     sources: tuple[SourceText, ...] = ()
     """Lines of the program that were kept with the journal."""
+    deadlocks: tuple[DeadlockTold, ...] = ()
 
 
 class NoJournal(Exception):
@@ -108,6 +109,7 @@ def read_whole(lines: Iterable[str]) -> Journal:
     passed_over: list[PassedOver] = []
     signals: set[str] = set()
     sources: list[SourceText] = []
+    deadlocks: list[DeadlockTold] = []
     children = Children()
     count = Count()
     for number, line in enumerate(lines, 1):
@@ -125,6 +127,8 @@ def read_whole(lines: Iterable[str]) -> Journal:
             passed_over.append(read)
         elif isinstance(read, ChildTold):
             children.add(read)
+        elif isinstance(read, DeadlockTold):
+            deadlocks.append(read)
         elif isinstance(read, SignalTold):
             signals.add(read.lock)
         elif isinstance(read, End):
@@ -137,7 +141,9 @@ def read_whole(lines: Iterable[str]) -> Journal:
             unseen.append(Unseen(Cause.JOURNAL, f"line {number} of the journal is none"))
     unseen += children.unseen()
     missing = count.missing(unseen)
-    return Journal(rows, [*unseen, *missing], missing, passed_over, frozenset(signals), tuple(sources))
+    return Journal(
+        rows, [*unseen, *missing], missing, passed_over, frozenset(signals), tuple(sources), tuple(deadlocks),
+    )
 
 
 class End(NamedTuple):
@@ -202,6 +208,13 @@ class ChildTold(NamedTuple):
     """How many lines it has written, this one too, if it has ended."""
 
 
+class DeadlockTold(NamedTuple):
+    """Tasks of which each waits for a lock that the next one holds, as it was: steps of a cycle, as the journal has
+    them."""
+
+    steps: tuple[dict[str, Any], ...]
+
+
 class SignalTold(NamedTuple):
     """A lock is a signal, as was found out after it had been acquired with others held."""
 
@@ -250,6 +263,8 @@ def read_line(line: str) -> Read | None:
             return Unseen(Cause(read["unseen"]), str(read["text"]))
         if "passed_over" in read:
             return PassedOver(str(read["passed_over"]), str(read["place"]))
+        if "deadlock" in read:
+            return DeadlockTold(tuple(read["deadlock"]))
         if "signal" in read:
             return SignalTold(str(read["signal"]))
         if "source" in read:
@@ -286,7 +301,7 @@ class Begun(NamedTuple):
     border: Border
 
 
-Read = SourceText | Row | Unseen | PassedOver | ChildTold | SignalTold | Begun | End
+Read = SourceText | Row | Unseen | PassedOver | ChildTold | DeadlockTold | SignalTold | Begun | End
 """What a line of a journal says."""
 
 

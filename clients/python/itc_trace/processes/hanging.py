@@ -1,0 +1,190 @@
+"""Looks whether the program hangs, and tells what each of its tasks waits for, if somebody asks.
+
+Whoever asks adds to a file: a signal, by a handler in C that runs also where no code of Python does, and the command
+that runs the program.
+"""
+
+from __future__ import annotations
+
+import contextlib
+import faulthandler
+import json
+import os
+import signal
+import sys
+import time
+from collections.abc import Callable, Iterator
+from types import CodeType, FrameType
+
+from ..model.file_names import name_of_file
+from ..model.frames import line_of
+from ..model.lines import state
+from ..record import plain
+from ..record.own_threads import start_thread
+from .waits import WAITS, Since, Wait, cycle_of, waits
+
+LOOK = 0.1
+"""In seconds, between two looks at the file and at the threads."""
+STUCK = 1.0
+"""So long all tasks wait before that is told."""
+ASKING = ("SIGQUIT", "SIGUSR1")
+TOLD = ".told"
+"""Behind the name of the file: there is a letter once the program can be asked, and then one for each answer."""
+
+
+class Hanging:
+    """The thread that looks, from the program's beginning to its end."""
+
+    def __init__(self, asked: str, write: Callable[[str], object], break_off: Callable[[], object] | None) -> None:
+        self._asked = asked
+        self._write = write
+        self._break_off = break_off
+        self._since = Since()
+        self._process = os.getpid()
+        self._kept: set[frozenset[tuple[str, str, str, float]]] = set()
+        """The cycles that the journal has."""
+        self._patience = STUCK if break_off is None else LOOK
+        self._stuck: frozenset[tuple[int, float]] = frozenset()
+        """The threads that were looked at closer last, and since when each had been where it was."""
+        self._begun = time.monotonic()
+
+    def begin(self) -> None:
+        self._file = open(self._asked, "ab", buffering=0)  # Held open for the handlers.
+        for name in ASKING:
+            number = getattr(signal, name, None)
+            if number is not None and signal.getsignal(number) == signal.SIG_DFL:
+                with contextlib.suppress(RuntimeError, OSError):
+                    faulthandler.register(number, self._file, all_threads=False, chain=False)
+        self._note_answer()  # It can be asked from here on.
+        start_thread(self._look_on)
+
+    def _look_on(self) -> None:
+        size = 0
+        while os.getpid() == self._process:
+            plain.sleep(LOOK)
+            if state.tracer is None:
+                continue
+            try:
+                begun = self._since.look()
+                now = os.stat(self._asked).st_size
+                if now != size:
+                    self._answer()
+                    plain.sleep(LOOK)
+                    size = os.stat(self._asked).st_size
+                if self._may_be_stuck(begun):
+                    self._look_whether_stuck()
+            except (OSError, RuntimeError, KeyError, AttributeError, ValueError):
+                continue  # A task has gone on meanwhile, or the file is no more.
+
+    def _may_be_stuck(self, begun: dict[int, float]) -> bool:
+        """Whether it is worth to look closer: some threads, or the only one, have been where they are for long.
+
+        Those are looked at once, as whoever looks at the variables of a frame holds them.
+        """
+        now = time.monotonic()
+        stuck = frozenset((thread, since) for thread, since in begun.items() if now - since > self._patience)
+        if len(stuck) < min(2, len(begun)) or stuck == self._stuck:
+            return False
+        self._stuck = stuck
+        return True
+
+    def _answer(self) -> None:
+        found = waits(self._since)
+        _say(lines_of(found, f"{time.monotonic() - self._begun:.1f} s after its beginning the program has"))
+        self._note_answer()
+        self._keep(cycle_of(found))
+
+    def _note_answer(self) -> None:
+        with open(self._asked + TOLD, "ab") as told:
+            told.write(b".")
+
+    def _look_whether_stuck(self) -> None:
+        """Tells of tasks that wait for each other, or of which none can go on."""
+        found = waits(self._since)
+        cycle = cycle_of(found)
+        are_stuck = bool(found) and all(one.is_endless for one in found)
+        if not cycle and not are_stuck or state.tracer is None:
+            return
+        if are_stuck:
+            _say(lines_of(found, "nobody goes on, as each waits for what only they could give:"))
+        else:
+            _say(lines_of(found, "some wait for each other of"))
+        if self._keep(cycle) and self._break_off is not None:
+            self._break_off()
+
+    def _keep(self, cycle: list[Wait]) -> bool:
+        """Writes a cycle to the journal, if it still is one. Gives whether it is."""
+        if not cycle:
+            return False
+        plain.sleep(LOOK)
+        again = cycle_of(waits(self._since))
+        key = frozenset(map(_key, cycle))
+        if frozenset(map(_key, again)) != key:
+            return False
+        if key not in self._kept:
+            self._kept.add(key)
+            self._write(deadlock_row(cycle))
+        return True
+
+
+def lines_of(found: list[Wait], begin: str) -> list[str]:
+    """What all of them wait for, in words for a person."""
+    now = time.monotonic()
+    count = len(found)
+    lines = [f"{begin} {count} {'task' if count == 1 else 'tasks'}:"]
+    lines += [f"    {line}" for one in found for line in one.told(now)]
+    cycle = cycle_of(found)
+    if cycle:
+        names = [one.task for one in cycle]
+        steps = [f"{one} waits for {other}" for one, other in zip(names, [*names[1:], names[0]])]
+        lines.append(f"    a cycle: {', '.join(steps)}")
+    return lines
+
+
+@contextlib.contextmanager
+def limited(seconds: float, end: Callable[[list[str]], object]) -> Iterator[None]:
+    """Within the block this thread, the main one, calls `end` after so many seconds, with what all tasks wait for."""
+    since = Since()
+    since.look()
+
+    def is_over(_: int, __: FrameType | None) -> None:
+        end(lines_of(waits(since), f"the test was ended after {seconds:g} s, with"))
+
+    before = signal.signal(signal.SIGALRM, is_over)
+    signal.setitimer(signal.ITIMER_REAL, seconds)
+    try:
+        yield
+    finally:
+        signal.setitimer(signal.ITIMER_REAL, 0)
+        signal.signal(signal.SIGALRM, before)
+
+
+def _key(wait: Wait) -> tuple[str, str, str, float]:
+    return wait.task, wait.what, wait.place, wait.since
+
+
+def deadlock_row(cycle: list[Wait]) -> str:
+    """The line of a journal that tells of tasks of which each waits for what the next one holds."""
+    steps = []
+    for one, before in zip(cycle, [cycle[-1], *cycle[:-1]]):
+        held = before.lock
+        steps.append({
+            "task": one.task, "holds": f"the end of {one.task}" if held is None else held.name,
+            "held_at": [None, 0, ""] if held is None else _three(held.taken_by, held.taken_at),
+            "wants": one.what.removeprefix(WAITS) if one.lock is None else one.lock.name, "wanted_at": _three(*one.at),
+        })
+    return json.dumps({"deadlock": steps}, separators=(",", ":")) + "\n"
+
+
+def _three(code: CodeType | None, instruction: int) -> list[object]:
+    if code is None:
+        return [None, 0, ""]
+    return [name_of_file(code.co_filename), line_of(code, instruction), code.co_qualname]
+
+
+def _say(lines: list[str]) -> None:
+    """Writes to standard error in one piece, if there still is one."""
+    if sys.__stderr__ is not None and lines:
+        with contextlib.suppress(OSError, ValueError):
+            sys.__stderr__.write("".join(f"{'' if line.startswith(' ') else 'itc_trace: '}{line}\n" for line in lines))
+            sys.__stderr__.flush()

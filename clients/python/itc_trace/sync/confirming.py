@@ -1,0 +1,107 @@
+"""Tries possible deadlocks: holds each task where it is about to acquire the inner lock, until the cycle closes.
+
+A task is held for a bounded time, and a place a few times at most. So a program whose cycle does not close goes on.
+"""
+
+from __future__ import annotations
+
+from time import monotonic, sleep
+from typing import Any, NamedTuple
+
+from ..model.file_names import name_of_file
+from ..model.frames import frame_at, line_of, place
+from ..model.lines import Line, state
+from ..model.lock_identity import LockIdentity
+from ..record import plain
+from ..record.noting import line_of_now
+from .base import like
+from .locks import TracedLock, TracedRLock, walk_always
+
+HOLD = 2.0
+"""So many seconds a task is held at most."""
+PAUSE = 0.002
+MOST_HOLDS = 8
+"""So often tasks are held at one step of a cycle."""
+
+Step = tuple[str, str]
+"""Where the outer lock is acquired, and where the inner one, each as `shop.py:7`."""
+
+
+class _Arrived(NamedTuple):
+    line: Line
+    held: LockIdentity
+    wanted: LockIdentity
+
+
+class _Cycle:
+    """The tasks that are held at the steps of one cycle."""
+
+    def __init__(self, steps: list[Step]) -> None:
+        self.steps = steps
+        self.holds = [0] * len(steps)
+        self.arrived: list[list[_Arrived]] = [[] for _ in steps]
+
+    def closes(self, mine: _Arrived, number: int) -> bool:
+        """Whether tasks are held at all steps, each of which wants what the next one holds."""
+        path, at = mine, number
+        for _ in range(len(self.steps) - 1):
+            at = (at + 1) % len(self.steps)
+            others = (one for one in self.arrived[at] if one.held is path.wanted and one.line is not mine.line)
+            found = next(others, None)
+            if found is None:
+                return False
+            path = found
+        return path.wanted is mine.held
+
+
+class Confirming:
+    """Holds tasks at the steps of possible deadlocks."""
+
+    def __init__(self, cycles: list[list[Step]]) -> None:
+        self._cycles = [_Cycle([(str(held), str(wanted)) for held, wanted in steps]) for steps in cycles]
+        self._wanted = {wanted for one in self._cycles for _, wanted in one.steps}
+        self._guard = plain.allocate_lock()
+
+    def begin(self) -> None:
+        """From here on tasks are held."""
+        walk_always()
+        for kind in (TracedLock, TracedRLock):
+            for name in ("acquire", "__enter__"):
+                original = vars(kind)[name]
+                setattr(kind, name, like(original, self._holding(original)))
+
+    def _holding(self, original: Any) -> Any:
+        def holding(lock: Any, *words: Any, **named: Any) -> Any:
+            if state.note is not None:
+                line = line_of_now()
+                if line.held:
+                    self._hold(lock, line, _here(*place(frame_at(1))))
+            return original(lock, *words, **named)
+
+        return holding
+
+    def _hold(self, lock: Any, line: Line, here: str) -> None:
+        if here not in self._wanted:
+            return
+        for cycle in self._cycles:
+            for number, (held_at, wanted_at) in enumerate(cycle.steps):
+                held = next((one for one in line.held if _here(one.taken_by, one.taken_at) == held_at), None)
+                if wanted_at == here and held is not None and held is not lock._itc_identity:
+                    self._hold_at(cycle, number, _Arrived(line, held, lock._itc_identity))
+
+    def _hold_at(self, cycle: _Cycle, number: int, mine: _Arrived) -> None:
+        with self._guard:
+            if cycle.holds[number] >= MOST_HOLDS:
+                return
+            cycle.holds[number] += 1
+            cycle.arrived[number].append(mine)
+        end = monotonic() + HOLD
+        while not cycle.closes(mine, number) and monotonic() < end:
+            sleep(PAUSE)
+        if not cycle.closes(mine, number):  # Else it stays, for the others to see.
+            with self._guard:
+                cycle.arrived[number].remove(mine)
+
+
+def _here(code: Any, instruction: int) -> str:
+    return "?" if code is None else f"{name_of_file(code.co_filename)}:{line_of(code, instruction)}"

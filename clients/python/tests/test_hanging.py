@@ -1,0 +1,244 @@
+"""Programs that hang: what each task waits for, and what becomes of a program that is ended after its time."""
+
+from __future__ import annotations
+
+import os
+import re
+import signal
+import subprocess
+import sys
+import tempfile
+import time
+import unittest
+from concurrent.futures import ThreadPoolExecutor
+from pathlib import Path
+
+from itc_trace import Verdict
+
+from .support import PACKAGE, PROGRAM_RUNS, ProgramCase, run_traced, wait_until
+
+ANSWER = 10.0
+"""So many seconds an answer may take on a busy machine. On an idle one it takes less than one."""
+PRELUDE = """
+import asyncio, concurrent.futures, ctypes, multiprocessing, queue, threading, time
+def start(work):
+    thread = threading.Thread(target=work)
+    thread.start()
+    return thread
+def held(lock):
+    lock.acquire()  # held
+    time.sleep(1000)
+print("begun", flush=True)
+"""
+KINDS = {
+    "lock": ("""
+lock = threading.Lock()
+start(lambda: held(lock))
+time.sleep(0.2)
+lock.acquire()  # here
+""", r"root waits for lock \(.*\) for .* s at .*# here\n *<lambda>_1 holds it, acquired at .*# held"),
+    "RLock": ("""
+guard = threading.RLock()
+start(lambda: held(guard))
+time.sleep(0.2)
+with guard:  # here
+    pass
+""", r"root waits for lock guard \(.*\) for .* s at .*# here\n *<lambda>_1 holds it, acquired at .*# held"),
+    "condition": ("""
+ready = threading.Condition()
+with ready:
+    ready.wait()  # here
+""", r"root waits for (a condition|lock ready .*) for .* s at .*# here"),
+    "event": ("""
+threading.Event().wait()  # here
+""", r"root waits for an event for .* s at .*# here"),
+    "queue get": ("""
+queue.Queue().get()  # here
+""", r"root waits for an item of a queue for .* s at .*# here"),
+    "queue put": ("""
+items = queue.Queue(1)
+items.put(1)
+items.put(2)  # here
+""", r"root waits for room in a queue for .* s at .*# here"),
+    "join": ("""
+thread = start(lambda: time.sleep(1000))
+thread.join()  # here
+""", r"root waits for the end of thread <lambda>_1 for .* s at .*# here"),
+    "future": ("""
+concurrent.futures.Future().result()  # here
+""", r"root waits for the result of a future for .* s at .*# here"),
+    "semaphore": ("""
+permits = threading.Semaphore(0)
+permits.acquire()  # here
+""", r"root waits for a permit of a semaphore for .* s at .*# here"),
+    "barrier": ("""
+threading.Barrier(2).wait()  # here
+""", r"root waits for others at a barrier for .* s at .*# here"),
+    "asyncio lock": ("""
+async def main():
+    lock = asyncio.Lock()
+    async def hold():
+        async with lock:  # held
+            await asyncio.sleep(1000)
+    task = asyncio.create_task(hold())
+    await asyncio.sleep(0)
+    async with lock:  # here
+        pass
+asyncio.run(main())
+""", r"main_1 waits for lock .* at .*# here\n *hold_1 holds it, acquired at .*# held"),
+    "asyncio queue": ("""
+async def main():
+    await asyncio.Queue().get()  # here
+asyncio.run(main())
+""", r"main_1 waits for an item of a queue for .* s at .*# here"),
+    "asyncio future": ("""
+async def main():
+    await asyncio.get_running_loop().create_future()  # here
+asyncio.run(main())
+""", r"main_1 waits for a future for .* s at .*# here"),
+    "process": ("""
+child = multiprocessing.get_context("fork").Process(target=time.sleep, args=(1000,), daemon=True)
+child.start()
+child.join()  # here
+""", r"root waits for the end of process Process-1 for .* s at .*# here"),
+    "pipe": ("""
+one, other = multiprocessing.Pipe()
+one.recv()  # here
+""", r"root waits for a pipe for .* s at .*# here"),
+    "code of C": ("""
+ctypes.CDLL(None).sleep(1000)  # here
+""", r"root is in code of C, or waits there, for .* s at .*# here"),
+    "code of C that keeps all threads": ("""
+ctypes.PyDLL(None).sleep(1000)  # here
+""", r"the program does not answer: code of C keeps all its threads from going on, called at .*program.py:\d+ in <module>"),
+}
+
+
+class Hanging(ProgramCase):
+    def asked(self, text: str, program: Path, pattern: str) -> str:
+        """What the program writes once it is asked by a signal. Then it still runs, and is killed."""
+        program.write_text(PRELUDE + text)
+        words = [sys.executable, "-m", "itc_trace", "run", os.fspath(program)]
+        environment = {**os.environ, "PYTHONPATH": os.fspath(PACKAGE)}
+        told = program.with_suffix(".told")
+        with open(told, "wb") as output, subprocess.Popen(
+            words, env=environment, stderr=output, stdout=output, start_new_session=True,
+        ) as ran:
+            try:
+                wait_until(lambda: "begun" in told.read_text())
+                time.sleep(1)
+                end = time.monotonic() + ANSWER
+                while not re.search(pattern, told.read_text()) and time.monotonic() < end:
+                    os.kill(ran.pid, signal.SIGQUIT)
+                    time.sleep(1.5)
+                self.assertIsNone(ran.poll(), "it goes on")
+            finally:
+                os.killpg(ran.pid, signal.SIGKILL)
+        return told.read_text()
+
+    def test_each_kind_says_what_is_waited_for_and_where(self) -> None:
+        with tempfile.TemporaryDirectory() as folder, ThreadPoolExecutor(6) as pool:
+            told = {}
+            for number in range(PROGRAM_RUNS):
+                for kind, (text, pattern) in KINDS.items():
+                    place = Path(folder, f"{kind} {number}".replace(" ", "_"))
+                    place.mkdir()
+                    told[kind, number] = pool.submit(self.asked, text, place / "program.py", pattern)
+            for (kind, number), answer in told.items():
+                with self.subTest(kind, number=number):
+                    self.assertRegex(answer.result(), KINDS[kind][1])
+
+
+CYCLE = """
+import threading, time
+one_lock = threading.Lock(); other_lock = threading.Lock()
+def forth():
+    with one_lock:  # holds
+        time.sleep(0.3)
+        with other_lock:  # wants
+            pass
+def back():
+    with other_lock:  # holds
+        time.sleep(0.3)
+        with one_lock:  # wants
+            pass
+threads = [threading.Thread(target=work) for work in (forth, back)]
+for thread in threads:
+    thread.start()
+for thread in threads:
+    thread.join()
+"""
+LUCKY = CYCLE.replace("time.sleep(0.3)", "pass").replace("thread.start()", "thread.start(); time.sleep(0.3)")
+ORDERED = LUCKY.replace("thread.start();", "thread.start(); thread.join();")
+RACY = """
+import threading
+stock = {"left": 2}
+def sell():
+    stock["left"] -= 1
+threads = [threading.Thread(target=sell) for _ in range(2)]
+for thread in threads:
+    thread.start()
+for thread in threads:
+    thread.join()
+threading.Event().wait()
+"""
+
+
+class Ended(ProgramCase):
+    def test_a_program_is_ended_after_its_time(self) -> None:
+        ran = run_traced("--timeout", "4", self.program("import threading\nthreading.Event().wait()\n"))
+        self.assertEqual(ran.returncode, Verdict.INCOMPLETE, ran.stderr)
+        self.assertIn("itc_trace: incomplete: the program was ended after 4 s\n", ran.stderr)
+        self.assertRegex(ran.stderr, r"root waits for an event .*at .*program.py:2:  threading.Event\(\).wait\(\)")
+        self.assertIn("nobody goes on, as each waits for what only they could give: 1 task:", ran.stderr)
+
+    def test_its_races_are_listed(self) -> None:
+        ran = run_traced("--timeout", "4", self.program(RACY))
+        self.assertEqual(ran.returncode, Verdict.RACES, ran.stderr)
+        self.assertIn("itc_trace: race on stock['left']", ran.stderr)
+        self.assertIn("incomplete: the program was ended after 4 s", ran.stderr)
+
+    def test_one_that_ends_before_is_as_ever(self) -> None:
+        ran = run_traced("--timeout", "100", self.program("print(1)\n"))
+        self.assertEqual((ran.returncode, ran.stdout), (0, "1\n"), ran.stderr)
+
+    def test_a_cycle_that_has_closed_is_a_deadlock(self) -> None:
+        ran = run_traced("--timeout", "5", self.program(CYCLE))
+        self.assertEqual(ran.returncode, Verdict.RACES, ran.stderr)
+        self.assertRegex(ran.stderr, r"a cycle: (forth_1 waits for back_1, back|back_1 waits for forth_1, forth)_1 waits")
+        listed = ran.stderr[ran.stderr.index("itc_trace: deadlock on "):]
+        self.assertRegex(listed, r"forth_1 holds one_lock +at .*program.py:5 in forth:  with one_lock:  # holds\n")
+        self.assertRegex(listed, r"forth_1 wants other_lock at .*program.py:7 in forth:  with other_lock:  # wants\n")
+        self.assertRegex(listed, r"back_1 +holds other_lock at .*program.py:10 in back:  with other_lock:  # holds\n")
+        self.assertRegex(listed, r"back_1 +wants one_lock +at .*program.py:12 in back:  with one_lock:  # wants\n")
+        self.assertIn("; 1 deadlock: ", listed)
+
+    def test_what_is_no_time_is_refused(self) -> None:
+        for word in ("0", "-1", "nan", "inf", "soon", ""):
+            ran = run_traced("--timeout", word, self.program("print(1)\n"))
+            self.assertEqual(ran.returncode, 2, word)
+            self.assertIn("is no number of seconds", ran.stderr)
+
+
+class Confirmed(ProgramCase):
+    def test_a_possible_deadlock_that_closes_ends_the_run(self) -> None:
+        for _ in range(PROGRAM_RUNS):
+            ran = run_traced("--confirm", self.program(LUCKY))
+            self.assertEqual(ran.returncode, Verdict.RACES, ran.stderr)
+            self.assertIn("itc_trace: deadlock on one_lock and other_lock", ran.stderr)
+            self.assertIn("each waits for the next one", ran.stderr)
+            self.assertRegex(ran.stderr.splitlines()[-1], "no race in this run; 1 deadlock: ")
+
+    def test_without_it_the_deadlock_is_possible(self) -> None:
+        ran = run_traced(self.program(LUCKY))
+        self.assertEqual(ran.returncode, 0, ran.stderr)
+        self.assertIn("itc_trace: possible deadlock on one_lock and other_lock", ran.stderr)
+
+    def test_one_in_order_is_not_tried(self) -> None:
+        ran = run_traced("--confirm", self.program(ORDERED))
+        self.assertEqual(ran.returncode, 0, ran.stderr)
+        self.assertNotIn("--confirm runs", ran.stderr)
+
+
+if __name__ == "__main__":
+    unittest.main()
