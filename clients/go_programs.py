@@ -17,7 +17,9 @@ import tempfile
 from collections.abc import Iterator
 from pathlib import Path
 
-from wrappers import CLIENTS, INCOMPLETE, MOST_SECONDS, Check, Wrong, listed, run_all, run_system
+from wrappers import (
+    CLIENTS, INCOMPLETE, MOST_SECONDS, Check, Wrong, listed, listed_deadlocks, run_all, run_system,
+)
 
 from itc_trace import Collector, Session
 
@@ -150,6 +152,9 @@ def faults_of(output: str, told: str, process: str, name: str) -> Iterator[str]:
         found, due = listed(told, word, process), marked(mark, name)
         if found != due:
             yield f"{name}: the lines of each {word} are {sorted(found)} in place of {sorted(due)}"
+    found, due = listed_deadlocks(told, process), marked("deadlock", name)
+    if found != due:
+        yield f"{name}: the lines of each possible deadlock are {sorted(found)} in place of {sorted(due)}"
     if f"{process} | done\n" not in output:
         yield f"{name} did not go on to its end"
 

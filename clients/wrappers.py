@@ -112,6 +112,13 @@ def listed(told: str, word: str, process: str | None = None) -> set[str]:
     return {f"{Path(file).name}:{line}" for file, line in re.findall(r" at (.+?):(\d+)", lines)}
 
 
+def listed_deadlocks(told: str, process: str) -> set[str]:
+    """The lines of the possible deadlocks of tasks of the process."""
+    found = re.findall(r"^itc_trace: possible deadlock on .*\n((?: .*\n)+)", told, re.M)
+    lines = "".join(one for one in found if one.lstrip().startswith(f"{process}_"))
+    return {f"{Path(file).name}:{line}" for file, line in re.findall(r" (?:holds|wants) .*? at (.+?):(\d+)", lines)}
+
+
 class Programs:
     """The built programs of one language."""
 

@@ -156,6 +156,18 @@ func newSite(file *string, line int, function string) *site {
 	return made
 }
 
+// three is the site as one of a list: a comma, and file, line and function.
+func (s *site) three() string {
+	text := []byte(",[")
+	if s.file == nil {
+		text = append(text, "null"...)
+	} else {
+		text = appendText(text, *s.file)
+	}
+	text = strconv.AppendInt(append(text, ','), int64(s.line), 10)
+	return string(append(appendText(append(text, ','), s.function), ']'))
+}
+
 // nameOf is what a goroutine is called by the function that it runs, as "sell" or "main_func1".
 func nameOf(body any) string {
 	function := runtime.FuncForPC(reflect.ValueOf(body).Pointer())

@@ -32,6 +32,8 @@ type row struct {
 	label   string
 	held    string
 	lock    string
+	// wants is the lock that was waited for, and places has where those that are held were acquired.
+	wants, places, shared string
 	// of is the task or the message that the report names. It is told of runs that may be divided into parts.
 	of string
 }
@@ -65,6 +67,13 @@ func (r row) appendTo(text []byte) []byte {
 			text = appendText(text, one)
 		}
 		text = append(text, ']')
+	}
+	if r.wants != "" {
+		text = appendText(append(text, `,"wants":`...), r.wants)
+		text = append(append(append(text, `,"at":[`...), r.places[1:]...), ']')
+	}
+	if r.shared != "" {
+		text = append(append(append(text, `,"shared":[`...), r.shared[1:]...), ']')
 	}
 	if r.lock != "" {
 		text = appendText(append(text, `,"lock":`...), r.lock)

@@ -45,7 +45,7 @@ func (h *hand) known(at *site) *lock {
 }
 
 // acquire has the task come after who released the lock, and hold it.
-func (h *hand) acquire(by *task, at *site) {
+func (h *hand) acquire(by *task, at *site, hasWaited bool) {
 	acquired, given := h.known(at), h.given()
 	h.holder, h.isTaken = by, true
 	if given != nil && given.task != by {
@@ -56,7 +56,10 @@ func (h *hand) acquire(by *task, at *site) {
 	if given != nil { // Nobody else can come after it any more.
 		by.drop(given)
 	}
-	by.held = by.held.with(acquired)
+	if hasWaited && !h.isSignal.Load() {
+		by.acquires(acquired, at, false)
+	}
+	by.held = by.held.with(acquired, at, false)
 	by.mutex.Unlock()
 }
 
@@ -115,7 +118,7 @@ type Mutex struct {
 func (m *Mutex) Lock() {
 	m.mutex.Lock()
 	if goroutine, counter := here(); isOn() {
-		m.hand.acquire(own(goroutine), siteAt(counter))
+		m.hand.acquire(own(goroutine), siteAt(counter), true)
 	}
 }
 
@@ -125,7 +128,7 @@ func (m *Mutex) Lock() {
 func (m *Mutex) TryLock() bool {
 	isLocked := m.mutex.TryLock()
 	if goroutine, counter := here(); isLocked && isOn() {
-		m.hand.acquire(own(goroutine), siteAt(counter))
+		m.hand.acquire(own(goroutine), siteAt(counter), false)
 	}
 	return isLocked
 }
@@ -154,13 +157,13 @@ type RWMutex struct {
 	lastReader *token
 }
 
-func (m *RWMutex) acquired(by *task, at *site) {
+func (m *RWMutex) acquired(by *task, at *site, hasWaited bool) {
 	m.mutex.Lock()
 	defer m.mutex.Unlock()
 	m.readers.takeAll(by, at)
 	m.readers.clear()
 	m.lastReader = nil
-	m.hand.acquire(by, at)
+	m.hand.acquire(by, at, hasWaited)
 }
 
 func (m *RWMutex) releasing(by *task, at *site) {
@@ -169,7 +172,7 @@ func (m *RWMutex) releasing(by *task, at *site) {
 	m.hand.release(by, at)
 }
 
-func (m *RWMutex) reads(by *task, at *site) {
+func (m *RWMutex) reads(by *task, at *site, hasWaited bool) {
 	m.mutex.Lock()
 	defer m.mutex.Unlock()
 	acquired, own := m.hand.known(at), m.readerOf(by)
@@ -180,7 +183,10 @@ func (m *RWMutex) reads(by *task, at *site) {
 	if own != nil { // What this one has read is told by its next release, or by this one.
 		by.drop(own)
 	}
-	by.held = by.held.with(acquired)
+	if hasWaited && !m.hand.isSignal.Load() {
+		by.acquires(acquired, at, true)
+	}
+	by.held = by.held.with(acquired, at, true)
 	by.mutex.Unlock()
 }
 
@@ -224,7 +230,7 @@ func (m *RWMutex) hasRead(by *task, at *site) {
 func (m *RWMutex) Lock() {
 	m.lock.Lock()
 	if goroutine, counter := here(); isOn() {
-		m.acquired(own(goroutine), siteAt(counter))
+		m.acquired(own(goroutine), siteAt(counter), true)
 	}
 }
 
@@ -234,7 +240,7 @@ func (m *RWMutex) Lock() {
 func (m *RWMutex) TryLock() bool {
 	isLocked := m.lock.TryLock()
 	if goroutine, counter := here(); isLocked && isOn() {
-		m.acquired(own(goroutine), siteAt(counter))
+		m.acquired(own(goroutine), siteAt(counter), false)
 	}
 	return isLocked
 }
@@ -255,7 +261,7 @@ func (m *RWMutex) Unlock() {
 func (m *RWMutex) RLock() {
 	m.lock.RLock()
 	if goroutine, counter := here(); isOn() {
-		m.reads(own(goroutine), siteAt(counter))
+		m.reads(own(goroutine), siteAt(counter), true)
 	}
 }
 
@@ -265,7 +271,7 @@ func (m *RWMutex) RLock() {
 func (m *RWMutex) TryRLock() bool {
 	isLocked := m.lock.TryRLock()
 	if goroutine, counter := here(); isLocked && isOn() {
-		m.reads(own(goroutine), siteAt(counter))
+		m.reads(own(goroutine), siteAt(counter), false)
 	}
 	return isLocked
 }
@@ -290,7 +296,7 @@ func (r *reading) Lock() {
 	m := (*RWMutex)(r)
 	m.lock.RLock()
 	if goroutine, counter := here(); isOn() {
-		m.reads(own(goroutine), siteAt(counter))
+		m.reads(own(goroutine), siteAt(counter), true)
 	}
 }
 

@@ -3,6 +3,7 @@ package itctrace
 import (
 	"runtime"
 	"sort"
+	"strconv"
 	"sync"
 	"sync/atomic"
 )
@@ -112,6 +113,8 @@ type touch struct {
 	// held has the names of the locks that the task holds, each behind a line feed.
 	held             string
 	writes, isAcross bool
+	// wants is the lock that the task has waited for while it held others. places and shared tell more of those.
+	wants, places, shared string
 }
 
 func newTask(name string) *task {
@@ -122,17 +125,33 @@ func newTask(name string) *task {
 type holding struct {
 	below *holding
 	lock  *lock
-	text  string
-	next  *holding
+	// site is where it was acquired, and isShared tells whether others may read under it meanwhile.
+	site     *site
+	isShared bool
+	text     string
+	// places has the sites of all of them, and shared the numbers of those that are shared, both as a row tells them.
+	places, shared string
+	count          int
+	next           *holding
 }
 
 // with is the same with one lock more.
-func (h *holding) with(acquired *lock) *holding {
-	if h.next != nil && h.next.lock == acquired {
+func (h *holding) with(acquired *lock, at *site, isShared bool) *holding {
+	if h.next != nil && h.next.lock == acquired && h.next.site == at && h.next.isShared == isShared {
 		return h.next
 	}
-	h.next = &holding{below: h, lock: acquired, text: h.text + "\n" + acquired.name}
+	h.next = &holding{
+		below: h, lock: acquired, site: at, isShared: isShared, text: h.text + "\n" + acquired.name,
+		places: h.places + at.three(), shared: h.sharedWith(isShared), count: h.count + 1,
+	}
 	return h.next
+}
+
+func (h *holding) sharedWith(isShared bool) string {
+	if !isShared {
+		return h.shared
+	}
+	return h.shared + "," + strconv.Itoa(h.count)
 }
 
 // without is the same with one lock less. It tells whether the task still holds one that it acquired later.
@@ -147,7 +166,7 @@ func (h *holding) without(released *lock) (left *holding, isLaterHeld bool) {
 	if below == h.below {
 		return h, false
 	}
-	return below.with(h.lock), true
+	return below.with(h.lock, h.site, h.isShared), true
 }
 
 // add takes over a touch. It tells whether there was none that is the same.
@@ -218,6 +237,18 @@ func (of *task) touch(one touch) {
 	of.mutex.Lock()
 	defer of.mutex.Unlock()
 	one.held = of.held.text
+	of.add(one)
+}
+
+// acquires notes that the task has waited for a lock, if it holds others. The mutex of the task is held.
+func (of *task) acquires(wanted *lock, at *site, isShared bool) {
+	if held := of.held; held.count > 0 {
+		of.add(touch{site: at, held: held.text, wants: wanted.name, places: held.places, shared: held.sharedWith(isShared)})
+	}
+}
+
+// add notes what the task has done, with its mutex held.
+func (of *task) add(one touch) {
 	now := of.sincePlace
 	if now != nil && now.last == one {
 		return

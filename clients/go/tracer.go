@@ -762,6 +762,13 @@ func (t *tracer) writeTouches() {
 const partBits = 32
 
 func (t *tracer) rowOf(all *touches, told touch, event int64) row {
+	if told.wants != "" {
+		return t.timed(all, row{
+			event: int(event & (1<<partBits - 1)), part: int(event >> partBits), task: all.task.name, kind: "local", site: told.site,
+			label: "acquire " + told.wants[strings.Index(told.wants, " ")+1:], held: told.held, wants: told.wants, places: told.places,
+			shared: told.shared,
+		})
+	}
 	kind, named := "read", told.thing
 	if told.writes {
 		kind = "write"
@@ -773,6 +780,11 @@ func (t *tracer) rowOf(all *touches, told touch, event int64) row {
 		event: int(event & (1<<partBits - 1)), part: int(event >> partBits), task: all.task.name, thing: named, isTouch: true, kind: kind,
 		site: told.site, label: kind + " " + told.thing, held: told.held,
 	}
+	return t.timed(all, made)
+}
+
+// timed is the row with the time of its event, if no other row has told that.
+func (t *tracer) timed(all *touches, made row) row {
 	if !all.isTimeTold {
 		all.isTimeTold, made.time = true, all.begun
 	}

@@ -64,6 +64,11 @@ func init() {
 		"polled_race":      func() { polled(true) },
 		"lazy":             func() { lazy(false) },
 		"lazy_race":        func() { lazy(true) },
+		"two_orders":       func() { orders(false) },
+		"two_orders_gate":  func() { orders(true) },
+		"read_orders":      func() { readOrders(false) },
+		"read_orders_both": func() { readOrders(true) },
+		"tried_order":      triedOrder,
 	})
 }
 
@@ -694,5 +699,69 @@ func lazy(isLate bool) {
 	}, func() {
 		look()
 		itctrace.Touch("value", false) // race: lazy_race
+	})
+}
+
+// orders acquires two locks in both orders. With a gate around both, only one goroutine is there at once.
+func orders(hasGate bool) {
+	var gate, one, other itctrace.Mutex
+	within := func(body func()) func() {
+		return func() {
+			if hasGate {
+				gate.Lock()
+				defer gate.Unlock()
+			}
+			body()
+		}
+	}
+	twice(within(func() {
+		one.Lock()   // deadlock: two_orders
+		other.Lock() // deadlock: two_orders
+		other.Unlock()
+		one.Unlock()
+	}), within(func() {
+		other.Lock() // deadlock: two_orders
+		one.Lock()   // deadlock: two_orders
+		one.Unlock()
+		other.Unlock()
+	}))
+}
+
+// readOrders has one goroutine write under the lock that the other one reads under, or both read.
+func readOrders(bothRead bool) {
+	var table itctrace.RWMutex
+	var lock itctrace.Mutex
+	twice(func() {
+		table.RLock() // deadlock: read_orders
+		lock.Lock()   // deadlock: read_orders
+		lock.Unlock()
+		table.RUnlock()
+	}, func() {
+		lock.Lock() // deadlock: read_orders
+		if bothRead {
+			table.RLock()
+			table.RUnlock()
+		} else {
+			table.Lock() // deadlock: read_orders
+			table.Unlock()
+		}
+		lock.Unlock()
+	})
+}
+
+// triedOrder gives back what it holds, if it does not get the other lock at once.
+func triedOrder() {
+	var one, other itctrace.Mutex
+	twice(func() {
+		one.Lock()
+		other.Lock()
+		other.Unlock()
+		one.Unlock()
+	}, func() {
+		other.Lock()
+		if one.TryLock() {
+			one.Unlock()
+		}
+		other.Unlock()
 	})
 }

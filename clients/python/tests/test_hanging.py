@@ -36,14 +36,14 @@ lock = threading.Lock()
 start(lambda: held(lock))
 time.sleep(0.2)
 lock.acquire()  # here
-""", r"root waits for lock \(.*\) for .* s at .*# here\n *<lambda>_1 holds it, acquired at .*# held"),
+""", r"root waits for lock \(.*\) for .* s at .*# here\n *lambda_1 holds it, acquired at .*# held"),
     "RLock": ("""
 guard = threading.RLock()
 start(lambda: held(guard))
 time.sleep(0.2)
 with guard:  # here
     pass
-""", r"root waits for lock guard \(.*\) for .* s at .*# here\n *<lambda>_1 holds it, acquired at .*# held"),
+""", r"root waits for lock guard \(.*\) for .* s at .*# here\n *lambda_1 holds it, acquired at .*# held"),
     "condition": ("""
 ready = threading.Condition()
 with ready:
@@ -63,7 +63,7 @@ items.put(2)  # here
     "join": ("""
 thread = start(lambda: time.sleep(1000))
 thread.join()  # here
-""", r"root waits for the end of thread <lambda>_1 for .* s at .*# here"),
+""", r"root waits for the end of thread lambda_1 for .* s at .*# here"),
     "future": ("""
 concurrent.futures.Future().result()  # here
 """, r"root waits for the result of a future for .* s at .*# here"),
@@ -100,7 +100,7 @@ asyncio.run(main())
 child = multiprocessing.get_context("fork").Process(target=time.sleep, args=(1000,), daemon=True)
 child.start()
 child.join()  # here
-""", r"root waits for the end of process Process-1 for .* s at .*# here"),
+""", r"root waits for the end of process ForkProcess-1 for .* s at .*# here"),
     "pipe": ("""
 one, other = multiprocessing.Pipe()
 one.recv()  # here

@@ -155,6 +155,18 @@ class Pattern(NamedTuple):
     """The loop whose other tasks wait as well."""
     names: tuple[str, ...]
     """Those of the held locks, and then that of the wanted one."""
+    shared: frozenset[str] = frozenset()
+    """The held ones under which others may read."""
+    is_reading: bool = False
+    """Whether the lock is wanted for reading."""
+
+    def waits_for(self, other: Pattern) -> bool:
+        """Whether the other one holds what this one wants, so that it has to wait."""
+        return self.wants in other.held and not (self.is_reading and self.wants in other.shared)
+
+    def is_apart(self, other: Pattern) -> bool:
+        """Whether both never are there at once: one lock lets only one of them in."""
+        return any(lock in other.held and not (lock in self.shared and lock in other.shared) for lock in self.held)
 
 
 Found = dict[Pattern, dict[str, Events]]
@@ -190,12 +202,14 @@ def acquisitions_of(rows: Iterable[Row], signals: frozenset[str] = frozenset()) 
         if row.wants is None or number_of(row.wants) in numbers:
             continue
         held = [
-            (lock, Place(*at)) for lock, at in zip(row.held, row.at, strict=False) if number_of(lock) not in numbers
+            (lock, Place(*at), number in row.shared) for number, (lock, at) in enumerate(zip(row.held, row.at))
+            if number_of(lock) not in numbers and number_of(lock) != number_of(row.wants)
         ]
         if held:
             pattern = Pattern(
-                number_of(row.wants), tuple(number_of(lock) for lock, _ in held), tuple(at for _, at in held),
-                Place(row.file, row.line, row.function), row.loop, (*(lock for lock, _ in held), row.wants),
+                number_of(row.wants), tuple(number_of(lock) for lock, _, _ in held), tuple(at for _, at, _ in held),
+                Place(row.file, row.line, row.function), row.loop, (*(lock for lock, _, _ in held), row.wants),
+                frozenset(number_of(lock) for lock, _, is_shared in held if is_shared), len(row.held) in row.shared,
             )
             found[pattern][row.task] |= 1 << row.event
     return found
@@ -220,15 +234,16 @@ def cycles(patterns: Iterable[Pattern]) -> Iterator[tuple[Pattern, ...]]:
         paths: list[tuple[int, ...]] = [(start,)]
         while paths:
             path = paths.pop()
-            wants = left[path[-1]].wants
-            held = {lock for number in path for lock in left[number].held}
-            for number in holding[wants]:
+            last = left[path[-1]]
+            for number in holding[last.wants]:
                 steps += 1
                 if steps > MOST_STEPS:
                     raise TooMany
+                if not last.waits_for(left[number]):
+                    continue
                 if number == start and len(path) > 1:
                     yield tuple(left[one] for one in path)
-                elif number > start and held.isdisjoint(left[number].held):
+                elif number > start and not any(left[one].is_apart(left[number]) for one in path):
                     paths.append((*path, number))
 
 

@@ -59,8 +59,7 @@ class DeadlocksOfParts:
         """Those of an acquisition of an earlier part and one of this part."""
         for pairing in self._across.races(self._rows, self._order):
             one, other, times = pairing.pair
-            may_meet = set(map(number_of, one.held)).isdisjoint(map(number_of, other.held)) and one.task != other.task
-            if may_meet and not (one.loop and one.loop == other.loop):
+            if one.task != other.task and _is_cycle(_pattern(one), _pattern(other)):
                 yield Deadlock((_step(one), _step(other)), times)
 
     def move_on(self, border: Border) -> None:
@@ -90,14 +89,23 @@ def _pairs(rows: Iterable[Row], signals: frozenset[str]) -> Iterator[Row]:
         for lock, at in zip(row.held, row.at, strict=False):
             one, other = number_of(lock), number_of(row.wants)
             if one not in numbers:
-                told = json.dumps([row.function, lock, at, row.wants, sorted(map(number_of, row.held))])
+                told = json.dumps([row.function, lock, at, row.wants, row.held, row.shared])
                 yield row._replace(
                     thing=f"{min(one, other)} {max(one, other)}", kind=UP if one < other else DOWN, function=told,
                 )
 
 
+def _pattern(row: Row) -> Pattern:
+    return next(iter(acquisitions_of([row])))
+
+
+def _is_cycle(one: Pattern, other: Pattern) -> bool:
+    """Whether both may wait for each other. Other held locks of the same two tasks may keep them apart."""
+    return one.waits_for(other) and other.waits_for(one) and not one.is_apart(other) and not has_one_loop((one, other))
+
+
 def _step(row: Row) -> Step:
-    function, lock, at, wants, _ = json.loads(row.function)
+    function, lock, at, wants, *_ = json.loads(row.function)
     return Step(
         row.task, lock, Place(*at), wants, Place(row.file, row.line, function), row.event, row.part, row.loop,
     )

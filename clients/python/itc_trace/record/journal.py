@@ -61,6 +61,8 @@ class Row(NamedTuple):
     """The lock that the task has waited for at this line, while it held others."""
     at: tuple[tuple[str | None, int, str], ...] = ()
     """Where it has acquired those: file, line and function of each."""
+    shared: tuple[int, ...] = ()
+    """Which of those were acquired for reading, by their numbers from 0 on. The last number is that of the wanted one."""
 
     @property
     def is_touch(self) -> bool:
@@ -280,6 +282,8 @@ def _row_of(read: dict[str, Any]) -> Row:
     known = {key: read[key] for key in KEYS if key in read}
     if "held" in known:
         known["held"] = tuple(known["held"])
+    if "shared" in known:
+        known["shared"] = tuple(map(int, known["shared"]))
     if "at" in known:
         known["at"] = tuple((file, int(line), str(function)) for file, line, function in known["at"])
     row = Row(**known)
