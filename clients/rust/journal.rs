@@ -51,6 +51,14 @@ impl LockName {
     }
 }
 
+/// A lock that a task holds or wants: where it acquires it, and whether others may read under it meanwhile.
+#[derive(Clone, Copy, Debug)]
+pub(crate) struct HeldLock {
+    pub lock: LockName,
+    pub at: Site,
+    pub is_shared: bool,
+}
+
 /// What a journal says of one event, or of one of the touches that an event stands for.
 #[derive(Clone, Debug)]
 pub(crate) struct Row {
@@ -66,6 +74,8 @@ pub(crate) struct Row {
     pub held: Vec<LockName>,
     /// The lock that a message hands over.
     pub lock: Option<LockName>,
+    /// Those that the task holds, and last the one that it has waited for. There are none of any other event.
+    pub acquired: Vec<HeldLock>,
     /// When the event was. None if another row tells it.
     pub time: Time,
 }
@@ -73,7 +83,18 @@ pub(crate) struct Row {
 impl Row {
     /// A row that tells neither a thing nor a time.
     pub fn new(task: &Arc<str>, kind: &'static str, site: Site, label: String) -> Row {
-        Row { task: task.clone(), thing: None, kind, site, label, function: None, held: Vec::new(), lock: None, time: None }
+        Row {
+            task: task.clone(),
+            thing: None,
+            kind,
+            site,
+            label,
+            function: None,
+            held: Vec::new(),
+            lock: None,
+            acquired: Vec::new(),
+            time: None,
+        }
     }
 
     /// The line of the journal. The prefix tells the locks of this process from those of others. A trace that may be divided needs the task
@@ -94,6 +115,12 @@ impl Row {
             let held: Vec<String> = self.held.iter().map(|held| lock(*held)).collect();
             text += &format!(",\"held\":[{}]", held.join(","));
         }
+        if let Some((wanted, held)) = self.acquired.split_last() {
+            let places: Vec<String> = held.iter().map(|one| three(one.at)).collect();
+            text += &format!(",\"wants\":{},\"at\":[{}]", lock(wanted.lock), places.join(","));
+            let shared = self.acquired.iter().enumerate().filter(|(_, one)| one.is_shared).map(|(number, _)| number.to_string());
+            text += &format!(",\"shared\":[{}]", shared.collect::<Vec<_>>().join(","));
+        }
         if let Some(handed) = self.lock {
             text += &format!(",\"lock\":{}", lock(handed));
         }
@@ -102,6 +129,12 @@ impl Row {
         }
         text + "}\n"
     }
+}
+
+/// File and line of a place, whose function is not known.
+fn three(site: Site) -> String {
+    let (file, line) = site.map_or(("null".into(), 0), |site| (quoted(site.file()), site.line()));
+    format!("[{file},{line},\"\"]")
 }
 
 /// The line that says what was not seen, and why.

@@ -87,7 +87,7 @@ impl Segment {
             let thing = row.label.split_once(' ').map_or("", |(_, thing)| thing).to_string();
             let is_across = row.thing.as_deref() == Some(&thing);
             let touch = Touch::new(row.kind == "write", is_across, row.site, &row.held);
-            if self.adds(&thing, &touch) {
+            if !row.acquired.is_empty() || self.adds(&thing, &touch) {
                 rows.push(row);
             }
         }

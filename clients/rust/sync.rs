@@ -12,7 +12,7 @@ pub use barrier::{Barrier, BarrierWaitResult};
 pub use once::{LazyLock, Once, OnceLock};
 pub use std::sync::{Arc, LockResult, OnceState, PoisonError, TryLockError, TryLockResult, WaitTimeoutResult, Weak};
 
-use crate::journal::{LockName, Site};
+use crate::journal::{HeldLock, LockName, Site};
 use crate::place::{Gives, Place, What};
 use crate::traced::{self, hold, may_be_on, on, release_lock, Keeper, Release, MANY_MARKS};
 use crate::tracer::{Task, Tracer};
@@ -57,15 +57,21 @@ impl Hand {
 
     /// This thread has acquired the lock, which nobody else has now.
     #[inline(never)]
-    fn acquired(&self, released: &mut Option<Release>, site: Site) {
+    fn acquired(&self, released: &mut Option<Release>, site: Site, has_waited: bool) {
         if let Some(tracer) = on() {
             let name = self.name(tracer);
             if let Some(release) = released {
                 release.take_by(tracer, name, site);
                 *released = None;
             }
-            hold(name);
+            self.hold(tracer, name, site, false, has_waited);
         }
+    }
+
+    /// This thread holds the lock from now on. It has waited for it, if it would have.
+    #[inline]
+    fn hold(&self, tracer: &Tracer, lock: LockName, site: Site, is_shared: bool, has_waited: bool) {
+        hold(tracer, HeldLock { lock, at: site, is_shared }, has_waited && !self.is_signal.load(Ordering::Relaxed));
     }
 
     /// This thread has what the lock guards, and nobody else has.
@@ -135,8 +141,8 @@ impl<T: ?Sized> Mutex<T> {
     pub fn lock(&self) -> LockResult<MutexGuard<'_, T>> {
         let site = Some(Location::caller());
         match self.mutex.lock() {
-            Ok(guard) => Ok(MutexGuard::new(&self.hand, guard, site)),
-            Err(poisoned) => Err(PoisonError::new(MutexGuard::new(&self.hand, poisoned.into_inner(), site))),
+            Ok(guard) => Ok(MutexGuard::new(&self.hand, guard, site, true)),
+            Err(poisoned) => Err(PoisonError::new(MutexGuard::new(&self.hand, poisoned.into_inner(), site, true))),
         }
     }
 
@@ -144,7 +150,7 @@ impl<T: ?Sized> Mutex<T> {
     #[track_caller]
     pub fn try_lock(&self) -> TryLockResult<MutexGuard<'_, T>> {
         let site = Some(Location::caller());
-        let guarded = |guard| MutexGuard::new(&self.hand, guard, site);
+        let guarded = |guard| MutexGuard::new(&self.hand, guard, site, false);
         self.mutex.try_lock().map(guarded).map_err(|failed| try_failed(failed, guarded))
     }
 
@@ -205,9 +211,9 @@ impl<T: ?Sized + Debug> Debug for Mutex<T> {
 
 impl<'a, T: ?Sized> MutexGuard<'a, T> {
     #[inline(always)]
-    fn new(hand: &'a Hand, mut guard: sync::MutexGuard<'a, Inner<T>>, site: Site) -> MutexGuard<'a, T> {
+    fn new(hand: &'a Hand, mut guard: sync::MutexGuard<'a, Inner<T>>, site: Site, has_waited: bool) -> MutexGuard<'a, T> {
         if may_be_on() {
-            hand.acquired(&mut guard.released, site);
+            hand.acquired(&mut guard.released, site, has_waited);
         }
         MutexGuard { hand, site, guard: Some(guard) }
     }
@@ -321,7 +327,7 @@ impl Order {
 
     /// This thread reads. It gives a later place when it is done, so what it gave before stays up to then.
     #[inline(never)]
-    fn reads(&self, site: Site) {
+    fn reads(&self, site: Site, has_waited: bool) {
         if let Some(tracer) = on() {
             let (name, writer) = (self.hand.name(tracer), self.writer.load(Ordering::Relaxed));
             if !writer.is_null() && !traced::has_come_after(writer, self.hand.is_signal.load(Ordering::Relaxed)) {
@@ -330,7 +336,7 @@ impl Order {
                     traced::comes_after(release);
                 }
             }
-            hold(name);
+            self.hand.hold(tracer, name, site, true, has_waited);
         }
     }
 
@@ -346,10 +352,10 @@ impl Order {
     }
 
     #[inline(never)]
-    fn writes(&self, site: Site) {
+    fn writes(&self, site: Site, has_waited: bool) {
         if let Some(tracer) = on() {
             self.take_all(site);
-            hold(self.hand.name(tracer));
+            self.hand.hold(tracer, self.hand.name(tracer), site, false, has_waited);
         }
     }
 
@@ -406,8 +412,8 @@ impl<T: ?Sized> RwLock<T> {
     pub fn read(&self) -> LockResult<RwLockReadGuard<'_, T>> {
         let site = Some(Location::caller());
         match self.lock.read() {
-            Ok(guard) => Ok(self.guarded_read(guard, site)),
-            Err(poisoned) => Err(PoisonError::new(self.guarded_read(poisoned.into_inner(), site))),
+            Ok(guard) => Ok(self.guarded_read(guard, site, true)),
+            Err(poisoned) => Err(PoisonError::new(self.guarded_read(poisoned.into_inner(), site, true))),
         }
     }
 
@@ -415,7 +421,7 @@ impl<T: ?Sized> RwLock<T> {
     #[track_caller]
     pub fn try_read(&self) -> TryLockResult<RwLockReadGuard<'_, T>> {
         let site = Some(Location::caller());
-        let guarded = |guard| self.guarded_read(guard, site);
+        let guarded = |guard| self.guarded_read(guard, site, false);
         self.lock.try_read().map(&guarded).map_err(|failed| try_failed(failed, guarded))
     }
 
@@ -425,8 +431,8 @@ impl<T: ?Sized> RwLock<T> {
     pub fn write(&self) -> LockResult<RwLockWriteGuard<'_, T>> {
         let site = Some(Location::caller());
         match self.lock.write() {
-            Ok(guard) => Ok(self.guarded_write(guard, site)),
-            Err(poisoned) => Err(PoisonError::new(self.guarded_write(poisoned.into_inner(), site))),
+            Ok(guard) => Ok(self.guarded_write(guard, site, true)),
+            Err(poisoned) => Err(PoisonError::new(self.guarded_write(poisoned.into_inner(), site, true))),
         }
     }
 
@@ -434,7 +440,7 @@ impl<T: ?Sized> RwLock<T> {
     #[track_caller]
     pub fn try_write(&self) -> TryLockResult<RwLockWriteGuard<'_, T>> {
         let site = Some(Location::caller());
-        let guarded = |guard| self.guarded_write(guard, site);
+        let guarded = |guard| self.guarded_write(guard, site, false);
         self.lock.try_write().map(&guarded).map_err(|failed| try_failed(failed, guarded))
     }
 
@@ -456,17 +462,17 @@ impl<T: ?Sized> RwLock<T> {
     }
 
     #[inline(always)]
-    fn guarded_read<'a>(&'a self, guard: sync::RwLockReadGuard<'a, T>, site: Site) -> RwLockReadGuard<'a, T> {
+    fn guarded_read<'a>(&'a self, guard: sync::RwLockReadGuard<'a, T>, site: Site, has_waited: bool) -> RwLockReadGuard<'a, T> {
         if may_be_on() {
-            self.order.reads(site);
+            self.order.reads(site, has_waited);
         }
         RwLockReadGuard { order: &self.order, site, guard }
     }
 
     #[inline(always)]
-    fn guarded_write<'a>(&'a self, guard: sync::RwLockWriteGuard<'a, T>, site: Site) -> RwLockWriteGuard<'a, T> {
+    fn guarded_write<'a>(&'a self, guard: sync::RwLockWriteGuard<'a, T>, site: Site, has_waited: bool) -> RwLockWriteGuard<'a, T> {
         if may_be_on() {
-            self.order.writes(site);
+            self.order.writes(site, has_waited);
         }
         RwLockWriteGuard { order: &self.order, site, guard }
     }
@@ -594,8 +600,8 @@ impl Condvar {
         let site = Some(Location::caller());
         let (hand, guard) = released(guard, site);
         match self.condition.wait(guard) {
-            Ok(guard) => Ok(MutexGuard::new(hand, guard, site)),
-            Err(poisoned) => Err(PoisonError::new(MutexGuard::new(hand, poisoned.into_inner(), site))),
+            Ok(guard) => Ok(MutexGuard::new(hand, guard, site, true)),
+            Err(poisoned) => Err(PoisonError::new(MutexGuard::new(hand, poisoned.into_inner(), site, true))),
         }
     }
 
@@ -617,10 +623,10 @@ impl Condvar {
         let site = Some(Location::caller());
         let (hand, guard) = released(guard, site);
         match self.condition.wait_timeout(guard, time) {
-            Ok((guard, timeout)) => Ok((MutexGuard::new(hand, guard, site), timeout)),
+            Ok((guard, timeout)) => Ok((MutexGuard::new(hand, guard, site, true), timeout)),
             Err(poisoned) => {
                 let (guard, timeout) = poisoned.into_inner();
-                Err(PoisonError::new((MutexGuard::new(hand, guard, site), timeout)))
+                Err(PoisonError::new((MutexGuard::new(hand, guard, site, true), timeout)))
             }
         }
     }

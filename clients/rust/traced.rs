@@ -2,7 +2,7 @@
 
 use crate::ending;
 use crate::environment::{Environment, JOURNAL};
-use crate::journal::{LockName, Site};
+use crate::journal::{HeldLock, LockName, Site};
 use crate::line::Touch;
 use crate::place::{Gives, Mark, Noted, Place};
 use crate::sites;
@@ -28,7 +28,7 @@ struct Thread {
     here: RefCell<Weak<Place>>,
     /// What it has noted there last, of locks.
     noted: Cell<Option<(u64, usize, bool)>>,
-    held: RefCell<Vec<LockName>>,
+    held: RefCell<Vec<HeldLock>>,
     /// The last place of another task that its task has come after, and whether by luck.
     taken: RefCell<(Weak<Place>, bool)>,
 }
@@ -249,13 +249,28 @@ fn here(tracer: &Tracer) -> Arc<Place> {
 }
 
 fn held() -> Vec<LockName> {
-    THREAD.try_with(|thread| thread.held.borrow().clone()).unwrap_or_default()
+    THREAD.try_with(|thread| thread.held.borrow().iter().map(|one| one.lock).collect()).unwrap_or_default()
 }
 
-/// This thread holds the lock from now on.
+/// This thread holds the lock from now on. If it has waited for it with others held, that is told.
 #[inline]
-pub(crate) fn hold(lock: LockName) {
-    let _ = THREAD.try_with(|thread| thread.held.borrow_mut().push(lock));
+pub(crate) fn hold(tracer: &Tracer, lock: HeldLock, has_waited: bool) {
+    let is_nested = THREAD.try_with(|thread| {
+        let mut held = thread.held.borrow_mut();
+        held.push(lock);
+        has_waited && held.len() > 1
+    });
+    if is_nested.unwrap_or_default() {
+        acquired_nested(tracer);
+    }
+}
+
+#[cold]
+fn acquired_nested(tracer: &Tracer) {
+    let held = THREAD.try_with(|thread| thread.held.borrow().clone()).unwrap_or_default();
+    if let Some(site) = held.last().and_then(|wanted| wanted.at) {
+        is_at(&tracer.acquire(current(tracer), held, sites::function_at(site)));
+    }
 }
 
 /// The place where a lock was released.
@@ -318,11 +333,11 @@ impl Thread {
     #[inline]
     fn let_go(&self, lock: u64) -> bool {
         let mut held = self.held.borrow_mut();
-        if held.last().is_some_and(|last| last.number == lock) {
+        if held.last().is_some_and(|last| last.lock.number == lock) {
             held.pop();
             return false;
         }
-        match held.iter().rposition(|other| other.number == lock) {
+        match held.iter().rposition(|other| other.lock.number == lock) {
             Some(place) => {
                 held.remove(place);
                 place < held.len()

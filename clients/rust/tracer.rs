@@ -3,7 +3,7 @@
 
 use crate::ending;
 use crate::environment::{tag_of, task_of, Child, Environment, MOST_NAME};
-use crate::journal::{self, Event, LockName, Row, Site};
+use crate::journal::{self, Event, HeldLock, LockName, Row, Site};
 use crate::line::{Known, Segment, Touch, LAST};
 use crate::lines::Lines;
 use crate::names::Names;
@@ -219,6 +219,11 @@ impl Tracer {
     /// The task reads or writes the thing, which is of this process if it is not one across all.
     pub fn touch(&self, task: Task, thing: &str, touch: &Touch, site: Site, function: Option<Arc<str>>, held: &[LockName]) -> Arc<Place> {
         self.act(task, |state| state.touch(task, thing, touch, site, function, held))
+    }
+
+    /// The task has waited for the last of these locks, and holds the others.
+    pub fn acquire(&self, task: Task, locks: Vec<HeldLock>, function: Option<Arc<str>>) -> Arc<Place> {
+        self.act(task, |state| state.acquire(task, locks, function))
     }
 
     /// The task comes after the place. Gives where it is then, if that is another place.
@@ -564,15 +569,33 @@ impl State {
         for (event, rows) in self.lines[task].grow(task) {
             self.add_rows(event, rows);
         }
-        let line = &mut self.lines[task];
-        let name = line.name.clone();
-        let segment = line.last();
+        let kind = if touch.writes { "write" } else { "read" };
+        let named = if touch.is_across { thing.to_string() } else { format!("{thing} of {}", self.process) };
+        let row = Row::new(&self.lines[task].name, kind, site, format!("{kind} {thing}"));
+        self.add(task, thing, touch, Row { thing: Some(named), held: held.to_vec(), function, ..row });
+    }
+
+    /// A lock was waited for with others held. Where these were acquired is a part of what is told once.
+    fn acquire(&mut self, task: Task, locks: Vec<HeldLock>, function: Option<Arc<str>>) {
+        let Some((wanted, others)) = locks.split_last() else { return };
+        if self.stage == Stage::Over {
+            return;
+        }
+        for (event, rows) in self.lines[task].grow(task) {
+            self.add_rows(event, rows);
+        }
+        let held: Vec<LockName> = others.iter().map(|one| one.lock).collect();
+        let places: Vec<usize> = others.iter().map(|one| one.at.map_or(0, |at| at as *const _ as usize)).collect();
+        let thing = format!("{} {places:?}", wanted.lock.number);
+        let row = Row::new(&self.lines[task].name, "local", wanted.at, format!("acquire {}", wanted.lock.told()));
+        self.add(task, &thing, &Touch::new(false, false, wanted.at, &held), Row { held, function, acquired: locks, ..row });
+    }
+
+    /// Adds what a task has done to its last segment, if it has not done the same there.
+    fn add(&mut self, task: Task, thing: &str, touch: &Touch, row: Row) {
+        let segment = self.lines[task].last();
         let is_first = segment.is_empty();
         if segment.adds(thing, touch) {
-            let kind = if touch.writes { "write" } else { "read" };
-            let named = if touch.is_across { thing.to_string() } else { format!("{thing} of {}", self.process) };
-            let row = Row::new(&name, kind, site, format!("{kind} {thing}"));
-            let row = Row { thing: Some(named), held: held.to_vec(), function, ..row };
             if is_first {
                 segment.time = journal::now();
             }

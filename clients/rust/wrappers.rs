@@ -621,12 +621,83 @@ fn sender(file: &Path) {
     fs::rename(written, file).unwrap();
 }
 
+/// One thread is done before the other one begins, and nothing that is reported says so.
+fn one_after_another(first: impl FnOnce() + Send + 'static, second: impl FnOnce() + Send + 'static) {
+    let (done, is_done) = std::sync::mpsc::channel();
+    let first = thread::spawn(move || {
+        first();
+        done.send(()).unwrap();
+    });
+    let second = thread::spawn(move || {
+        is_done.recv().unwrap();
+        second();
+    });
+    first.join().unwrap();
+    second.join().unwrap();
+}
+
+/// Two locks are acquired in both orders. With a gate around both, only one thread is there at once.
+fn two_orders(has_gate: bool) {
+    let locks = Arc::new((Mutex::new(()), Mutex::new(()), Mutex::new(())));
+    let others = locks.clone();
+    let forth = move || {
+        let _gate = has_gate.then(|| locks.0.lock().unwrap());
+        let _one = locks.1.lock().unwrap(); // deadlock: two_orders
+        let _other = locks.2.lock().unwrap(); // deadlock: two_orders
+    };
+    let back = move || {
+        let _gate = has_gate.then(|| others.0.lock().unwrap());
+        let _other = others.2.lock().unwrap(); // deadlock: two_orders
+        let _one = others.1.lock().unwrap(); // deadlock: two_orders
+    };
+    one_after_another(forth, back);
+}
+
+/// One thread writes under the lock that the other one reads under, or both read.
+fn read_orders(both_read: bool) {
+    let locks = Arc::new((RwLock::new(()), Mutex::new(())));
+    let others = locks.clone();
+    let forth = move || {
+        let _table = locks.0.read().unwrap(); // deadlock: read_orders
+        let _lock = locks.1.lock().unwrap(); // deadlock: read_orders
+    };
+    let back = move || {
+        let _lock = others.1.lock().unwrap(); // deadlock: read_orders
+        if both_read {
+            drop(others.0.read().unwrap());
+        } else {
+            drop(others.0.write().unwrap()); // deadlock: read_orders
+        }
+    };
+    one_after_another(forth, back);
+}
+
+/// A thread gives back what it holds, if it does not get the other lock at once.
+fn tried_order() {
+    let locks = Arc::new((Mutex::new(()), Mutex::new(())));
+    let others = locks.clone();
+    let forth = move || {
+        let _one = locks.0.lock().unwrap();
+        let _other = locks.1.lock().unwrap();
+    };
+    let back = move || {
+        let _other = others.1.lock().unwrap();
+        let _one = others.0.try_lock();
+    };
+    one_after_another(forth, back);
+}
+
 fn main() {
     let words: Vec<String> = std::env::args().collect();
     let file = || Path::new(&words[2]);
     let _trace = itc_trace::begin();
     match words[1].as_str() {
         "lost_update" => in_two_threads(sell),
+        "two_orders" => two_orders(false),
+        "two_orders_gate" => two_orders(true),
+        "read_orders" => read_orders(false),
+        "read_orders_both" => read_orders(true),
+        "tried_order" => tried_order(),
         "plain_threads" => plain_threads(),
         "locked" => locked(),
         "lucky_lock" => lucky_lock(),

@@ -95,7 +95,7 @@ GOES_ON = {
 BREAKS_OFF = {
     "it kills itself": "os.kill(os.getpid(), 9)",
     "it aborts": "import resource; resource.setrlimit(resource.RLIMIT_CORE, (0, 0)); os.abort()",
-    "a signal ends it": "os.kill(os.getpid(), signal.SIGUSR1); time.sleep(60)",
+    "a signal ends it": "os.kill(os.getpid(), signal.SIGUSR2); time.sleep(60)",
     "it goes on as another program": "os.execv('/bin/true', ['true'])",
     "files may not grow": "import resource; resource.setrlimit(resource.RLIMIT_FSIZE, (100, 100))",
 }
