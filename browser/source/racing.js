@@ -114,7 +114,7 @@ const Racing = (Base) => class extends Base {
     const { thing, made, why, sides } = race;
     section.append(element("h2", {}, `${capital(nameOfRace(race))} on ${thing}`), element("p", { id: "reason" }, `${capital(why)}.`),
       element("ul", { id: "sides" }, ...sides.map((side) => element("li", {}, this.sideButton(side)))),
-      element("p", { className: "quiet" }, `Seen ${timesOf(race)}${made === "" ? "" : `, on ${made}`}`));
+      element("p", { className: "quiet" }, `Seen ${timesOf(race)}${made === "" ? "" : race.isDeadlock ? `, with locks ${made}` : `, on ${made}`}`));
   }
 
   sideButton(side) {
