@@ -29,7 +29,8 @@ pub struct Ledger<S: Keep = PlainShare> {
 
 impl<S: Keep> Model for Ledger<S> {
     ghost use Rattle.trace_types.specs.tenant.Tenant.{Tenant};
-    ghost use Rattle.tenant_ledger.specs.Ledger.{IsKept, tenant_of};
+    ghost use Rattle.tenant_ledger.specs.Contents.{tenant_of};
+    ghost use Rattle.tenant_ledger.specs.Kept.{IsKept};
 
     ghost Value = { Tenant };
 

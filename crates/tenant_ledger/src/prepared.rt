@@ -6,7 +6,8 @@ ghost use Rattle.trace_types.specs.clock.Size.{inner_of_id, inner_of_tree};
 ghost use Rattle.trace_types.specs.clock.Stamps.{id_of, tree_of};
 ghost use Rattle.trace_types.specs.tenant.Tenant.{with_row};
 ghost use Rattle.trace_types.specs.declared.reply.Reply.TheVariants as reply;
-ghost use Rattle.tenant_ledger.specs.Ledger.{MayHavePoint, start_of};
+ghost use Rattle.tenant_ledger.specs.Told.{start_of};
+ghost use Rattle.tenant_ledger.specs.Points.{MayHavePoint};
 
 use crate::book::{Book, Draft};
 use crate::share::{Keep, KeptId, Share};
@@ -26,7 +27,8 @@ pub struct Prepared<S: Keep = PlainShare> {
 
 impl<S: Keep> Model for Prepared<S> {
     ghost use Rattle.tenant_ledger.specs.Upcoming.{Upcoming};
-    ghost use Rattle.tenant_ledger.specs.Ledger.{IsReady, tenant_of};
+    ghost use Rattle.tenant_ledger.specs.Contents.{tenant_of};
+    ghost use Rattle.tenant_ledger.specs.Adding.{IsReady};
 
     ghost Value = { Upcoming };
 

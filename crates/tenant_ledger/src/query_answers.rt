@@ -8,7 +8,9 @@ ghost use Rattle.trace_types.specs.tenant.Rows.{is_event};
 ghost use Rattle.trace_types.specs.text.StampText.{stamp_text as text_of_parts};
 ghost use Rattle.trace_types.specs.tenant.Tenant.{Answers, reply_to_view};
 ghost use Rattle.tenant_ledger.specs.Answers.{code_of, is_brief, order_answer};
-ghost use Rattle.tenant_ledger.specs.Ledger.{IsKept, history_in, id_after, of_each, tenant_of};
+ghost use Rattle.tenant_ledger.specs.Contents.{history_in, tenant_of};
+ghost use Rattle.tenant_ledger.specs.Told.{id_after, of_each};
+ghost use Rattle.tenant_ledger.specs.Kept.{IsKept};
 
 use crate::book::Book;
 use crate::share::{Keep, KeptId};

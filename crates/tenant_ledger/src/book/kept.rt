@@ -4,7 +4,10 @@ ghost use Rattle.trace_types.specs.clock.Clock.{tree_clock};
 ghost use Rattle.trace_types.specs.clock.Stamps.{tree_of};
 ghost use Rattle.trace_types.specs.tenant.Rows.{is_event, is_sent, message_count, task_count};
 ghost use Rattle.tenant_ledger.specs.Answers.{message_due, task_due};
-ghost use Rattle.tenant_ledger.specs.Ledger.{ArePoints, IsKept, history_in, id_after, of_each, start_of};
+ghost use Rattle.tenant_ledger.specs.Contents.{history_in};
+ghost use Rattle.tenant_ledger.specs.Told.{id_after, of_each, start_of};
+ghost use Rattle.tenant_ledger.specs.Points.{ArePoints};
+ghost use Rattle.tenant_ledger.specs.Kept.{IsKept};
 
 use super::Book;
 use crate::share::{Keep, MeantId};

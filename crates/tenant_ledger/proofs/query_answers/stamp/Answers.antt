@@ -1,6 +1,6 @@
 use Rattle.std.proofs.Common.{refl, sym, ◌∙◌, arith}
 use Rattle.trace_types.specs.tenant.Rows.{history_of}
-use Rattle.tenant_ledger.specs.Ledger.{id_after}
+use Rattle.tenant_ledger.specs.Told.{id_after}
 use Rattle.tenant_ledger.proofs.keeping.Answered.{as_many_kept, kept_in_place, stamp_answered}
 use Rattle.tenant_ledger.proofs.Words.{tenant_of}
 use Rattle.tenant_ledger.proofs.query_answers.stamp.Goals as goal
