@@ -15,6 +15,7 @@ ghost use Rattle.tenant_ledger.specs.Kept.{IsKept};
 use crate::book::Book;
 use crate::share::{Keep, KeptId};
 use event_tree::{EvTree, RaisedPoint};
+use std::alloc::Global;
 use stamp_codec::write_parts;
 use trace_query::{
     Compare, Meant, QueryFault, concurrent_by_points, cut_by_points, order_by_points,
@@ -142,7 +143,7 @@ fn row<S: Keep>(book: &Book<S>, event: u64) -> Reply
     requires { IsKept book.now }
     ensures { result ≡ reply_to_view (tenant_of book.now) (Request.Event event) }
 {
-    match place_of(book, event) {
+    match book.place_of(event) {
         Some(place) => Reply::Event(book.rows()[place].share()),
         None => Reply::Refused(Code::NoEvent),
     }
@@ -153,38 +154,21 @@ fn stamp<S: Keep>(book: &Book<S>, event: u64) -> Reply
     requires { IsKept book.now }
     ensures { Answers (tenant_of book.now) (Request.Stamp event) result }
 {
-    let Some(place) = place_of(book, event) else {
+    let Some((id, tree)) = book.stamp_parts(event) else {
         return Reply::Refused(Code::NoEvent);
     };
-    let tree = book.trees()[place].tree_value();
-    match stamp_text(book, event, tree) {
+    match stamp_text(book.alloc(), id, tree.tree_value()) {
         Ok(text) => Reply::Stamp(Text::from(text)),
         Err(refused) => Reply::Refused(Code::from(refused)),
     }
 }
 
-/// The text of the stamp of the event, whose tree this is. Returns `Memory` if it runs out of memory.
-fn stamp_text<S: Keep>(book: &Book<S>, event: u64, tree: &EvTree) -> Result<Vec<u8>, Memory>
-    requires kept { IsKept book.now }
-    requires event { is_event (history_in book.now) event ≡ true }
-    ensures { IfOk result (λ text. text.items ≡ text_of_parts (id_after (history_in book.now) event) tree.now) }
+/// The text of the stamp of this id and this tree. Returns `Memory` if it runs out of memory.
+fn stamp_text<I: KeptId>(alloc: Global, id: &I, tree: &EvTree) -> Result<Vec<u8>, Memory>
+    ensures { IfOk result (λ text. text.items ≡ text_of_parts (I.id id.now) tree.now) }
 {
-    let id = book.event_id(event).tree(book.alloc())?;
-    write_parts(book.alloc(), id.as_tree(), tree)
-}
-
-/// The place of the event in the lists, if there is such an event.
-pub(crate) fn place_of<S: Keep>(book: &Book<S>, event: u64) -> Option<usize>
-    requires { IsKept book.now }
-    ensures there { is_some result ≡ is_event (history_in book.now) event }
-    ensures place { IfSome result (λ place. (event ≡ suc place) × (place < length book.now.rows)) }
-{
-    let place = event.checked_sub(1)?;
-    if place < book.rows().len() as u64 {
-        Some(place as usize)
-    } else {
-        None
-    }
+    let id = id.tree(alloc)?;
+    write_parts(alloc, id.as_tree(), tree)
 }
 
 /// The state and the last event of the task.
