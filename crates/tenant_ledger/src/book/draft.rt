@@ -118,13 +118,6 @@ impl<S: Keep> Draft<S> {
         self.made.point.as_ref().map(|point| point.share())
     }
 
-    /// The event that started the acting task, or 0.
-    pub(crate) fn start(&self) -> u64
-        ensures { result ≡ self.now.acting.start }
-    {
-        self.acting.start
-    }
-
     /// The first of the ids that the event makes, if it makes one.
     pub(super) fn first_id(&self) -> Option<&S::Id>
         ensures some { IfSome result (λ id. slice_get self.now.ids 0 ≡ Some (S.Id.id id.now)) }
