@@ -15,8 +15,8 @@ ghost use Rattle.tenant_ledger.specs.Kept.{IsKept};
 use crate::book::Book;
 use crate::share::{Keep, KeptId};
 use event_tree::{EvTree, RaisedPoint};
-use std::alloc::Global;
 use stamp_codec::write_parts;
+use std::alloc::Global;
 use trace_query::{
     Compare, Meant, QueryFault, concurrent_by_points, cut_by_points, order_by_points,
     past_by_points,

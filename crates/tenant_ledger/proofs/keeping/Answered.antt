@@ -59,7 +59,7 @@ module _ {A B : Type 0} (meant_id : A → Id) (meant_tree : B → EventTree) whe
       → IfSome found (λ parts. meant_id parts.0 ≡ id_after (history_of tenant.rows) event)
       → IfSome found (λ parts. meant_tree parts.1 ≡ tree_of tree_clock (history_of tenant.rows) event)
       → MatchOption found (Steps tenant (request.Stamp event) (reply.Refused NoEvent) tenant)
-        (λ parts. Steps tenant (request.Stamp event) (reply.Stamp (stamp_text (meant_id parts.0) (meant_tree parts.1))) tenant)
+      (λ parts. Steps tenant (request.Stamp event) (reply.Stamp (stamp_text (meant_id parts.0) (meant_tree parts.1))) tenant)
   told_here tenant event None there id tree = no_stamp_step tenant event there
   told_here tenant event (Some parts) there id tree = stamp_step tenant event (meant_id parts.0) (meant_tree parts.1) there id tree
 
@@ -67,7 +67,7 @@ module _ {A B : Type 0} (meant_id : A → Id) (meant_tree : B → EventTree) whe
       → IfSome found (λ parts. meant_id parts.0 ≡ id_after (history_of tenant.rows) event)
       → IfSome found (λ parts. meant_tree parts.1 ≡ tree_of tree_clock (history_of tenant.rows) event)
       → MatchOption found (Steps shown (request.Stamp event) (reply.Refused NoEvent) shown)
-        (λ parts. Steps shown (request.Stamp event) (reply.Stamp (stamp_text (meant_id parts.0) (meant_tree parts.1))) shown)
+      (λ parts. Steps shown (request.Stamp event) (reply.Stamp (stamp_text (meant_id parts.0) (meant_tree parts.1))) shown)
   stamp_told tenant shown event found same there id tree =
       subst (λ (one : Tenant). MatchOption found (Steps one (request.Stamp event) (reply.Refused NoEvent) one)
       (λ parts. Steps one (request.Stamp event) (reply.Stamp (stamp_text (meant_id parts.0) (meant_tree parts.1))) one)) same (told_here tenant event found there id tree)
