@@ -1,7 +1,7 @@
 //! The next line, for which what was written is flushed before it is waited for.
 ghost use Rattle.std.specs.Prelude.{◌≡◌, IsTrue, OnOk, MatchResult};
 ghost use Rattle.line_protocol.specs.HandingOn.{FindsBehind, HandsOnBefore, KeepsAll};
-ghost use Rattle.line_protocol.specs.LineReading.{FindsNext, NeedsRead, ReadsForLine};
+ghost use Rattle.line_protocol.specs.LineReading.{NeedsRead, ReadsForLine};
 ghost use Rattle.line_protocol.specs.Writing.{StopsHandingOn};
 ghost use Rattle.line_protocol.specs.declared.flushing.LineFault.TheVariants as variants;
 
@@ -44,7 +44,7 @@ impl Buffer {
         ensures handed_on { HandsOnBefore self.old result (W.seen writer.old) (W.seen writer.new) }
     {
         self.flush_before_read(writer)?;
-        match self.next_line_behind(source, writer) {
+        match self.next_line(source) {
             Ok(line) => Ok(line),
             Err(fault) => Err(LineFault::Read(fault)),
         }
@@ -63,20 +63,5 @@ impl Buffer {
         } else {
             Ok(())
         }
-    }
-
-    /// Finds the next line. No read is made while the writer holds anything back.
-    #[inline(always)]
-    fn next_line_behind<R: Source, W: Sink>(
-        &mut self,
-        source: &mut R,
-        _writer: &W,
-    ) -> Result<Line, ReadFault>
-        requires flushed { NeedsRead self.old → IsTrue (W.seen _writer.now).is_flushed }
-        ensures finds { FindsNext (R.seen source.old) (R.seen source.new) self.old self.new result }
-        ensures last { OnOk result (ReadsForLine R.seen source.old source.new self.old) }
-        ensures at_end { IsTrue self.old.is_ended → (source.new ≡ source.old) × IsTrue self.new.is_ended }
-    {
-        self.next_line(source)
     }
 }

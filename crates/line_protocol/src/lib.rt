@@ -53,8 +53,8 @@ pub use line_buffer::Buffer;
 pub use line_reader::{LineReader, ReadFault};
 pub use pieces::write_piece;
 pub use reply::{
-    WriteFault, flush, write_answer, write_bytes, write_count, write_order, write_prefix,
-    write_reply,
+    MOST_INTERRUPTIONS, WriteFault, flush, write_answer, write_bytes, write_count, write_order,
+    write_prefix, write_reply,
 };
 pub use request::{is_count, read_addressed, read_order, read_request, split_first};
 pub use sink::Sink;

@@ -63,8 +63,8 @@ impl Buffer {
     /// The least room, in bytes.
     const LEAST_ROOM: usize = 65536;
 
-    /// The most reads that are made for requests.
-    pub(crate) const MOST_READS: u64 = 1 << 30;
+    /// The most reads into one buffer.
+    pub const MOST_READS: u64 = 1 << 30;
 
     /// The most bytes of a line of requests.
     pub(crate) const MOST_BYTES: usize = 200;

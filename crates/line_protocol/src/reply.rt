@@ -17,8 +17,8 @@ use trace_types::{Name, Order, Reply};
 #[error("write")]
 pub struct WriteFault;
 
-/// How many interruptions end a call.
-const MOST_INTERRUPTIONS: u64 = 1048576;
+/// How many interruptions end a write or a flush.
+pub const MOST_INTERRUPTIONS: u64 = 1048576;
 
 /// Writes these bytes. Returns `WriteFault` at the first failure, or at the 1048576th interruption.
 #[inline(always)]

@@ -1,5 +1,5 @@
 //! Requests, which are read where they lie.
-ghost use Rattle.std.specs.Prelude.{◌≡◌, ◌∷◌, IfSome, IsTrue, Some, false, codes, take, option_map, position, ◌==◌};
+ghost use Rattle.std.specs.Prelude.{◌≡◌, ◌∷◌, ◌++◌, IfNone, IfSome, IsTrue, Some, false, codes, length, take, option_map, position, ◌==◌};
 ghost use Rattle.std.specs.Option.{option_copied};
 ghost use Rattle.trace_types.specs.text.Name.{is_same};
 ghost use Rattle.trace_types.specs.text.Reading.{request_of, words, number_of, is_digit, name_of, only, only_two, request_of_words, with_name, with_names, with_number};
@@ -48,26 +48,44 @@ fn read_other(line: &[u8]) -> Option<Request>
     requires order { is_same (take 6 line.now) (codes "order ") ≡ false }
     ensures { result ≡ request_of line.now }
 {
-    match line {
-        [b'l', b'o', b'c', b'a', b'l', b' ', arguments @ ..] => read_local(arguments),
-        [b's', b'e', b'n', b'd', b' ', arguments @ ..] => read_send(arguments),
-        [b'r', b'e', b'c', b'v', b' ', arguments @ ..] => read_recv(arguments),
-        [b's', b'p', b'a', b'w', b'n', b' ', arguments @ ..] => read_spawn(arguments),
-        [b'e', b'v', b'e', b'n', b't', b' ', arguments @ ..] => read_event(arguments),
-        [b's', b't', b'a', b'm', b'p', b' ', arguments @ ..] => read_stamp(arguments),
-        [b't', b'a', b's', b'k', b' ', arguments @ ..] => read_task(arguments),
-        [
-            b'm',
-            b'e',
-            b's',
-            b's',
-            b'a',
-            b'g',
-            b'e',
-            b' ',
-            arguments @ ..,
-        ] => read_message(arguments),
-        _ => read_rare(line),
+    if let Some(arguments) = behind(line, b"local ") {
+        return read_local(arguments);
+    }
+    if let Some(arguments) = behind(line, b"send ") {
+        return read_send(arguments);
+    }
+    if let Some(arguments) = behind(line, b"recv ") {
+        return read_recv(arguments);
+    }
+    if let Some(arguments) = behind(line, b"spawn ") {
+        return read_spawn(arguments);
+    }
+    if let Some(arguments) = behind(line, b"event ") {
+        return read_event(arguments);
+    }
+    if let Some(arguments) = behind(line, b"stamp ") {
+        return read_stamp(arguments);
+    }
+    if let Some(arguments) = behind(line, b"task ") {
+        return read_task(arguments);
+    }
+    if let Some(arguments) = behind(line, b"message ") {
+        return read_message(arguments);
+    }
+    read_rare(line)
+}
+
+/// The bytes of the line behind the word, if it begins with it.
+#[inline(always)]
+fn behind<'a>(line: &'a [u8], word: &[u8]) -> Option<&'a [u8]>
+    ensures some { IfSome result (λ rest. line.now ≡ word.now ++ rest.now) }
+    ensures none { IfNone result (is_same (take (length word.now) line.now) word.now ≡ false) }
+{
+    let len = word.len();
+    if len <= line.len() && is_word(&line[..len], word) {
+        Some(&line[len..])
+    } else {
+        None
     }
 }
 
@@ -79,11 +97,19 @@ fn read_local(arguments: &[u8]) -> Option<Request>
     Some(Request::Local(only_name(arguments)?))
 }
 
-/// Any other request, by its keyword.
+/// Any other request, by its keyword. The line begins with none of the words that [`read_other`] tells.
 #[inline(always)]
 fn read_rare(line: &[u8]) -> Option<Request>
     requires count { is_same line.now (codes "count") ≡ false }
     requires order { is_same (take 6 line.now) (codes "order ") ≡ false }
+    requires local { is_same (take 6 line.now) (codes "local ") ≡ false }
+    requires send { is_same (take 5 line.now) (codes "send ") ≡ false }
+    requires recv { is_same (take 5 line.now) (codes "recv ") ≡ false }
+    requires spawn { is_same (take 6 line.now) (codes "spawn ") ≡ false }
+    requires event { is_same (take 6 line.now) (codes "event ") ≡ false }
+    requires stamp { is_same (take 6 line.now) (codes "stamp ") ≡ false }
+    requires task { is_same (take 5 line.now) (codes "task ") ≡ false }
+    requires message { is_same (take 8 line.now) (codes "message ") ≡ false }
     ensures { result ≡ request_of line.now }
 {
     match split_first(line) {
@@ -92,23 +118,19 @@ fn read_rare(line: &[u8]) -> Option<Request>
     }
 }
 
-/// The request of a keyword that has arguments, other than `order`.
+/// The request of a keyword that has arguments, and is none of those that are told by how their lines begin.
 fn read_arguments(keyword: &[u8], arguments: &[u8]) -> Option<Request>
-    requires { is_same keyword.now (codes "order") ≡ false }
+    requires order { is_same keyword.now (codes "order") ≡ false }
+    requires local { is_same keyword.now (codes "local") ≡ false }
+    requires send { is_same keyword.now (codes "send") ≡ false }
+    requires recv { is_same keyword.now (codes "recv") ≡ false }
+    requires spawn { is_same keyword.now (codes "spawn") ≡ false }
+    requires event { is_same keyword.now (codes "event") ≡ false }
+    requires stamp { is_same keyword.now (codes "stamp") ≡ false }
+    requires task { is_same keyword.now (codes "task") ≡ false }
+    requires message { is_same keyword.now (codes "message") ≡ false }
     ensures { result ≡ request_of_words (keyword.now ∷ words arguments.now) }
 {
-    if is_word(keyword, b"local") {
-        return read_local(arguments);
-    }
-    if is_word(keyword, b"spawn") {
-        return read_spawn(arguments);
-    }
-    if is_word(keyword, b"send") {
-        return read_send(arguments);
-    }
-    if is_word(keyword, b"recv") {
-        return read_recv(arguments);
-    }
     if is_word(keyword, b"end") {
         return Some(Request::End(only_name(arguments)?));
     }
@@ -123,18 +145,6 @@ fn read_arguments(keyword: &[u8], arguments: &[u8]) -> Option<Request>
     }
     if is_word(keyword, b"cut") {
         return Some(Request::Cut(only_number(arguments)?));
-    }
-    if is_word(keyword, b"event") {
-        return read_event(arguments);
-    }
-    if is_word(keyword, b"stamp") {
-        return read_stamp(arguments);
-    }
-    if is_word(keyword, b"task") {
-        return read_task(arguments);
-    }
-    if is_word(keyword, b"message") {
-        return read_message(arguments);
     }
     None
 }

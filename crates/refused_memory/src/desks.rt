@@ -25,7 +25,7 @@ pub(crate) fn answer_the_run<R: Wait>(rt: &R, alloc: Global) -> bool {
 
 /// The desk of a tenant that has reported nothing, and its views. They are made again if they run out of memory.
 fn opened<R: Wait>(rt: &R, alloc: Global) -> Result<(Desk, Views), Memory>
-    ensures { IfOk result (λ made. made.1.book ≡ made.0.book) }
+    ensures { IfOk result (λ made. made.1.log ≡ made.0.log) }
 {
     match opened_once(rt, alloc) {
         Err(Memory) => opened_once(rt, alloc),
@@ -34,7 +34,7 @@ fn opened<R: Wait>(rt: &R, alloc: Global) -> Result<(Desk, Views), Memory>
 }
 
 fn opened_once<R: Wait>(rt: &R, alloc: Global) -> Result<(Desk, Views), Memory>
-    ensures { IfOk result (λ made. made.1.book ≡ made.0.book) }
+    ensures { IfOk result (λ made. made.1.log ≡ made.0.log) }
 {
     let shared = Shared::new(alloc, 64).map_err(|_| Memory)?;
     desk_and_views(rt, alloc, Limits::default(), Arc::new(alloc, shared)?)
@@ -42,7 +42,7 @@ fn opened_once<R: Wait>(rt: &R, alloc: Global) -> Result<(Desk, Views), Memory>
 
 /// Whether each line of the run gets its reply.
 fn answer_all<R: Wait>(rt: &R, desk: &mut Desk, mut view: View) -> bool
-    requires { view.book ≡ desk.old.book }
+    requires { view.log ≡ desk.old.log }
 {
     for line in RUN.split_inclusive("\n") {
         if !answer(rt, desk, &mut view, line) {
@@ -54,9 +54,9 @@ fn answer_all<R: Wait>(rt: &R, desk: &mut Desk, mut view: View) -> bool
 
 /// Whether the line gets its reply. A query has to get it from both.
 fn answer<R: Wait>(rt: &R, desk: &mut Desk, view: &mut View, line: &str) -> bool
-    requires { view.old.book ≡ desk.old.book }
-    ensures desk { desk.new.book ≡ desk.old.book }
-    ensures view { view.new.book ≡ view.old.book }
+    requires { view.old.log ≡ desk.old.log }
+    ensures desk { desk.new.log ≡ desk.old.log }
+    ensures view { view.new.log ≡ view.old.log }
 {
     let (request, due) = line_and_reply(line);
     let Some(request) = read_request(request.as_bytes()) else {
@@ -69,7 +69,7 @@ fn answer<R: Wait>(rt: &R, desk: &mut Desk, view: &mut View, line: &str) -> bool
 
 /// What the desk answers. It is asked again if it runs out of memory.
 fn called<R: Wait>(rt: &R, desk: &mut Desk, request: &Request) -> Reply
-    ensures { desk.new.book ≡ desk.old.book }
+    ensures { desk.new.log ≡ desk.old.log }
 {
     match desk.call(rt, request) {
         Reply::Refused(Code::NoMemory) => desk.call(rt, request),
@@ -79,7 +79,7 @@ fn called<R: Wait>(rt: &R, desk: &mut Desk, request: &Request) -> Reply
 
 /// What the view answers. It is asked again if it runs out of memory.
 fn asked(view: &mut View, request: &Request) -> Reply
-    ensures { view.new.book ≡ view.old.book }
+    ensures { view.new.log ≡ view.old.log }
 {
     match view.ask(request) {
         Reply::Refused(Code::NoMemory) => view.ask(request),

@@ -4,11 +4,8 @@ ghost use Rattle.line_protocol.specs.Patience.{waits_since_bytes};
 ghost use Rattle.stamp_reply.specs.Chunks.{GathersOn, StopsGathering};
 
 use crate::chunk::Chunk;
-use line_protocol::{Sink, write_piece};
+use line_protocol::{MOST_INTERRUPTIONS, Sink, write_piece};
 use stamp_codec::TakeBytes;
-
-/// How many interruptions end the writing of one text.
-const MOST_INTERRUPTIONS: u64 = 1048576;
 
 /// Takes the bytes of one text, and writes them to a sink in chunks.
 #[derive(Drop)]

@@ -62,8 +62,8 @@ none_waits (operation ∷ waiting) some tells none = absurd (false≢true (sym n
 -- What is shown after an operation, or still, is of the same log and is known.
 pub still_shown : (shows : Bool) (published next : Published) (known now : Option Sight) (operation : Operation) → IsShown published known → IsFor published operation
     → MatchBool shows (next ≡ left_by published operation) (next ≡ published) → MatchBool shows (now ≡ Some (sight_of next)) (now ≡ known)
-    → (next.front.book ≡ published.front.book) × IsShown next now
+    → (next.front.log ≡ published.front.log) × IsShown next now
 still_shown true published next known now operation shown for values seen =
-    (ap (λ (one : Published). one.front.book) values ∙ for.continues.of.0, record { sound = rw values for.sound; seen = seen })
+    (ap (λ (one : Published). one.front.log) values ∙ for.continues.of.0, record { sound = rw values for.sound; seen = seen })
 still_shown false published next known now operation shown for values seen =
-    (ap (λ (one : Published). one.front.book) values, rw (values, seen) shown)
+    (ap (λ (one : Published). one.front.log) values, rw (values, seen) shown)

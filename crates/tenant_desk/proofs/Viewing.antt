@@ -34,39 +34,39 @@ pub put_shorter : (seen told : List Row) (lists : List (List Row)) → IsPrefix 
 put_shorter seen told lists shorter begin = (shorter, (begins_with_itself seen, begin))
 
 -- what is known of a desk is known of its log
-pub of_log : (book : Log) (limits : Limits) (known : Option Sight) → IsOfDesk book limits known → IsOfLog book known
-of_log book limits None of = absurd of
-of_log book limits (Some sight) of = of.0
+pub of_log : (log : Log) (limits : Limits) (known : Option Sight) → IsOfDesk log limits known → IsOfLog log known
+of_log log limits None of = absurd of
+of_log log limits (Some sight) of = of.0
 
 -- what was entered is of the log of which something was known
-pub entered_log : (book : Log) (known now : Option Sight) (published : Published) → IsOfLog book known → Sees known published published now → published.front.book ≡ book
-entered_log book None now published of sees = absurd of
-entered_log book (Some sight) now published of sees = sym sees.2.0.0 ∙ of
+pub entered_log : (log : Log) (known now : Option Sight) (published : Published) → IsOfLog log known → Sees known published published now → published.front.log ≡ log
+entered_log log None now published of sees = absurd of
+entered_log log (Some sight) now published of sees = sym sees.2.0.0 ∙ of
 
 -- and of the desk, with the same limits
-pub entered_desk : (book : Log) (limits : Limits) (known now : Option Sight) (published : Published) → IsOfDesk book limits known
-    → Sees known published published now → (published.front.book ≡ book) × (published.events.limits ≡ limits)
-entered_desk book limits None now published of sees = absurd of
-entered_desk book limits (Some sight) now published of sees = (sym sees.2.0.0 ∙ of.0, sym sees.2.0.1 ∙ of.1)
+pub entered_desk : (log : Log) (limits : Limits) (known now : Option Sight) (published : Published) → IsOfDesk log limits known
+    → Sees known published published now → (published.front.log ≡ log) × (published.events.limits ≡ limits)
+entered_desk log limits None now published of sees = absurd of
+entered_desk log limits (Some sight) now published of sees = (sym sees.2.0.0 ∙ of.0, sym sees.2.0.1 ∙ of.1)
 
 -- which is then known
 pub stays_of : (known now : Option Sight) (published : Published) → Sees known published published now → StaysOf known now
-stays_of known now published sees book limits of =
-    subst (IsOfDesk book limits) (sym sees.1) (entered_desk book limits known now published of sees)
+stays_of known now published sees log limits of =
+    subst (IsOfDesk log limits) (sym sees.1) (entered_desk log limits known now published of sees)
 
-pub known_of_entered : (book : Log) (limits : Limits) (known now : Option Sight) (published : Published) → IsOfDesk book limits known
-    → Sees known published published now → IsOfDesk published.front.book limits now
-known_of_entered book limits known now published of sees =
-    let is = entered_desk book limits known now published of sees in
-    subst (IsOfDesk published.front.book limits) (sym sees.1) (refl, is.1)
+pub known_of_entered : (log : Log) (limits : Limits) (known now : Option Sight) (published : Published) → IsOfDesk log limits known
+    → Sees known published published now → IsOfDesk published.front.log limits now
+known_of_entered log limits known now published of sees =
+    let is = entered_desk log limits known now published of sees in
+    subst (IsOfDesk published.front.log limits) (sym sees.1) (refl, is.1)
 
 -- the answer at what was entered is one at the rows that are then seen
 pub looks_up : (old : Known) (known now : Option Sight) (published : Published) (request : Request) (reply : Reply)
-    → IsOfDesk old.book old.limits known → BeginWithEach old.seen old.met → HasEntered known old.seen published now
+    → IsOfDesk old.log old.limits known → BeginWithEach old.seen old.met → HasEntered known old.seen published now
     → Answers (tenant_of published.events) request reply
-    → LooksUp old request reply (record { seen = published.front.rows; met = []; limits = old.limits; book = published.front.book })
+    → LooksUp old request reply (record { seen = published.front.rows; met = []; limits = old.limits; log = published.front.log })
 looks_up old known now published request reply of begin entered answered =
-    let is = entered_desk old.book old.limits known now published of entered.sees in
+    let is = entered_desk old.log old.limits known now published of entered.sees in
     let same : tenant_of published.events ≡ record { limits = old.limits; rows = published.front.rows } =
     λ i. record { limits = is.1 i; rows = (sym entered.sees.0.rows) i } in
     inl (
@@ -77,15 +77,15 @@ looks_up old known now published request reply of begin entered answered =
         heard = begin_through old.seen published.front.rows old.met entered.begins begin;
         met = refl;
         limits = refl;
-        book = is.0;
+        log = is.0;
       },
     )
 
 -- so a view that is asked answers as it is due, where that is what it has seen afterwards
 pub responds : (old new : Known) (known now : Option Sight) (published : Published) (request : Request) (reply : Reply)
-    → is_report request ≡ false → IsOfDesk old.book old.limits known → BeginWithEach old.seen old.met → HasEntered known old.seen published now
+    → is_report request ≡ false → IsOfDesk old.log old.limits known → BeginWithEach old.seen old.met → HasEntered known old.seen published now
     → Answers (tenant_of published.events) request reply
-    → new ≡ record { seen = published.front.rows; met = []; limits = old.limits; book = published.front.book }
+    → new ≡ record { seen = published.front.rows; met = []; limits = old.limits; log = published.front.log }
     → Responds old request reply new
 responds old new known now published request reply query of begin entered answered is =
     subst (λ (report : Bool). MatchBool report ((reply ≡ Refused ViewOnly) × (new ≡ old)) (LooksUp old request reply new)) (sym query)
@@ -93,10 +93,10 @@ responds old new known now published request reply query of begin entered answer
 
 -- and so does one that gives the parts of a stamp, or says why not
 pub parts_respond : (old new : Known) (known now : Option Sight) (published : Published) (event : ℕ) (found : Result (Id × EventTree) Code)
-    → IsOfDesk old.book old.limits known → BeginWithEach old.seen old.met → HasEntered known old.seen published now
+    → IsOfDesk old.log old.limits known → BeginWithEach old.seen old.met → HasEntered known old.seen published now
     → MatchResult found (λ parts. Answers (tenant_of published.events) (Stamp event) (variants.Stamp (stamp_text parts.0 parts.1)))
     (λ code. Answers (tenant_of published.events) (Stamp event) (Refused code))
-    → new ≡ record { seen = published.front.rows; met = []; limits = old.limits; book = published.front.book }
+    → new ≡ record { seen = published.front.rows; met = []; limits = old.limits; log = published.front.log }
     → MatchResult found (λ parts. Responds old (Stamp event) (variants.Stamp (stamp_text parts.0 parts.1)) new) (λ code. Responds old (Stamp event) (Refused code) new)
 parts_respond old new known now published event (Ok parts) of begin entered answered is =
     responds old new known now published (Stamp event) (variants.Stamp (stamp_text parts.0 parts.1)) refl of begin entered answered is

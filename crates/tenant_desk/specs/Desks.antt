@@ -8,6 +8,6 @@ use Rattle.tenant_desk.specs.Histories.{Log}
 pub record Desk : Type 0 where
   pub tenant : Tenant
   pub published : List Row
-  pub book : Log
+  pub log : Log
   -- where its share keeps trees
   pub home : List ℕ

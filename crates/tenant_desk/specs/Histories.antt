@@ -14,7 +14,7 @@ pub record Log : Type 0 where
 -- the rows of a log up to some point, and which log it is
 pub record Line : Type 0 where
   pub rows : List Row
-  pub book : Log
+  pub log : Log
 
 -- the rows that the entries add
 abbrev pub rows_in : List Entry → List Row

@@ -16,14 +16,14 @@ sight_of published = record { front = published.front; limits = published.events
 
 -- what is known is of this desk
 abbrev pub IsOfDesk : Log → Limits → Option Sight → Type 0
-IsOfDesk book limits None = ⊥
-IsOfDesk book limits (Some sight) = (sight.front.book ≡ book) × (sight.limits ≡ limits)
+IsOfDesk log limits None = ⊥
+IsOfDesk log limits (Some sight) = (sight.front.log ≡ log) × (sight.limits ≡ limits)
 
 -- what is published is of the desk that is known, and begins with the rows that were seen
 abbrev pub Fits : Published → Option Sight → Type 0
 Fits published None = Unit {0}
 Fits published (Some sight) =
-    IsOfDesk published.front.book published.events.limits (Some sight) × IsPrefix sight.front.rows published.front.rows
+    IsOfDesk published.front.log published.events.limits (Some sight) × IsPrefix sight.front.rows published.front.rows
 
 -- what is kept is right, the id of `root` among it, and its rows are those of the log
 pub record IsPublished (published : Published) : Type 0 where
@@ -42,17 +42,17 @@ Sees known before after now = IsPublished after × (now ≡ Some (sight_of after
 
 -- What is published next is of the same desk, and begins with what was.
 pub record Continues (before after : Published) : Type 0 where
-  pub of : IsOfDesk before.front.book before.events.limits (Some (sight_of after))
+  pub of : IsOfDesk before.front.log before.events.limits (Some (sight_of after))
   pub begins : IsPrefix before.front.rows after.front.rows
 
 -- what is known is of this log
 abbrev pub IsOfLog : Log → Option Sight → Type 0
-IsOfLog book None = ⊥
-IsOfLog book (Some sight) = sight.front.book ≡ book
+IsOfLog log None = ⊥
+IsOfLog log (Some sight) = sight.front.log ≡ log
 
 -- what is known is still of the desk of which it was
 abbrev pub StaysOf : Option Sight → Option Sight → Type 0
-StaysOf before now = (book : Log) (limits : Limits) → IsOfDesk book limits before → IsOfDesk book limits now
+StaysOf before now = (log : Log) (limits : Limits) → IsOfDesk log limits before → IsOfDesk log limits now
 
 -- All that is published was entered and is seen, and it begins with these rows.
 pub record HasEntered (before : Option Sight) (rows : List Row) (published : Published) (now : Option Sight) : Type 0 where

@@ -15,7 +15,7 @@ pub record Known : Type 0 where
   pub seen : List Row
   pub met : List (List Row)
   pub limits : Limits
-  pub book : Log
+  pub log : Log
 
 -- the rows begin with each of the lists
 abbrev pub BeginWithEach : List Row → List (List Row) → Type 0
@@ -29,7 +29,7 @@ pub record Enters (old new : Known) : Type 0 where
   pub heard : BeginWithEach new.seen old.met
   pub met : new.met ≡ []
   pub limits : new.limits ≡ old.limits
-  pub book : new.book ≡ old.book
+  pub log : new.log ≡ old.log
 
 -- The query is answered at the rows that are then seen; or there was no list to enter, and the view is as before.
 abbrev pub LooksUp : Known → Request → Reply → Known → Type 0
@@ -52,14 +52,14 @@ pub record Learns (old : Known) (told : Line) (new : Known) : Type 0 where
   pub later : IsPrefix old.seen new.seen
   pub heard : IsPrefix told.rows new.seen
   pub limits : new.limits ≡ old.limits
-  pub book : new.book ≡ old.book
+  pub log : new.log ≡ old.log
 
 -- the views that are left, and the desk that they are of
 pub record Remaining : Type 0 where
   pub left : ℕ
   pub limits : Limits
-  pub book : Log
+  pub log : Log
 
 -- a view that has seen nothing
 abbrev pub new_view : Limits → Log → Known
-new_view limits book = record { seen = []; met = []; limits = limits; book = book }
+new_view limits log = record { seen = []; met = []; limits = limits; log = log }

@@ -35,7 +35,7 @@ impl Model for Desk {
 
     ghost Value = { Seen };
 
-    ghost view = { λ d. record { tenant = tenant_of d.publisher.events; published = d.publisher.front.rows; book = d.publisher.front.book; home = d.publisher.events.home } };
+    ghost view = { λ d. record { tenant = tenant_of d.publisher.events; published = d.publisher.front.rows; log = d.publisher.front.log; home = d.publisher.events.home } };
 }
 
 impl Desk {
@@ -49,7 +49,7 @@ impl Desk {
         ensures steps { Steps self.old.tenant request.now result self.new.tenant }
         ensures legal { AreLegal self.new.tenant.limits self.new.tenant.rows }
         ensures published { self.new.published ≡ self.new.tenant.rows }
-        ensures book { self.new.book ≡ self.old.book }
+        ensures log { self.new.log ≡ self.old.log }
         ensures home { self.new.home ≡ self.old.home }
     {
         let mut reply = Reply::Refused(Code::NoMemory);
@@ -63,7 +63,7 @@ impl Desk {
         ensures steps { Steps self.old.tenant request.now reply.new self.new.tenant }
         ensures legal { AreLegal self.new.tenant.limits self.new.tenant.rows }
         ensures published { self.new.published ≡ self.new.tenant.rows }
-        ensures book { self.new.book ≡ self.old.book }
+        ensures log { self.new.log ≡ self.old.log }
         ensures home { self.new.home ≡ self.old.home }
     {
         if request.is_report() {
@@ -91,7 +91,7 @@ impl Desk {
         ensures steps { Steps self.old.tenant request.now reply.new self.new.tenant }
         ensures legal { AreLegal self.new.tenant.limits self.new.tenant.rows }
         ensures published { self.new.published ≡ self.new.tenant.rows }
-        ensures book { self.new.book ≡ self.old.book }
+        ensures log { self.new.log ≡ self.old.log }
         ensures home { self.new.home ≡ self.old.home }
     {
         self.publisher.report(rt, &mut self.stack, request, reply);
@@ -101,7 +101,7 @@ impl Desk {
 
     /// Tells of all accepted rows. It takes constant time and no memory.
     pub fn tell(&self) -> Told
-        ensures { result ≡ record { rows = self.now.tenant.rows; book = self.now.book } }
+        ensures { result ≡ record { rows = self.now.tenant.rows; log = self.now.log } }
     {
         Told {
             front: self.publisher.front().again(),
@@ -142,8 +142,8 @@ pub fn desk_and_views<R: Wait>(
     ensures tenant { IfOk result (λ made. made.0.tenant ≡ fresh limits) }
     ensures published { IfOk result (λ made. made.0.published ≡ []) }
     ensures home { IfOk result (λ made. made.0.home ≡ ⟦<Shared as Keep>⟧.home (arc_value shared)) }
-    ensures views { IfOk result (λ made. made.1 ≡ record { left = 8; limits = limits; book = made.0.book }) }
-    ensures log { IfOk result (λ made. made.0.book.tenant ≡ root) }
+    ensures views { IfOk result (λ made. made.1 ≡ record { left = 8; limits = limits; log = made.0.log }) }
+    ensures log { IfOk result (λ made. made.0.log.tenant ≡ root) }
 {
     named_desk_and_views(rt, alloc, &Name::root(), limits, shared)
 }
@@ -160,8 +160,8 @@ pub fn named_desk_and_views<R: Wait>(
     ensures tenant { IfOk result (λ made. made.0.tenant ≡ fresh limits) }
     ensures published { IfOk result (λ made. made.0.published ≡ []) }
     ensures home { IfOk result (λ made. made.0.home ≡ ⟦<Shared as Keep>⟧.home (arc_value shared)) }
-    ensures views { IfOk result (λ made. made.1 ≡ record { left = 8; limits = limits; book = made.0.book }) }
-    ensures log { IfOk result (λ made. made.0.book.tenant ≡ name.now) }
+    ensures views { IfOk result (λ made. made.1 ≡ record { left = 8; limits = limits; log = made.0.log }) }
+    ensures log { IfOk result (λ made. made.0.log.tenant ≡ name.now) }
 {
     let mut publisher = Publisher::new(rt, alloc, name, limits, &shared)?;
     match Views::new(alloc, limits, &mut publisher) {

@@ -52,7 +52,7 @@ impl Model for Publisher {
 
     ghost view = { λ p. p.writer.desk.shown.value };
 
-    ghost invariant = { λ p. (p.head ≡ head_of p.writer.desk.shown.value.front.book) × IsShown p.writer.desk.shown.value (known_at p.writer.desk.place) };
+    ghost invariant = { λ p. (p.head ≡ head_of p.writer.desk.shown.value.front.log) × IsShown p.writer.desk.shown.value (known_at p.writer.desk.place) };
 }
 
 /// How many views a desk has. Each has a reader.
@@ -134,7 +134,7 @@ impl Publisher {
     ) -> Result<Publisher, Memory>
         ensures events { IfOk result (λ publisher. publisher.events ≡ no_events (⟦<Shared as Keep>⟧.home (arc_value shared.now)) limits) }
         ensures rows { IfOk result (λ publisher. publisher.front.rows ≡ []) }
-        ensures tenant { IfOk result (λ publisher. publisher.front.book.tenant ≡ tenant.now) }
+        ensures tenant { IfOk result (λ publisher. publisher.front.log.tenant ≡ tenant.now) }
     {
         let (head, front) = new_log(tenant);
         let mut writer = new_writer(rt, alloc, limits, shared, &front)?;
@@ -187,7 +187,7 @@ impl Publisher {
         requires { is_report request.now ≡ true }
         ensures steps { Steps (tenant_of self.old.events) request.now reply.new (tenant_of self.new.events) }
         ensures home { self.new.events.home ≡ self.old.events.home }
-        ensures book { self.new.front.book ≡ self.old.front.book }
+        ensures log { self.new.front.log ≡ self.old.front.log }
     {
         match self.events().draft(rt, stack, request) {
             Ok(draft) => {

@@ -91,7 +91,7 @@ impl Model for Front {
 
     ghost Value = { Line };
 
-    ghost view = { λ f. record { rows = rows_in f.seen.log; book = record { identity = f.seen.book; tenant = tenant_in f.seen.log } } };
+    ghost view = { λ f. record { rows = rows_in f.seen.log; log = record { identity = f.seen.book; tenant = tenant_in f.seen.log } } };
 
     ghost invariant = { λ f. (f.count ≡ length (rows_in f.seen.log)) × IsNamed f.seen.log };
 }
@@ -101,9 +101,9 @@ const MOST_ROWS: u64 = 1 << 62;
 
 /// A new log of this tenant, without rows.
 pub(crate) fn new_log(tenant: &Name) -> (Head, Front)
-    ensures head { result.0 ≡ head_of result.1.book }
+    ensures head { result.0 ≡ head_of result.1.log }
     ensures rows { result.1.rows ≡ [] }
-    ensures tenant { result.1.book.tenant ≡ tenant.now }
+    ensures tenant { result.1.log.tenant ≡ tenant.now }
 {
     let (seen, mut pens) = Seen::open_row::<Name, Naming>(tenant, Start::alone(), 1);
     let mut pen = pens.take();
@@ -124,7 +124,7 @@ impl Front {
     /// Whether the other, of the same log, is no longer than this one. Then this one begins with the other, else the
     /// other begins with this one.
     pub(crate) fn covers(&self, other: &Front) -> bool
-        requires { other.now.book ≡ self.now.book }
+        requires { other.now.log ≡ self.now.log }
         ensures { MatchBool result (IsPrefix other.now.rows self.now.rows)
             (IsPrefix self.now.rows other.now.rows × (length self.now.rows < length other.now.rows)) }
     {
@@ -135,8 +135,8 @@ impl Front {
 
     /// Shows that a log is of one tenant: two fronts of one log name the same.
     pub(crate) fn agrees(&self, other: &Front)
-        requires { other.now.book.identity ≡ self.now.book.identity }
-        ensures { other.now.book.tenant ≡ self.now.book.tenant }
+        requires { other.now.log.identity ≡ self.now.log.identity }
+        ensures { other.now.log.tenant ≡ self.now.log.tenant }
     {
         let mut both = self.seen.again();
         both.learn(&other.seen);
@@ -144,7 +144,7 @@ impl Front {
 
     /// Adds a row to the log. Returns `None` if there is a row behind these already, or no number is left.
     pub(crate) fn grown(&self, head: &Head, row: &Row) -> Option<Front>
-        requires { head.now ≡ head_of self.now.book }
+        requires { head.now ≡ head_of self.now.log }
         ensures { IfSome result (λ front. front ≡ longer_by row.now self.now) }
     {
         let count = self.count;

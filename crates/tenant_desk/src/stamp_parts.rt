@@ -8,6 +8,8 @@ ghost use Rattle.tenant_ledger.specs.Ledger.{IsKept, tenant_of};
 use crate::published::SharedBook;
 use event_tree::EvTree;
 use id_tree::IdTree;
+use tenant_ledger::MeantId;
+use trace_query::Meant;
 use trace_types::{Code, Reply, Request};
 
 /// The id and the tree of the event's stamp, or `None` if there is no such event.
@@ -17,12 +19,8 @@ pub(crate) fn parts_in(events: &SharedBook, event: u64) -> Option<(&IdTree, &EvT
     ensures answer { MatchOption result (Answers (tenant_of events.now) (Request.Stamp event) (Reply.Refused Code.NoEvent))
         (λ parts. Answers (tenant_of events.now) (Request.Stamp event) (Reply.Stamp (stamp_text parts.0.now parts.1.now))) }
 {
-    let place = event.checked_sub(1)?;
-    if place >= events.rows().len() as u64 {
-        return None;
-    }
-    let tree = events.trees()[place as usize].value();
-    Some((events.stamp_id(event), tree))
+    let (id, tree) = events.stamp_parts(event)?;
+    Some((id.id_value(), tree.tree_value()))
 }
 
 /// Equal parts, which outlive the events. Returns the code with which the request for the stamp is refused: `NoEvent`, or

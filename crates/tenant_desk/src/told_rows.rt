@@ -25,8 +25,8 @@ impl Model for Told {
 impl Told {
     /// Shows that a log is of one tenant: two that tell of one log name the same. So logs of two tenants are two logs.
     pub fn agrees(&self, other: &Told)
-        requires { other.now.book.identity ≡ self.now.book.identity }
-        ensures { other.now.book.tenant ≡ self.now.book.tenant }
+        requires { other.now.log.identity ≡ self.now.log.identity }
+        ensures { other.now.log.tenant ≡ self.now.log.tenant }
     {
         self.front.agrees(&other.front);
     }
@@ -34,7 +34,7 @@ impl Told {
     /// Whether the other, of the same log, tells of no more rows than this one. Then these rows begin with the other's, else
     /// the other's begin with these.
     pub fn covers(&self, other: &Told) -> bool
-        requires { other.now.book ≡ self.now.book }
+        requires { other.now.log ≡ self.now.log }
         ensures { MatchBool result (IsPrefix other.now.rows self.now.rows)
             (IsPrefix self.now.rows other.now.rows × (length self.now.rows < length other.now.rows)) }
     {

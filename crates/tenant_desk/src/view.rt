@@ -41,16 +41,16 @@ impl Model for View {
 
     ghost Value = { Known };
 
-    ghost view = { λ v. record { seen = v.seen.rows; met = v.met; limits = v.limits; book = v.seen.book } };
+    ghost view = { λ v. record { seen = v.seen.rows; met = v.met; limits = v.limits; log = v.seen.log } };
 
     ghost invariant = { λ v. BeginWithEach v.seen.rows v.met
-        × elim v.reader [ None ↦ ⊥ | Some reader ↦ IsOfDesk v.seen.book v.limits (known_at reader.place) ] };
+        × elim v.reader [ None ↦ ⊥ | Some reader ↦ IsOfDesk v.seen.log v.limits (known_at reader.place) ] };
 }
 
 /// Enters what is published. The reader comes back if the desk is gone, or if less is published than was seen.
 #[tactic(auto, using(crate::proofs::Viewing::entered_log, crate::proofs::Viewing::stays_of))]
 fn enter(reader: DeskReader, seen: &Front) -> Result<DeskReading, DeskReader>
-    requires { IsOfLog seen.now.book (known_at reader.place) }
+    requires { IsOfLog seen.now.log (known_at reader.place) }
     ensures { MatchResult result
         (λ reading. HasEntered (known_at reader.place) seen.now.rows reading.part.value (known_at reading.place))
         (λ left. StaysOf (known_at reader.place) (known_at left.place)) }
@@ -77,7 +77,7 @@ impl View {
     pub(crate) fn new(limits: Limits, publisher: &mut Publisher) -> Result<View, Memory>
         requires limits { publisher.old.events.limits ≡ limits }
         ensures same { publisher.new ≡ publisher.old }
-        ensures view { IfOk result (λ view. view ≡ record { seen = publisher.old.front.rows; met = []; limits = limits; book = publisher.old.front.book }) }
+        ensures view { IfOk result (λ view. view ≡ record { seen = publisher.old.front.rows; met = []; limits = limits; log = publisher.old.front.log }) }
     {
         let reader = publisher.reader()?;
         Ok(View {
@@ -91,7 +91,7 @@ impl View {
     /// Sees the rows that a desk told of, if they are more than were seen. It takes no memory, and waits for nobody.
     #[tactic(auto, using(crate::proofs::Viewing::put_longer, crate::proofs::Viewing::put_shorter))]
     pub fn learn(&mut self, told: Told)
-        requires { told.book ≡ self.old.book }
+        requires { told.log ≡ self.old.log }
         ensures { Learns self.old told self.new }
     {
         let is_longer = !self.seen.covers(&told.front);
@@ -103,7 +103,7 @@ impl View {
 
     /// Tells of all rows that it knows of. It takes constant time and no memory.
     pub fn tell(&self) -> Told
-        ensures { result ≡ record { rows = self.now.seen; book = self.now.book } }
+        ensures { result ≡ record { rows = self.now.seen; log = self.now.log } }
     {
         Told {
             front: self.seen.again(),
@@ -118,7 +118,7 @@ impl View {
     #[tactic(auto, using(crate::proofs::Viewing::short_response))]
     pub fn ask(&mut self, request: &Request) -> Reply
         ensures answer { Responds self.old request.now result self.new }
-        ensures book { self.new.book ≡ self.old.book }
+        ensures log { self.new.log ≡ self.old.log }
         ensures short { IsShort self.new.seen request.now result }
     {
         // For the proof: it says that these are limits.
@@ -131,7 +131,7 @@ impl View {
     /// Answers as [`View::ask`] does, and looks orders up in the cache that all tenants share.
     pub fn ask_cached<R: Wait>(&mut self, rt: &R, request: &Request) -> Reply
         ensures answer { Responds self.old request.now result self.new }
-        ensures book { self.new.book ≡ self.old.book }
+        ensures log { self.new.log ≡ self.old.log }
         ensures short { IsShort self.new.seen request.now result }
     {
         let mut reply = Reply::Refused(Code::NoPlace);
@@ -144,7 +144,7 @@ impl View {
     #[tactic(auto, using(crate::proofs::Viewing::short_response))]
     pub fn ask_cached_into<R: Wait>(&mut self, _rt: &R, request: &Request, reply: &mut Reply)
         ensures answer { Responds self.old request.now reply.new self.new }
-        ensures book { self.new.book ≡ self.old.book }
+        ensures log { self.new.log ≡ self.old.log }
         ensures short { IsShort self.new.seen request.now reply.new }
     {
         // For the proof: it says that these are limits.
@@ -162,7 +162,7 @@ impl View {
     pub fn stamp_parts(&mut self, event: u64) -> Result<(IdTree, EvTree), Code>
         ensures answer { MatchResult result (λ parts. Responds self.old (Request.Stamp event) (Reply.Stamp (stamp_text parts.0 parts.1)) self.new)
             (λ code. Responds self.old (Request.Stamp event) (Reply.Refused code) self.new) }
-        ensures book { self.new.book ≡ self.old.book }
+        ensures log { self.new.log ≡ self.old.log }
     {
         let Some(reader) = self.reader.take() else {
             unreachable!()
@@ -188,7 +188,7 @@ impl View {
     #[tactic(auto, using(crate::proofs::Viewing::of_log, crate::proofs::Viewing::entered_desk))]
     fn respond(&mut self, request: &Request, by_cache: bool, reply: &mut Reply)
         ensures answer { Responds self.old request.now reply.new self.new }
-        ensures book { self.new.book ≡ self.old.book }
+        ensures log { self.new.log ≡ self.old.log }
     {
         if request.is_report() {
             *reply = Reply::Refused(Code::ViewOnly);

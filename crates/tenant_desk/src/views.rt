@@ -25,9 +25,9 @@ impl Model for Views {
 
     ghost Value = { Remaining };
 
-    ghost view = { λ v. record { left = length v.views.items; limits = v.limits; book = v.front.book } };
+    ghost view = { λ v. record { left = length v.views.items; limits = v.limits; log = v.front.log } };
 
-    ghost invariant = { λ v. All (λ view. view ≡ new_view v.limits v.front.book) v.views.items };
+    ghost invariant = { λ v. All (λ view. view ≡ new_view v.limits v.front.log) v.views.items };
 }
 
 impl Views {
@@ -40,7 +40,7 @@ impl Views {
         requires rows { publisher.old.front.rows ≡ [] }
         requires limits { publisher.old.events.limits ≡ limits }
         ensures same { publisher.new ≡ publisher.old }
-        ensures views { IfOk result (λ views. views ≡ record { left = 8; limits = limits; book = publisher.old.front.book }) }
+        ensures views { IfOk result (λ views. views ≡ record { left = 8; limits = limits; log = publisher.old.front.log }) }
     {
         let mut views = Vec::with_capacity(alloc, VIEWS)?;
         for _number in 0..VIEWS {
@@ -56,9 +56,9 @@ impl Views {
     /// Hands out a view: each of eight once, and then `None`. A view that is dropped does not come back.
     pub fn view(&mut self) -> Option<View>
         ensures limits { self.new.limits ≡ self.old.limits }
-        ensures book { self.new.book ≡ self.old.book }
+        ensures log { self.new.log ≡ self.old.log }
         ensures view { MatchOption result ((self.old.left ≡ 0) × (self.new.left ≡ 0))
-            (λ view. (self.old.left ≡ self.new.left + 1) × (view ≡ new_view self.old.limits self.old.book)) }
+            (λ view. (self.old.left ≡ self.new.left + 1) × (view ≡ new_view self.old.limits self.old.log)) }
     {
         self.views.pop()
     }

@@ -3,7 +3,11 @@ ghost use Rattle.std.specs.Prelude.{◌≡◌, ◌-◌, ◌<◌, ◌≤◌, ◌=
 ghost use Rattle.trace_types.specs.tenant.Limits.{are_limits};
 ghost use Rattle.trace_types.specs.tenant.Rows.{is_event};
 ghost use Rattle.tenant_ledger.specs.IdValues.{id_of};
-ghost use Rattle.tenant_ledger.specs.Ledger.{HasAllRoom, HasRoom, HasRoomFor, IsKept, history_in, id_after, message_in, new_book, roomless, task_in};
+ghost use Rattle.tenant_ledger.specs.Contents.{history_in, message_in, task_in};
+ghost use Rattle.tenant_ledger.specs.Told.{id_after};
+ghost use Rattle.tenant_ledger.specs.Kept.{IsKept};
+ghost use Rattle.tenant_ledger.specs.Room.{HasAllRoom, HasRoom, HasRoomFor, roomless};
+ghost use Rattle.tenant_ledger.specs.NewBook.{new_book};
 
 mod commit;
 mod draft;
@@ -73,7 +77,7 @@ impl<S: Keep> Model for Book<S> {
     ghost use Rattle.indexmap.specs.IndexSet.{spare as set_spare};
     ghost use Rattle.event_tree.specs.EventTreeCode.{event_tree_code};
     ghost use Rattle.id_tree.specs.IdCode.{id_code};
-    ghost use Rattle.tenant_ledger.specs.Ledger.{Contents, with_seed};
+    ghost use Rattle.tenant_ledger.specs.Contents.{Contents, with_seed};
 
     ghost Value = { Contents };
 

@@ -1,17 +1,18 @@
 //! Ledgers, which take and answer requests by their books.
-ghost use Rattle.std.specs.Prelude.{◌≡◌, ◌≤◌, suc, true, Some, IfOk, IfErr, IfSome, is_some, length};
+ghost use Rattle.std.specs.Prelude.{◌≡◌, ◌≤◌, suc, true, Some, IfOk, IfErr, IfSome, MatchOption, is_some, length};
 ghost use Rattle.trace_types.specs.tenant.Rows.{history_of, is_event};
 ghost use Rattle.trace_types.specs.tenant.Reachability.{order_of};
 ghost use Rattle.trace_types.specs.clock.Clock.{tree_clock};
 ghost use Rattle.trace_types.specs.clock.Size.{inner_of_id, inner_of_tree};
 ghost use Rattle.trace_types.specs.clock.Stamps.{stamp_of, tree_of};
+ghost use Rattle.trace_types.specs.text.StampText.{stamp_text};
 ghost use Rattle.trace_types.specs.tenant.Tenant.{fresh, step, Steps, Answers, AreLegal, is_report, with_row};
 ghost use Rattle.event_tree.specs.Comparison.{StandsAs};
 ghost use Rattle.tenant_ledger.specs.Answers.{order_answer, taken_answer};
 ghost use Rattle.tenant_ledger.specs.Size.{AreShort, AreSized, HaveShortParts, IsShort, NestBySpawns, spawns_up_to};
 
 use crate::book::Book;
-use crate::query_answers::{answer, counts_of, order_of, place_of};
+use crate::query_answers::{answer, counts_of, order_of};
 use crate::share::{Keep, KeptId, Share};
 use crate::{PlainShare, Prepared, Stack, laws};
 use std::alloc::Global;
@@ -29,7 +30,8 @@ pub struct Ledger<S: Keep = PlainShare> {
 
 impl<S: Keep> Model for Ledger<S> {
     ghost use Rattle.trace_types.specs.tenant.Tenant.{Tenant};
-    ghost use Rattle.tenant_ledger.specs.Ledger.{IsKept, tenant_of};
+    ghost use Rattle.tenant_ledger.specs.Contents.{tenant_of};
+    ghost use Rattle.tenant_ledger.specs.Kept.{IsKept};
 
     ghost Value = { Tenant };
 
@@ -74,9 +76,8 @@ impl<S: Keep> Ledger<S> {
         ensures tree { IfSome result (λ kept. S.Kept.tree kept.now ≡ tree_of tree_clock (history_of self.now.rows) event) }
         ensures size { IfSome result (λ kept. inner_of_tree (S.Kept.tree kept.now) ≤ spawns_up_to self.now.rows event) }
     {
-        let book = &*self.book;
-        let place = place_of(book, event)?;
-        Some(&book.trees()[place])
+        let (_, tree) = self.book.stamp_parts(event)?;
+        Some(tree)
     }
 
     /// The id that the event's task has after it, as the ledger keeps it. It is `None` if there is no such event.
@@ -85,9 +86,17 @@ impl<S: Keep> Ledger<S> {
         ensures id { IfSome result (λ kept. S.Id.id kept.now ≡ (stamp_of tree_clock (history_of self.now.rows) event).0) }
         ensures size { IfSome result (λ kept. inner_of_id (S.Id.id kept.now) ≤ spawns_up_to self.now.rows event) }
     {
-        let book = &*self.book;
-        place_of(book, event)?;
-        Some(book.event_id(event))
+        let (id, _) = self.book.stamp_parts(event)?;
+        Some(id)
+    }
+
+    /// What is kept of the event's stamp: the id that its task has after it, and what the event knows. It is `None` if there
+    /// is no such event. [`Ledger::report`] answers a stamp with their text.
+    pub fn stamp_parts(&self, event: u64) -> Option<(&S::Id, &S::Kept)>
+        ensures { MatchOption result (Steps self.now (Request.Stamp event) (Reply.Refused Code.NoEvent) self.now)
+            (λ parts. Steps self.now (Request.Stamp event) (Reply.Stamp (stamp_text (S.Id.id parts.0.now) (S.Kept.tree parts.1.now))) self.now) }
+    {
+        self.book.stamp_parts(event)
     }
 
     /// The law by which an order is answered: the trees kept for two events stand to each other as the events do.

@@ -6,12 +6,10 @@ ghost use Rattle.trace_types.specs.clock.Size.{inner_of_id, inner_of_tree};
 ghost use Rattle.trace_types.specs.clock.Stamps.{id_of, tree_of};
 ghost use Rattle.trace_types.specs.tenant.Tenant.{with_row};
 ghost use Rattle.trace_types.specs.declared.reply.Reply.TheVariants as reply;
-ghost use Rattle.tenant_ledger.specs.Ledger.{MayHavePoint, start_of};
 
 use crate::book::{Book, Draft};
 use crate::share::{Keep, KeptId, Share};
 use crate::{Ledger, PlainShare, Stack};
-use event_tree::RaisedPoint;
 use std::marker::Model;
 use trace_types::{Reply, Row};
 
@@ -26,7 +24,8 @@ pub struct Prepared<S: Keep = PlainShare> {
 
 impl<S: Keep> Model for Prepared<S> {
     ghost use Rattle.tenant_ledger.specs.Upcoming.{Upcoming};
-    ghost use Rattle.tenant_ledger.specs.Ledger.{IsReady, tenant_of};
+    ghost use Rattle.tenant_ledger.specs.Contents.{tenant_of};
+    ghost use Rattle.tenant_ledger.specs.Adding.{IsReady};
 
     ghost Value = { Upcoming };
 
@@ -49,20 +48,6 @@ impl<S: Keep> Prepared<S> {
         ensures size { inner_of_tree (S.Kept.tree result.now) ≤ spawn_count (self.now.row ∷ history_of self.now.tenant.rows) }
     {
         self.draft.tree()
-    }
-
-    /// A point that the report's event raised, with the value there, if one was found.
-    pub fn point(&self) -> Option<RaisedPoint>
-        ensures { MayHavePoint (self.now.row ∷ history_of self.now.tenant.rows) (suc (length self.now.tenant.rows)) result }
-    {
-        self.draft.point()
-    }
-
-    /// The event that started the report's task, or 0.
-    pub fn start(&self) -> u64
-        ensures { result ≡ start_of (self.now.row ∷ history_of self.now.tenant.rows) (suc (length self.now.tenant.rows)) }
-    {
-        self.draft.start()
     }
 
     /// The id that the report's task has after the event, as it is kept.

@@ -8,12 +8,15 @@ ghost use Rattle.trace_types.specs.tenant.Rows.{is_event};
 ghost use Rattle.trace_types.specs.text.StampText.{stamp_text as text_of_parts};
 ghost use Rattle.trace_types.specs.tenant.Tenant.{Answers, reply_to_view};
 ghost use Rattle.tenant_ledger.specs.Answers.{code_of, is_brief, order_answer};
-ghost use Rattle.tenant_ledger.specs.Ledger.{IsKept, history_in, id_after, of_each, tenant_of};
+ghost use Rattle.tenant_ledger.specs.Contents.{history_in, tenant_of};
+ghost use Rattle.tenant_ledger.specs.Told.{id_after, of_each};
+ghost use Rattle.tenant_ledger.specs.Kept.{IsKept};
 
 use crate::book::Book;
 use crate::share::{Keep, KeptId};
 use event_tree::{EvTree, RaisedPoint};
 use stamp_codec::write_parts;
+use std::alloc::Global;
 use trace_query::{
     Compare, Meant, QueryFault, concurrent_by_points, cut_by_points, order_by_points,
     past_by_points,
@@ -140,7 +143,7 @@ fn row<S: Keep>(book: &Book<S>, event: u64) -> Reply
     requires { IsKept book.now }
     ensures { result ≡ reply_to_view (tenant_of book.now) (Request.Event event) }
 {
-    match place_of(book, event) {
+    match book.place_of(event) {
         Some(place) => Reply::Event(book.rows()[place].share()),
         None => Reply::Refused(Code::NoEvent),
     }
@@ -151,38 +154,21 @@ fn stamp<S: Keep>(book: &Book<S>, event: u64) -> Reply
     requires { IsKept book.now }
     ensures { Answers (tenant_of book.now) (Request.Stamp event) result }
 {
-    let Some(place) = place_of(book, event) else {
+    let Some((id, tree)) = book.stamp_parts(event) else {
         return Reply::Refused(Code::NoEvent);
     };
-    let tree = book.trees()[place].tree_value();
-    match stamp_text(book, event, tree) {
+    match stamp_text(book.alloc(), id, tree.tree_value()) {
         Ok(text) => Reply::Stamp(Text::from(text)),
         Err(refused) => Reply::Refused(Code::from(refused)),
     }
 }
 
-/// The text of the stamp of the event, whose tree this is. Returns `Memory` if it runs out of memory.
-fn stamp_text<S: Keep>(book: &Book<S>, event: u64, tree: &EvTree) -> Result<Vec<u8>, Memory>
-    requires kept { IsKept book.now }
-    requires event { is_event (history_in book.now) event ≡ true }
-    ensures { IfOk result (λ text. text.items ≡ text_of_parts (id_after (history_in book.now) event) tree.now) }
+/// The text of the stamp of this id and this tree. Returns `Memory` if it runs out of memory.
+fn stamp_text<I: KeptId>(alloc: Global, id: &I, tree: &EvTree) -> Result<Vec<u8>, Memory>
+    ensures { IfOk result (λ text. text.items ≡ text_of_parts (I.id id.now) tree.now) }
 {
-    let id = book.event_id(event).tree(book.alloc())?;
-    write_parts(book.alloc(), id.as_tree(), tree)
-}
-
-/// The place of the event in the lists, if there is such an event.
-pub(crate) fn place_of<S: Keep>(book: &Book<S>, event: u64) -> Option<usize>
-    requires { IsKept book.now }
-    ensures there { is_some result ≡ is_event (history_in book.now) event }
-    ensures place { IfSome result (λ place. (event ≡ suc place) × (place < length book.now.rows)) }
-{
-    let place = event.checked_sub(1)?;
-    if place < book.rows().len() as u64 {
-        Some(place as usize)
-    } else {
-        None
-    }
+    let id = id.tree(alloc)?;
+    write_parts(alloc, id.as_tree(), tree)
 }
 
 /// The state and the last event of the task.

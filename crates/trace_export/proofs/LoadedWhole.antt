@@ -13,7 +13,6 @@ use Rattle.trace_export.specs.Loading.{IsLoaded, limits_under, request_lines}
 use Rattle.trace_export.specs.Loads.{BreaksLoading, IsExportOfRun, Loads, LoadsAs}
 use Rattle.trace_export.specs.declared.export_fault.ExportFault.{ExportFault}
 use Rattle.trace_export.specs.declared.export_fault.ExportFault.TheVariants as export
-use Rattle.trace_export.specs.declared.loaded.Loaded.{Loaded}
 use Rattle.trace_export.specs.declared.loaded.Loaded.TheVariants.{Done, No}
 use Rattle.trace_export.specs.declared.reason.Reason.{Reason}
 use Rattle.trace_export.proofs.LoadedEvents.{loaded_is_export}

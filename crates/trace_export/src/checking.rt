@@ -14,9 +14,6 @@ use trace_types::Memory;
 /// The most bytes of a line.
 pub(crate) const MOST_BYTES: usize = 65536;
 
-/// The most reads of one call.
-pub(crate) const MOST_READS: u64 = 1 << 30;
-
 /// The least bytes that a line takes for a level of the tree that it lists.
 pub(crate) const BYTES_OF_LEVEL: usize = 4;
 
@@ -72,7 +69,7 @@ fn take_in<R: Source>(alloc: Global, reader: &mut R) -> Result<(Checked, Verdict
     ensures read { IsErrOf result CheckFault.Read ↔ ((R.seen reader.old).failures < (R.seen reader.new).failures) }
     ensures too_long { IsErrOf result CheckFault.TooLong → (R.seen reader.new).reads ≡ (R.seen reader.old).reads + 2 ^ 30 }
 {
-    let mut lines = Buffer::with_bounds(alloc, MOST_BYTES, MOST_READS)?;
+    let mut lines = Buffer::with_bounds(alloc, MOST_BYTES, Buffer::MOST_READS)?;
     let mut checked = Checked::new(alloc)?;
     let mut stack = Stack::new();
     loop {

@@ -18,7 +18,7 @@ use crate::sides::Sides;
 use event_tree::{EvTree, RaisedPoint};
 use std::alloc::{AllocError, Global};
 use std::mem;
-use trace_types::{Memory, Preds};
+use trace_types::{Limits, Memory, Preds};
 
 mod listed;
 mod ordering;
@@ -41,7 +41,7 @@ pub(crate) struct Graph {
 
 impl Graph {
     /// The most events of an export.
-    pub(crate) const MOST: usize = 16384;
+    pub(crate) const MOST: usize = Limits::MOST_EVENTS as usize;
 
     /// Nothing yet.
     pub(crate) fn new(alloc: Global) -> Result<Graph, AllocError>

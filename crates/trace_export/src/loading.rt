@@ -6,7 +6,7 @@ ghost use Rattle.trace_export.specs.Loading.{limits_under};
 ghost use Rattle.trace_export.specs.Loads.{BreaksLoading, Loads, LoadsAs, StopsLoading};
 ghost use Rattle.trace_export.specs.Rebuilding.{IsTaken, IsUnbegun};
 
-use crate::checking::{BYTES_OF_LEVEL, MOST_BYTES, MOST_READS};
+use crate::checking::{BYTES_OF_LEVEL, MOST_BYTES};
 use crate::follower::Follower;
 use crate::requests::write_requests;
 use crate::{LoadFault, Loaded, Reason};
@@ -115,7 +115,7 @@ fn take_in<T, R: Source>(
     ensures too_long { IsErrOf result LoadFault.TooLong → (R.seen reader.new).reads ≡ (R.seen reader.old).reads + 2 ^ 30 }
     ensures no_write { IfErr result (λ fault. fault ≢ LoadFault.Write) }
 {
-    let mut lines = Buffer::with_bounds(alloc, MOST_BYTES, MOST_READS)?;
+    let mut lines = Buffer::with_bounds(alloc, MOST_BYTES, Buffer::MOST_READS)?;
     let mut follows = true;
     let mut stack = Stack::new();
     loop {

@@ -49,8 +49,8 @@ steps_keep_limits old new request reply (inl stepped) = sym (ap (λ (pair : Repl
 steps_keep_limits old new request reply (inr (may, is, same)) = ap (λ (tenant : Tenant). tenant.limits) same
 
 -- A new view of this log belongs to the tenant.
-new_view_belongs : (owner : Owner) → IsViewOf owner (new_view owner.limits owner.book)
-new_view_belongs owner = record { sound = new_view_is_sound (new_view owner.limits owner.book) refl; limits = refl; book = refl }
+new_view_belongs : (owner : Owner) → IsViewOf owner (new_view owner.limits owner.log)
+new_view_belongs owner = record { sound = new_view_is_sound (new_view owner.limits owner.log) refl; limits = refl; log = refl }
 
 new_desk_is_sound : (desk : Desk) (limits : Limits) → desk.tenant ≡ fresh limits → desk.published ≡ [] → IsSoundDesk desk
 new_desk_is_sound desk limits is none =
@@ -58,16 +58,16 @@ new_desk_is_sound desk limits is none =
     record { legal = ([], tt, sym no_rows); published = none ∙ sym no_rows }
 
 -- and so does a new desk
-new_desk_belongs : (owner : Owner) (desk : Option Desk) → IsSomeAnd desk (IsNewDesk owner.limits owner.book) → IfSome desk (IsDeskOf owner)
+new_desk_belongs : (owner : Owner) (desk : Option Desk) → IsSomeAnd desk (IsNewDesk owner.limits owner.log) → IfSome desk (IsDeskOf owner)
 new_desk_belongs owner None none = absurd none
 new_desk_belongs owner (Some desk) new = record {
   sound = new_desk_is_sound desk owner.limits new.tenant new.published;
   limits = ap (λ (tenant : Tenant). tenant.limits) new.tenant;
-  book = new.book;
+  log = new.log;
 }
 
 -- All that a new tenant has belongs to it.
-pub whole_belongs : (owner : Owner) (rests : Rests) → IsWhole owner.limits owner.book rests → RestOf owner rests
+pub whole_belongs : (owner : Owner) (rests : Rests) → IsWhole owner.limits owner.log rests → RestOf owner rests
 whole_belongs owner rests whole = record {
   desk = new_desk_belongs owner rests.desk whole.desk;
   views = λ k d within. subst (IsViewOf owner) (sym (whole.views k d within)) (new_view_belongs owner);

@@ -16,11 +16,11 @@ pub named_later : (name : Text) (tenant : Owner) (others : Hub) → is_same tena
 named_later name tenant others other = rw other
 
 -- A hub with one tenant more.
-pub one_more : (names : List Text) (limits : Limits) (hub : Hub) (name : Text) (tenant : Owner) → IsHubOf names limits hub → tenant.name ≡ name → tenant.limits ≡ limits → tenant.book.tenant ≡ name → IsHubOf (names ++ name ∷ []) limits (hub ++ tenant ∷ [])
+pub one_more : (names : List Text) (limits : Limits) (hub : Hub) (name : Text) (tenant : Owner) → IsHubOf names limits hub → tenant.name ≡ name → tenant.limits ≡ limits → tenant.log.tenant ≡ name → IsHubOf (names ++ name ∷ []) limits (hub ++ tenant ∷ [])
 one_more names limits hub name tenant is named bounded logged = record {
   named =
       map-append (λ (one : Owner). one.name) hub (tenant ∷ [])
       ∙ ap (λ front. front ++ tenant.name ∷ []) is.named ∙ ap (λ (text : Text). names ++ text ∷ []) named;
   limited = All-push (λ (one : Owner). one.limits ≡ limits) hub tenant is.limited bounded;
-  logged = All-push (λ (one : Owner). one.book.tenant ≡ one.name) hub tenant is.logged (logged ∙ sym named);
+  logged = All-push (λ (one : Owner). one.log.tenant ≡ one.name) hub tenant is.logged (logged ∙ sym named);
 }

@@ -51,22 +51,22 @@ pub record IsTurnedAway (code : Code) (witness : Option Witness) (before after :
 
 -- What was lent belongs to this tenant, and what the session left of it does. The session was held with it. The witness is
 -- of the rows of both, which the tenant's log has reached.
-pub record IsHeld {S : Type 0} (IsSound : S → Type 0) (tenant_of : S → Tenant) (book_of : S → Log) (Does : S → Request → Reply → S → Type 0) (owner : Owner) (witness : Option Witness) (before after : State) (result : Result SessionEnd SessionFault) : Type 0 where
+pub record IsHeld {S : Type 0} (IsSound : S → Type 0) (tenant_of : S → Tenant) (log_of : S → Log) (Does : S → Request → Reply → S → Type 0) (owner : Owner) (witness : Option Witness) (before after : State) (result : Result SessionEnd SessionFault) : Type 0 where
   pub lent : S
   pub left : S
-  pub lent_belongs : Belongs IsSound tenant_of book_of owner lent
-  pub left_belongs : Belongs IsSound tenant_of book_of owner left
-  pub witnessed : IsWitnessed tenant_of book_of lent left witness
+  pub lent_belongs : Belongs IsSound tenant_of log_of owner lent
+  pub left_belongs : Belongs IsSound tenant_of log_of owner left
+  pub witnessed : IsWitnessed tenant_of log_of lent left witness
   pub session : Session Does lent left before after result
 
 -- It was not there to be lent, and the session was refused with this code; or the session was held with it.
 abbrev pub Lends : {S : Type 0} → (S → Type 0) → (S → Tenant) → (S → Log) → (S → Request → Reply → S → Type 0) → Code → Owner → Option Witness → State → State → Result SessionEnd SessionFault → Type 0
-Lends IsSound tenant_of book_of Does code owner witness before after result = IsTurnedAway code witness before after result ⊎ IsHeld IsSound tenant_of book_of Does owner witness before after result
+Lends IsSound tenant_of log_of Does code owner witness before after result = IsTurnedAway code witness before after result ⊎ IsHeld IsSound tenant_of log_of Does owner witness before after result
 
 -- The session asked for the desk of this tenant, or for a view.
 abbrev pub LendsTo : Lending → Owner → Option Witness → State → State → Result SessionEnd SessionFault → Type 0
-LendsTo lending.Desk owner witness before after result = Lends IsSoundDesk (λ desk. desk.tenant) (λ desk. desk.book) TakesRequest DeskTaken owner witness before after result
-LendsTo lending.View owner witness before after result = Lends IsSoundView tenant_seen (λ view. view.book) AsksView NoPlace owner witness before after result
+LendsTo lending.Desk owner witness before after result = Lends IsSoundDesk (λ desk. desk.tenant) (λ desk. desk.log) TakesRequest DeskTaken owner witness before after result
+LendsTo lending.View owner witness before after result = Lends IsSoundView tenant_seen (λ view. view.log) AsksView NoPlace owner witness before after result
 
 -- What came of the first line on this hub: one that opens nothing is refused, one that names no tenant is, and else what it
 -- asks for is lent of the tenant that it names, if it is there.

@@ -8,7 +8,7 @@ use Rattle.tenant_desk.specs.Histories.{Log}
 pub record Owner : Type 0 where
   pub name : Text
   pub limits : Limits
-  pub book : Log
+  pub log : Log
 
 -- a hub: its tenants
 abbrev pub Hub : Type 0
@@ -18,7 +18,7 @@ Hub = List Owner
 pub record IsHubOf (names : List Text) (limits : Limits) (hub : Hub) : Type 0 where
   pub named : map (λ (tenant : Owner). tenant.name) hub ≡ names
   pub limited : All (λ (tenant : Owner). tenant.limits ≡ limits) hub
-  pub logged : All (λ (tenant : Owner). tenant.book.tenant ≡ tenant.name) hub
+  pub logged : All (λ (tenant : Owner). tenant.log.tenant ≡ tenant.name) hub
 
 -- the tenant that has this name: the first, if there were several
 abbrev pub tenant_named : Text → Hub → Option Owner

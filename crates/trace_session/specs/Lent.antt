@@ -16,7 +16,7 @@ pub record IsSoundDesk (desk : Desk) : Type 0 where
 pub record TakesRequest (old : Desk) (request : Request) (reply : Reply) (new : Desk) : Type 0 where
   pub steps : Steps old.tenant request reply new.tenant
   pub sound : IsSoundDesk new
-  pub book : new.book ≡ old.book
+  pub log : new.log ≡ old.log
 
 -- What a view has seen is legal.
 pub record IsSoundView (view : Known) : Type 0 where
@@ -25,7 +25,7 @@ pub record IsSoundView (view : Known) : Type 0 where
 -- The view was asked: it answered at the list that was published then, which begins with what it had seen, or refused.
 pub record AsksView (old : Known) (request : Request) (reply : Reply) (new : Known) : Type 0 where
   pub responds : Responds old request reply new
-  pub book : new.book ≡ old.book
+  pub log : new.log ≡ old.log
 
 -- a view's tenant, with the rows that it saw
 abbrev pub tenant_seen : Known → Tenant

@@ -12,13 +12,13 @@ pub record Rests : Type 0 where
   pub views : List Known
 
 -- a new desk: it has no rows, these limits, and this log
-pub record IsNewDesk (limits : Limits) (log : Log) (desk : Desk) : Type 0 where
+pub record IsNewDesk (limits : Limits) (whose : Log) (desk : Desk) : Type 0 where
   pub tenant : desk.tenant ≡ fresh limits
   pub published : desk.published ≡ []
-  pub book : desk.book ≡ log
+  pub log : desk.log ≡ whose
 
 -- What rests is a new desk of this log, and eight views of that desk, which have seen nothing.
-pub record IsWhole (limits : Limits) (book : Log) (rests : Rests) : Type 0 where
-  pub desk : IsSomeAnd rests.desk (IsNewDesk limits book)
+pub record IsWhole (limits : Limits) (log : Log) (rests : Rests) : Type 0 where
+  pub desk : IsSomeAnd rests.desk (IsNewDesk limits log)
   pub count : length rests.views ≡ 8
-  pub views : All (λ view. view ≡ new_view limits book) rests.views
+  pub views : All (λ view. view ≡ new_view limits log) rests.views

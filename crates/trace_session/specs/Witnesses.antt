@@ -10,9 +10,9 @@ pub record Witness : Type 0 where
 
 -- what is told of a desk or a view: the rows that it knows of, and its log
 abbrev pub told_of : {S : Type 0} → (S → Tenant) → (S → Log) → S → Line
-told_of tenant_of book_of lent = record { rows = (tenant_of lent).rows; book = book_of lent }
+told_of tenant_of log_of lent = record { rows = (tenant_of lent).rows; log = log_of lent }
 
 -- There is a witness of what was lent and of what was left of it.
 abbrev pub IsWitnessed : {S : Type 0} → (S → Tenant) → (S → Log) → S → S → Option Witness → Type 0
-IsWitnessed tenant_of book_of lent left witness =
-    IsSomeAnd witness (λ one. (one.began ≡ told_of tenant_of book_of lent) × (one.ended ≡ told_of tenant_of book_of left))
+IsWitnessed tenant_of log_of lent left witness =
+    IsSomeAnd witness (λ one. (one.began ≡ told_of tenant_of log_of lent) × (one.ended ≡ told_of tenant_of log_of left))

@@ -35,7 +35,7 @@ pub(crate) trait Lent: Sized {
     ghost tenant_of: { Self → Tenant };
 
     // the log in which those rows stand
-    ghost book_of: { Self → Log };
+    ghost log_of: { Self → Log };
 
     // the code of a session that is refused since there is none
     ghost NONE_LEFT: { Code };
@@ -57,7 +57,7 @@ pub(crate) trait Lent: Sized {
         ensures does { does self.old request.now reply.new self.new }
         ensures sound { is_sound self.old → is_sound self.new }
         ensures limits { (tenant_of self.new).limits ≡ (tenant_of self.old).limits }
-        ensures book { book_of self.new ≡ book_of self.old };
+        ensures log { log_of self.new ≡ log_of self.old };
 
     /// Answers the request for the stamp of this event, and writes the reply. A stamp goes from its id and its tree to the
     /// output.
@@ -70,11 +70,11 @@ pub(crate) trait Lent: Sized {
         ensures gate { GoesThroughGate W.seen G.lets_out G.holds_back output.old output.new result }
         ensures sound { is_sound self.old → is_sound self.new }
         ensures limits { (tenant_of self.new).limits ≡ (tenant_of self.old).limits }
-        ensures book { book_of self.new ≡ book_of self.old };
+        ensures log { log_of self.new ≡ log_of self.old };
 
     /// Tells of the rows that it knows of.
     fn tell(&self) -> Told
-        ensures { result ≡ told_of tenant_of book_of self.now };
+        ensures { result ≡ told_of tenant_of log_of self.now };
 
     /// Takes one out of what rests, if there is one.
     fn take(resting: &mut Resting) -> Option<Self>
@@ -82,13 +82,13 @@ pub(crate) trait Lent: Sized {
         ensures none { IfNone result (those resting.old ≡ []) }
         ensures beside { beside resting.new ≡ beside resting.old }
         // What rested belonged to a tenant. Then it still does, and so does what is taken.
-        ensures owner { (owner : Owner) → RestOf owner resting.old → RestOf owner resting.new × IfSome result (Belongs is_sound tenant_of book_of owner) };
+        ensures owner { (owner : Owner) → RestOf owner resting.old → RestOf owner resting.new × IfSome result (Belongs is_sound tenant_of log_of owner) };
 
     /// Puts it back to what rests. It gives out a desk that was there already, which has to be ended.
     fn put(self, resting: &mut Resting) -> Option<Desk>
         ensures put { length (those resting.old) < most → (those resting.new ≡ those resting.old ++ self ∷ []) × (result ≡ None) }
         ensures beside { beside resting.new ≡ beside resting.old }
-        ensures owner { (owner : Owner) → RestOf owner resting.old → Belongs is_sound tenant_of book_of owner self → RestOf owner resting.new };
+        ensures owner { (owner : Owner) → RestOf owner resting.old → Belongs is_sound tenant_of log_of owner self → RestOf owner resting.new };
 }
 
 impl Lent for Desk {
@@ -103,7 +103,7 @@ impl Lent for Desk {
 
     ghost tenant_of = { λ desk. desk.tenant };
 
-    ghost book_of = { λ desk. desk.book };
+    ghost log_of = { λ desk. desk.log };
 
     ghost NONE_LEFT = { DeskTaken };
 
@@ -154,7 +154,7 @@ impl Lent for View {
 
     ghost tenant_of = { tenant_seen };
 
-    ghost book_of = { λ view. view.book };
+    ghost log_of = { λ view. view.log };
 
     ghost NONE_LEFT = { NoPlace };
 

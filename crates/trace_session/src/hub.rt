@@ -82,7 +82,7 @@ impl Hub {
         limits: Limits,
         shared: &Arc<Shared>,
     ) -> Result<Hub, Memory>
-        ensures { IfOk result (λ hub. (tenant : Owner) × (hub ≡ self ++ tenant ∷ []) × (tenant.name ≡ name) × (tenant.limits ≡ limits) × (tenant.book.tenant ≡ name)) }
+        ensures { IfOk result (λ hub. (tenant : Owner) × (hub ≡ self ++ tenant ∷ []) × (tenant.name ≡ name) × (tenant.limits ≡ limits) × (tenant.log.tenant ≡ name)) }
     {
         let Ok(tenant) = Tenant::new(rt, alloc, name, limits, shared) else {
             self.close(rt);

@@ -197,7 +197,7 @@ impl<'a, W: Sink, T: Wait, G: Gate> Output<'a, W, T, G> {
     ) -> Result<SessionEnd, SessionFault>
         requires fault { lines.old.fault ≡ None }
         requires witness { witness.old ≡ None }
-        ensures { GoesOn R.seen W.seen G.lets_out G.holds_back (Lends L.is_sound L.tenant_of L.book_of L.does L.NONE_LEFT tenant.now witness.new) lines.old lines.new self.old self.new result }
+        ensures { GoesOn R.seen W.seen G.lets_out G.holds_back (Lends L.is_sound L.tenant_of L.log_of L.does L.NONE_LEFT tenant.now witness.new) lines.old lines.new self.old self.new result }
     {
         let Some(mut lent) = tenant.lend::<L, T>(self.rt) else {
             return self.refuse(L::NONE_LEFT);

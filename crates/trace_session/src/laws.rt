@@ -24,7 +24,7 @@ pub fn reports_run()
 /// lines named them: no rows of the one can be compared with rows of the other.
 pub fn tenants_have_their_own_logs()
     ensures tenants { (names : List Text) (limits : Limits) (hub : Hub) (name other : Text) (one two : Owner) → IsHubOf names limits hub
-        → tenant_named name hub ≡ Some one → tenant_named other hub ≡ Some two → one.book ≡ two.book → name ≡ other }
+        → tenant_named name hub ≡ Some one → tenant_named other hub ≡ Some two → one.log ≡ two.log → name ≡ other }
     ensures sessions { (names : List Text) (limits : Limits) (hub : Hub) (name other : Text) (first second : Witness) → IsHubOf names limits hub
-        → IsWitnessOf hub name first → IsWitnessOf hub other second → first.began.book ≡ second.began.book → name ≡ other }
+        → IsWitnessOf hub name first → IsWitnessOf hub other second → first.began.log ≡ second.began.log → name ≡ other }
 {}

@@ -20,5 +20,5 @@ impl Model for Owner {
 
     ghost Value = { Seen };
 
-    ghost view = { λ owner. record { name = owner.name; limits = owner.limits; book = owner.told.book } };
+    ghost view = { λ owner. record { name = owner.name; limits = owner.limits; log = owner.told.log } };
 }

@@ -63,7 +63,8 @@ impl From<AllocError> for ServeFault {
     }
 }
 
-/// What workers hold sessions in.
+/// What workers hold sessions in: a hub. What goes to a thread is generic over it, since the proof that it may be sent then asks
+/// of a hub no more than `Sync`. With the hub itself that proof would walk through all that a hub has.
 trait Hall<T> {
     /// Holds the session of this connection, and says whether it came to its end.
     fn hold<A: Source + Drop, B: Sink + Drop, G: Gate>(

@@ -108,7 +108,7 @@ impl<'a, W: Sink, T: Wait, G: Gate> Output<'a, W, T, G> {
             (GoesOn R.seen W.seen G.lets_out G.holds_back (Session L.does lent.old lent.new) lines.old lines.new self.old self.new result) }
         ensures sound { L.is_sound lent.old → L.is_sound lent.new }
         ensures limits { (L.tenant_of lent.new).limits ≡ (L.tenant_of lent.old).limits }
-        ensures book { L.book_of lent.new ≡ L.book_of lent.old }
+        ensures log { L.log_of lent.new ≡ L.log_of lent.old }
         ensures again { IfSome lines.old.fault (λ fault. (result ≡ Err (session_fault_of fault)) × (lines.new ≡ lines.old)
             × (self.new ≡ self.old) × (lent.new ≡ lent.old)) }
     {
@@ -137,7 +137,7 @@ impl<'a, W: Sink, T: Wait, G: Gate> Output<'a, W, T, G> {
         ensures gate { GoesThroughGate W.seen G.lets_out G.holds_back self.old self.new result }
         ensures sound { L.is_sound lent.old → L.is_sound lent.new }
         ensures limits { (L.tenant_of lent.new).limits ≡ (L.tenant_of lent.old).limits }
-        ensures book { L.book_of lent.new ≡ L.book_of lent.old }
+        ensures log { L.log_of lent.new ≡ L.log_of lent.old }
     {
         match asked {
             Asked::End => Ok(Some(SessionEnd::EndOfInput)),
@@ -178,7 +178,7 @@ fn reply_to<T: Wait, L: Lent>(rt: &T, lent: &mut L, request: &Option<Request>, r
     ensures answers { AnswersLine L.does lent.old request.now reply.new lent.new }
     ensures sound { L.is_sound lent.old → L.is_sound lent.new }
     ensures limits { (L.tenant_of lent.new).limits ≡ (L.tenant_of lent.old).limits }
-    ensures book { L.book_of lent.new ≡ L.book_of lent.old }
+    ensures log { L.log_of lent.new ≡ L.log_of lent.old }
 {
     if let Some(request) = request {
         lent.answer(rt, request, reply);

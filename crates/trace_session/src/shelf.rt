@@ -69,7 +69,7 @@ const AWAITED: u32 = 2;
 impl Shelf {
     /// The shelf of this tenant, whose desk and views lie there. It gives them back if it runs out of memory.
     pub(crate) fn new(alloc: Global, owner: &Owner, resting: Resting) -> Result<Shelf, Resting>
-        requires { IsWhole owner.now.limits owner.now.book resting }
+        requires { IsWhole owner.now.limits owner.now.log resting }
         ensures shelf { IfOk result (λ shelf. shelf.table.shared.key ≡ owner.now) }
         ensures back { IfErr result (λ back. back ≡ resting) }
     {
@@ -95,7 +95,7 @@ impl Shelf {
 
     /// Lends a desk or a view, if one lies there.
     pub(crate) fn lend<L: Lent, R: Wait>(&self, rt: &R) -> Option<L>
-        ensures { IfSome result (Belongs L.is_sound L.tenant_of L.book_of self.now.table.shared.key) }
+        ensures { IfSome result (Belongs L.is_sound L.tenant_of L.log_of self.now.table.shared.key) }
     {
         let (mut resting, turn) = self.take(rt);
         let lent = L::take(&mut resting);
@@ -105,7 +105,7 @@ impl Shelf {
 
     /// Takes back what was lent.
     pub(crate) fn take_back<L: Lent, R: Wait>(&self, rt: &R, lent: L)
-        requires { Belongs L.is_sound L.tenant_of L.book_of self.now.table.shared.key lent }
+        requires { Belongs L.is_sound L.tenant_of L.log_of self.now.table.shared.key lent }
     {
         let (mut resting, turn) = self.take(rt);
         let other = lent.put(&mut resting);

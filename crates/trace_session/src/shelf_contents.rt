@@ -41,8 +41,8 @@ impl Resting {
         limits: Limits,
         shared: Arc<Shared>,
     ) -> Result<(Resting, Told), Memory>
-        ensures whole { IfOk result (λ made. IsWhole limits made.1.book made.0) }
-        ensures log { IfOk result (λ made. made.1.book.tenant ≡ name.now) }
+        ensures whole { IfOk result (λ made. IsWhole limits made.1.log made.0) }
+        ensures log { IfOk result (λ made. made.1.log.tenant ≡ name.now) }
     {
         let (desk, views) = named_desk_and_views(rt, alloc, name, limits, shared)?;
         match all_views(alloc, views) {
@@ -105,7 +105,7 @@ impl Resting {
 /// All the views that are left. Returns `Memory` if it runs out of memory.
 fn all_views(alloc: Global, mut views: Views) -> Result<Vec<View>, Memory>
     ensures count { IfOk result (λ all. length all.items ≡ views.left) }
-    ensures same { IfOk result (λ all. All (λ view. view ≡ new_view views.limits views.book) all.items) }
+    ensures same { IfOk result (λ all. All (λ view. view ≡ new_view views.limits views.log) all.items) }
     ensures room { IfOk result (λ all. 8 ≤ vec_capacity all) }
 {
     let mut all = Vec::with_capacity(alloc, 8)?;

@@ -44,7 +44,7 @@ impl Tenant {
     ) -> Result<Tenant, Memory>
         ensures name { IfOk result (λ tenant. tenant.name ≡ name) }
         ensures limits { IfOk result (λ tenant. tenant.limits ≡ limits) }
-        ensures log { IfOk result (λ tenant. tenant.book.tenant ≡ name) }
+        ensures log { IfOk result (λ tenant. tenant.log.tenant ≡ name) }
     {
         let shared = Arc::try_clone(shared)?;
         let (resting, told) = Resting::new(rt, alloc, &name, limits, shared)?;
@@ -70,15 +70,15 @@ impl Tenant {
     /// Lends a desk or a view of this tenant, if there is one that no session has. It cannot be dropped, so the session has
     /// to give it back.
     pub(crate) fn lend<L: Lent, R: Wait>(&self, rt: &R) -> Option<L>
-        ensures { IfSome result (Belongs L.is_sound L.tenant_of L.book_of self.now) }
+        ensures { IfSome result (Belongs L.is_sound L.tenant_of L.log_of self.now) }
     {
         self.shelf.lend(rt)
     }
 
     /// Takes back what was lent of this tenant, and tells of it.
     pub(crate) fn take_back<L: Lent, R: Wait>(&self, rt: &R, lent: L) -> Told
-        requires { Belongs L.is_sound L.tenant_of L.book_of self.now lent }
-        ensures { result ≡ told_of L.tenant_of L.book_of lent }
+        requires { Belongs L.is_sound L.tenant_of L.log_of self.now lent }
+        ensures { result ≡ told_of L.tenant_of L.log_of lent }
     {
         let told = lent.tell();
         self.shelf.take_back(rt, lent);

@@ -26,13 +26,6 @@ impl Numbers {
     {
         &self.items
     }
-
-    /// Gives the numbers back. It takes no memory.
-    pub fn into_vec(self) -> Vec<u64>
-        ensures { result.items ≡ self }
-    {
-        self.items
-    }
 }
 
 impl From<Vec<u64>> for Numbers {

@@ -74,19 +74,6 @@ length-stamp_texts rows = length-map-range_with_len (stamp_text_of (history_of r
 stamp_reply : (tenant : Tenant) (event : ℕ) → is_event (history_of tenant.rows) event ≡ true → reply_to_view tenant (Stamp event) ≡ reply.Stamp (stamp_text_of (history_of tenant.rows) event)
 stamp_reply tenant event is = ap (λ b. (step_unless (first_code ((not b, NoEvent) ∷ [])) tenant (Stamp event)).0) is
 
--- an event's stamp is told, by its id and its tree
-pub Steps-stamp : (tenant : Tenant) (event : ℕ) (id : Id) (tree : EventTree) → is_event (history_of tenant.rows) event ≡ true → id ≡ (stamp_of tree_clock (history_of tenant.rows) event).0
-    → tree ≡ tree_of tree_clock (history_of tenant.rows) event → Steps tenant (Stamp event) (reply.Stamp (stamp_text id tree)) tenant
-Steps-stamp tenant event id tree is id_is tree_is =
-    let knows = tree_is ∙ sym (stamp_knows (history_of tenant.rows) event) in
-    inl
-    (ap (λ there. step_unless (first_code ((not there, NoEvent) ∷ [])) tenant (Stamp event)) is
-    ∙ ap (λ text. (reply.Stamp text, tenant)) (sym (λ i. stamp_text (id_is i) (knows i))))
-
--- no stamp is told where there is no such event
-pub Steps-no_stamp : (tenant : Tenant) (event : ℕ) → is_event (history_of tenant.rows) event ≡ false → Steps tenant (Stamp event) (reply.Refused NoEvent) tenant
-Steps-no_stamp tenant event is = inl (ap (λ there. step_unless (first_code ((not there, NoEvent) ∷ [])) tenant (Stamp event)) is)
-
 -- what is answered to it
 pub answers_stamp : (tenant : Tenant) (event : ℕ) (answer : Reply) → is_event (history_of tenant.rows) event ≡ true → Answers tenant (Stamp event) answer
     → (answer ≡ reply.Stamp (stamp_text_of (history_of tenant.rows) event)) ⊎ (answer ≡ reply.Refused NoMemory)

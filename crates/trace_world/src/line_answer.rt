@@ -7,7 +7,6 @@ ghost use Rattle.tenant_ledger.specs.Answers.{taken_answer};
 ghost use Rattle.trace_world.specs.Answered.{AnswersFound, AnswersRequest, CarriesOut, TellsReply, code_to_nobody};
 ghost use Rattle.trace_world.specs.Counted.{CanCount};
 
-use crate::ledger_stamps::stamp_parts;
 use crate::{Counts, World};
 use line_protocol::{
     Sink, WriteFault, is_count, read_addressed, read_order, read_request, split_first,
@@ -15,6 +14,8 @@ use line_protocol::{
 };
 use stamp_reply::write_stamp_answer;
 use std::sync::Wait;
+use tenant_ledger::MeantId;
+use trace_query::Meant;
 use trace_types::{Code, Name, Reply, Request};
 
 /// Does what a line asks of the tenants, and writes and counts the answer. A line that is too long is `None`, and asks
@@ -123,9 +124,10 @@ fn tell_stamp<W: Sink>(
     requires counts { CanCount counts.old }
     ensures { AnswersRequest world.now tenant (Some (Request.Stamp event)) world.now (W.seen writer.old) (W.seen writer.new) counts.old counts.new result }
 {
-    match stamp_parts(world.ledger(tenant), event) {
+    match world.ledger(tenant).stamp_parts(event) {
         Some((id, tree)) => {
             counts.count_answered();
+            let (id, tree) = (id.id_value(), tree.tree_value());
             write_stamp_answer(writer, world.name(tenant), id, tree)
         }
         None => refuse(writer, counts, world.name(tenant).as_bytes(), Code::NoEvent),

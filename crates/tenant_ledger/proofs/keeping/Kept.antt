@@ -2,8 +2,11 @@
 use Rattle.std.proofs.Common.{◌≡◌, ℕ, false, ◌||◌, IsTrue, List, suc, ◌-◌, ◌<◌, ◌≤◌, [], ◌∷◌, ◌++◌, length, map, slice_get, option_map, Option, Some, refl, sym, ap, ◌∙◌, subst, inl, inr, arith}
 use Rattle.std.proofs.lemmas.List.Elements.{All-nil, All-push}
 use Rattle.trace_types.specs.clock.Id.{One}
-use Rattle.tenant_ledger.specs.Ledger.{IsMadeOf, Made, key_by, key_of, keys_in, new_book, roomless, with_key}
-use Rattle.tenant_ledger.proofs.Words.{nat_tests, cases_Bool, cond-true, or_left, length-append, length-map, length-reverse, reverse-append, map-append, same_Some, slice_get-map, is_same, root, Text, History, history_of, is_event, EventTree, task_count, tree_clock, id_of, tree_of, row_after, with_row, fresh, Limits, Row, IsLegal, Contents, Event, IsKept, IsTask, IsReport, IsReady, HasRoom, IsMessage, ArePoints, MayRaise, history_in, tenant_of, task_in, of_each, id_after, start_of, earlier_of, event_of, with_event, tasks_with, task_count_with, messages_with, message_count_with, last_in, message_count, Report}
+use Rattle.tenant_ledger.specs.Receipts.{key_of, keys_in, with_key}
+use Rattle.tenant_ledger.specs.Room.{roomless}
+use Rattle.tenant_ledger.specs.Events.{key_by}
+use Rattle.tenant_ledger.specs.NewBook.{new_book}
+use Rattle.tenant_ledger.proofs.Words.{nat_tests, cases_Bool, cond-true, or_left, length-append, length-map, length-reverse, reverse-append, map-append, same_Some, slice_get-map, is_same, root, Text, History, history_of, is_event, EventTree, task_count, tree_clock, id_of, tree_of, with_row, fresh, Limits, Row, IsLegal, Contents, Event, IsKept, IsTask, IsReport, IsReady, HasRoom, IsMessage, ArePoints, MayRaise, history_in, tenant_of, task_in, of_each, id_after, start_of, earlier_of, event_of, with_event, tasks_with, messages_with, last_in, message_count, kind_of, name_of, row_of_report, Report}
 use Rattle.event_tree.specs.declared.point.RaisedPoint.{RaisedPoint}
 use Rattle.tenant_ledger.proofs.clock.Events.{event_bounds, tree_of-older}
 use Rattle.tenant_ledger.proofs.clock.Legality.{IsLegal_from_AreLegal}
@@ -58,15 +61,12 @@ module _ (book : Contents) (kept : IsKept book) where
   pub report_with_room : (new : Contents) → new ≡ record book { kept_ids = new.kept_ids; room = new.room } → (report : Report) → IsReport book report → IsReport new report
   report_with_room new same report is = subst (λ b. IsReport b report) (sym same) search
 
-  pub made_with_room : (new : Contents) → new ≡ record book { kept_ids = new.kept_ids; room = new.room } → (report : Report) (made : Made) → IsMadeOf book report made → IsMadeOf new report made
-  made_with_room new same report made is = subst (λ b. IsMadeOf b report made) (sym same) search
-
 module _ (book : Contents) (kept : IsKept book) (report : Report) (is : IsReport book report) where
   abbrev history : History
   history = history_in book
 
   abbrev row : Row
-  row = row_after history report.task report.kind report.name
+  row = row_of_report book report
 
   -- the rows with that of the report are legal
   pub legal_with_row : IsLegal (row ∷ history)
@@ -78,9 +78,9 @@ module _ (book : Contents) (kept : IsKept book) (report : Report) (is : IsReport
       let live = legal_with_row.0.0 in
       let allowed = legal_with_row.0.1 in
       let to_longer = sym (reverse-append book.rows (row ∷ [])) in
-      let receipt_is : key_by event.acting.start event.received ≡ key_of history report.task report.kind report.name =
-      (λ i. key_by (started_as report.kind (suc (length history)) (length book.ids) report.acting i) (is.received i))
-      ∙ receipt_is_kept book kept report.task report.acting is.acting report.kind report.name allowed in
+      let receipt_is : key_by event.acting.start event.received ≡ key_of history report.task (kind_of report.deed) (name_of report.deed) =
+      (λ i. key_by (started_as report.deed (suc (length history)) (length book.ids) report.acting i) event.received)
+      ∙ receipt_is_kept book kept report.task report.acting is.acting report.deed is.found in
       let newest : id_after (row ∷ history) (suc (length history)) ≡ id_of tree_clock (row ∷ history) row.task = grind (arith, nat_tests) in
       record {
         legal = is.legal;
@@ -88,11 +88,11 @@ module _ (book : Contents) (kept : IsKept book) (report : Report) (is : IsReport
         trees = ap (λ trees. trees ++ event.tree ∷ []) kept.trees ∙ ap (of_each (tree_of tree_clock)) to_longer;
         homes = All-push (λ home. home ≡ book.home) book.homes book.home kept.homes refl;
         starts = ap (λ starts. starts ++ event.acting.start ∷ []) kept.starts
-            ∙ ap (λ start. of_each start_of history ++ start ∷ []) (start_is_kept book kept report.task report.acting is.acting live report.kind report.name allowed)
+            ∙ ap (λ start. of_each start_of history ++ start ∷ []) (start_is_kept book kept report.task report.acting is.acting live report.deed allowed)
             ∙ ap (of_each start_of) to_longer;
         points = subst (λ h. ArePoints h (book.points ++ point ∷ [])) to_longer (points_with_one row history book.points point kept.points raised);
         places =
-            let place = id_is_kept book kept report.task report.acting is.acting live report.kind report.name in
+            let place = id_is_kept book kept report.task report.acting is.acting live report.deed in
             map-append (slice_get (book.ids ++ event.ids)) book.places (event.acting.id ∷ [])
             ∙ (λ i. same_places book.ids event.ids book.places (of_each id_after history) kept.places i
             ++ (place ∙ ap Some (sym newest)) i ∷ [])
@@ -100,20 +100,16 @@ module _ (book : Contents) (kept : IsKept book) (report : Report) (is : IsReport
             ∙ ap (λ h. map Some (of_each id_after h)) to_longer;
         tasks_are = λ name. subst (IsTask (book.ids ++ event.ids) (history_of (book.rows ++ row ∷ [])) name) (sym (tasks_found event book name))
             (subst (λ h. IsTask (book.ids ++ event.ids) h name (tasks_with event book name)) to_longer
-            (subst (λ had. IsTask (book.ids ++ event.ids) (row ∷ history) name (tasks_with (event_of book (record report { named = record report.named { joined = had } }) point) book name)) (sym is.joined)
-            (tasks_are_kept book kept report.task report.acting is.acting live report.kind report.name allowed name)));
-        counted = tasks_counted event book ∙ ap (λ had. task_count_with (event_of book (record report { named = record report.named { joined = had } }) point) book) is.joined
-            ∙ tasks_are_counted book kept report.task report.acting is.acting live report.kind report.name allowed ∙ ap task_count to_longer;
+            (tasks_are_kept book kept report.task report.acting is.acting live report.deed is.found allowed name));
+        counted = tasks_counted event book ∙ tasks_are_counted book kept report.task report.acting is.acting live report.deed is.found allowed ∙ ap task_count to_longer;
         earlier = ap (λ list. list ++ last_in event.received ∷ []) kept.earlier
-            ∙ ap (λ last. of_each earlier_of history ++ last ∷ []) (ap last_in is.received ∙ earlier_is_kept book kept report.task report.kind report.name allowed)
+            ∙ ap (λ last. of_each earlier_of history ++ last ∷ []) (earlier_is_kept book kept report.task report.deed is.found)
             ∙ ap (of_each earlier_of) to_longer;
         received = (λ i. with_key (receipt_is i) (kept.received i)) ∙ ap keys_in to_longer;
         messages_are = λ name. subst (IsMessage (history_of (book.rows ++ row ∷ [])) name) (sym (messages_found event book name))
             (subst (λ h. IsMessage h name (messages_with event book name)) to_longer
-            (subst (λ had. IsMessage (row ∷ history) name (messages_with (event_of book (record report { named = record report.named { received = had } }) point) book name)) (sym is.received)
-            (messages_are_kept book kept report.task report.kind report.name allowed name)));
-        messages_counted = messages_counted event book ∙ ap (λ had. message_count_with (event_of book (record report { named = record report.named { received = had } }) point) book) is.received
-            ∙ messages_are_counted book kept report.task report.kind report.name allowed ∙ ap message_count to_longer;
+            (messages_are_kept book kept report.task report.deed is.found allowed name));
+        messages_counted = messages_counted event book ∙ messages_are_counted book kept report.task report.deed is.found allowed ∙ ap message_count to_longer;
         seeded = λ _. omega (arith, seeded);
       }
 
@@ -123,7 +119,7 @@ module _ (book : Contents) (kept : IsKept book) (report : Report) (is : IsReport
     kept = kept;
     next = keeps_report room.seeded point raised;
     room = room;
-    id = id_is_left book kept report.task report.acting is.acting legal_with_row.0.0 report.kind report.name;
+    id = id_is_left book kept report.task report.acting is.acting legal_with_row.0.0 report.deed;
   }
 
 -- What a ready event knows is what the rows with its own tell.

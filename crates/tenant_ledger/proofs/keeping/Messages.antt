@@ -1,6 +1,7 @@
 -- What is to be kept of each message after a report is right.
 use Rattle.std.proofs.Common.{◌≡◌, ◌≢◌, ℕ, suc, ◌+◌, ◌≤◌, true, false, cond, eqb, [], ◌∷◌, ◌++◌, length, Option, Some, None, is_some, refl, sym, ap, ◌∙◌, subst, inl, inr, arith}
-use Rattle.tenant_ledger.proofs.Words.{false≢true, cases_Bool, cond_both, cond-true, cond-false, and_right, or_left, eq-eqb, nat_tests, sum_by-append, length-append, is_same-itself, is_same_iff, Text, is_same, History, sends, sends_message, receives, receives_message, is_sent, receipts, message_count, row_after, Row, Kind, Send, Recv, AllowsNamed, IsLegal, Contents, IsKept, IsMessage, Message, history_in, message_in, received_by, noted_after, last_in, receipts_in, last_receipt, receipt_before, earlier_of, value_with, value_with_some, count_with_some}
+use Rattle.tenant_ledger.proofs.Words.{false≢true, cases_Bool, cond_both, cond-true, cond-false, and_right, or_left, eq-eqb, nat_tests, sum_by-append, length-append, is_same-itself, is_same_iff, Text, is_same, History, sends, sends_message, receives, receives_message, names, is_sent, receipts, message_count, row_after, Row, Kind, Send, Recv, AllowsNamed, IsLegal, Contents, IsKept, IsMessage, Message, history_in, message_in, received_in, kind_of, name_of, IsFound, Deed, noted_after, last_in, receipts_in, last_receipt, receipt_before, earlier_of, value_with, value_with_some, count_with_some}
+use Rattle.tenant_ledger.specs.declared.book.report.Deed.TheVariants as deed
 use Rattle.tenant_ledger.proofs.keeping.Known.{legal_history}
 
 -- one message more, if the row sends one
@@ -60,14 +61,9 @@ module _ (book : Contents) (kept : IsKept book) where
   message_kept name found = subst (IsMessage (history_in book) name) found (kept.messages_are name)
 
   -- what a report receives has no more receipts than there are events
-  pub received-le : (kind : Kind) (name : Option Text) → receipts_in (received_by (message_in book) kind name) ≤ length (history_in book)
-  received-le Recv None = omega arith
-  received-le Recv (Some name) = by (message_in book name) refl
-    where
-      by : (had : Option Message) → message_in book name ≡ had → receipts_in had ≤ length (history_in book)
-      by None none = omega arith
-      by (Some message) had = omega (arith, (message_kept name had).3, receipts-le (history_in book) name)
-  received-le kind name = omega arith
+  pub received-le : (deed : Deed) → IsFound book deed → receipts_in (received_in deed) ≤ length (history_in book)
+  received-le (deed.Recv message place had) is = omega (arith, (message_kept message is).3, receipts-le (history_in book) message)
+  received-le deed is = omega arith
 
   module _ (task : Text) where
     abbrev history : History
@@ -76,15 +72,18 @@ module _ (book : Contents) (kept : IsKept book) where
     abbrev event : ℕ
     event = suc (length history)
 
-    abbrev row : Kind → Option Text → Row
-    row kind name = row_after history task kind name
+    abbrev row : Deed → Row
+    row deed = row_after history task (kind_of deed) (name_of deed)
 
     -- what is kept of a message is right after the report
-    abbrev IsRight : Kind → Option Text → Text → Option Message → Type 0
-    IsRight kind name other found = IsMessage (row kind name ∷ history) other found
+    abbrev IsRight : Deed → Text → Option Message → Type 0
+    IsRight deed other found = IsMessage (row deed ∷ history) other found
+
+    abbrev Allowed : Deed → Type 0
+    Allowed deed = AllowsNamed history (kind_of deed) (name_of deed)
 
     -- of a message that the report sends
-    sent_is_message : (name : Text) → is_sent history name ≡ false → IsRight Send (Some name) name (Some (record { sent = event; last = 0; receipts = 0 }))
+    sent_is_message : (name : Text) → is_sent history name ≡ false → IsRight (deed.Send name) name (Some (record { sent = event; last = 0; receipts = 0 }))
     sent_is_message name new =
         let itself = is_same-itself name in
         let legal = legal_history book kept in (
@@ -95,8 +94,9 @@ module _ (book : Contents) (kept : IsKept book) where
         )
 
     -- of a message that it receives
-    received_is_message : (name : Text) (message : Message) → message_in book name ≡ Some message → IsRight Recv (Some name) name (Some (record message { last = event; receipts = message.receipts + 1 }))
-    received_is_message name message found =
+    received_is_message : (name : Text) (there : ℕ) (message : Message) → message_in book name ≡ Some message
+        → IsRight (deed.Recv name there message) name (Some (record message { last = event; receipts = message.receipts + 1 }))
+    received_is_message name there message found =
         let right = message_kept name found in
         let itself = is_same-itself name in (
           right.0,
@@ -106,59 +106,46 @@ module _ (book : Contents) (kept : IsKept book) where
         )
 
     -- the message that is named, once it is kept, and every other one
-    named_or_not : (kind : Kind) (name : Text) (kept_of : Message) → IsRight kind (Some name) name (Some kept_of)
-        → (other : Text) → IsRight kind (Some name) other (value_with name kept_of (message_in book) other)
-    named_or_not kind name kept_of right other =
-        cond_both (is_same name other) _ _ (IsRight kind (Some name) other)
-        (λ same. subst (λ n. IsRight kind (Some name) n (Some kept_of)) ((is_same_iff name other).0 same) right)
-        (λ not. stands_by (row kind (Some name)) history other (and_right (sends_message kind) _ not) (and_right (receives_message kind) _ not)
+    named_or_not : (deed : Deed) (name : Text) (kept_of : Message) → name_of deed ≡ Some name → IsRight deed name (Some kept_of)
+        → (other : Text) → IsRight deed other (value_with name kept_of (message_in book) other)
+    named_or_not deed name kept_of named_is right other =
+        cond_both (is_same name other) _ _ (IsRight deed other)
+        (λ same. subst (λ n. IsRight deed n (Some kept_of)) ((is_same_iff name other).0 same) right)
+        (λ not.
+        let unnamed : names (row deed) other ≡ false = ap (λ name. names (record (row deed) { name = name }) other) named_is ∙ not in
+        stands_by (row deed) history other (and_right (sends_message (kind_of deed)) _ unnamed) (and_right (receives_message (kind_of deed)) _ unnamed)
         (message_in book other) (kept.messages_are other))
 
-    abbrev messages_after : Kind → Option Text → Text → Option Message
-    messages_after kind name = value_with_some (noted_after kind event (received_by (message_in book) kind name)) name (message_in book)
+    abbrev noted : Deed → Option Message
+    noted deed = noted_after (kind_of deed) event (received_in deed)
+
+    abbrev messages_after : Deed → Text → Option Message
+    messages_after deed = value_with_some (noted deed) (name_of deed) (message_in book)
 
     -- so it is of each message
-    pub messages_are_kept : (kind : Kind) (name : Option Text) → AllowsNamed history kind name → (other : Text) → IsRight kind name other (messages_after kind name other)
-    messages_are_kept Send None allowed other = absurd allowed
-    messages_are_kept Recv None allowed other = absurd allowed
-    messages_are_kept Send (Some name) allowed other = named_or_not Send name _ (sent_is_message name allowed) other
-    messages_are_kept Recv (Some name) allowed other = by (message_in book name) refl
-      where
-        by : (had : Option Message) → message_in book name ≡ had → IsRight Recv (Some name) other (value_with_some (noted_after Recv event had) (Some name) (message_in book) other)
-        by None none = absurd (false≢true (ap is_some (sym none) ∙ has_message name ∙ allowed))
-        by (Some message) had = named_or_not Recv name _ (received_is_message name message had) other
-    messages_are_kept kind name allowed other = stands_by (row kind name) history other refl refl (message_in book other) (kept.messages_are other)
+    pub messages_are_kept : (deed : Deed) → IsFound book deed → Allowed deed → (other : Text) → IsRight deed other (messages_after deed other)
+    messages_are_kept (deed.Send name) is allowed other = named_or_not (deed.Send name) name _ refl (sent_is_message name allowed) other
+    messages_are_kept (deed.Recv name there had) is allowed other = named_or_not (deed.Recv name there had) name _ refl (received_is_message name there had is) other
+    messages_are_kept deed is allowed other = stands_by (row deed) history other refl refl (message_in book other) (kept.messages_are other)
 
     -- and the messages are counted
-    pub messages_are_counted : (kind : Kind) (name : Option Text) → AllowsNamed history kind name
-        → count_with_some (noted_after kind event (received_by (message_in book) kind name)) name (message_in book) (length book.messages) ≡ message_count (row kind name ∷ history)
-    messages_are_counted kind name allowed = omega (arith, by kind name allowed, message_count-more (row kind name) history)
+    pub messages_are_counted : (deed : Deed) → IsFound book deed → Allowed deed
+        → count_with_some (noted deed) (name_of deed) (message_in book) (length book.messages) ≡ message_count (row deed ∷ history)
+    messages_are_counted done is allowed = omega (arith, by done is allowed, message_count-more (row done) history)
       where
-        by : (kind : Kind) (name : Option Text) → AllowsNamed history kind name
-            → count_with_some (noted_after kind event (received_by (message_in book) kind name)) name (message_in book) (length book.messages) ≡ message_count history + cond (sends_message kind) 1 0
-        by Send None allowed = absurd allowed
-        by Send (Some name) allowed = rw (has_message name ∙ allowed) (omega (arith, kept.messages_counted))
-        by Recv None allowed = absurd allowed
-        by Recv (Some name) allowed = of_named (message_in book name) (has_message name ∙ allowed)
-          where
-            of_named : (had : Option Message) → is_some had ≡ true → count_with_some (noted_after Recv event had) (Some name) (message_in book) (length book.messages) ≡ message_count history + 0
-            of_named None none = absurd (false≢true none)
-            of_named (Some message) had = rw (has_message name ∙ allowed) (omega (arith, kept.messages_counted))
-        by kind name allowed = kept.messages_counted ∙ omega arith
+        by : (deed : Deed) → IsFound book deed → Allowed deed
+            → count_with_some (noted deed) (name_of deed) (message_in book) (length book.messages) ≡ message_count history + cond (sends_message (kind_of deed)) 1 0
+        by (deed.Send name) is allowed = rw (has_message name ∙ allowed) (omega (arith, kept.messages_counted))
+        by (deed.Recv name there had) is allowed = rw (has_message name ∙ allowed) (omega (arith, kept.messages_counted))
+        by deed is allowed = kept.messages_counted ∙ omega arith
 
     -- the receipt before is told of the event
-    pub earlier_is_kept : (kind : Kind) (name : Option Text) → AllowsNamed history kind name
-        → last_in (received_by (message_in book) kind name) ≡ earlier_of (row kind name ∷ history) event
-    earlier_is_kept kind name allowed = by kind name allowed ∙ sym (cond-true (eqb event event) _ _ (eq-eqb event event refl))
+    pub earlier_is_kept : (deed : Deed) → IsFound book deed → last_in (received_in deed) ≡ earlier_of (row deed ∷ history) event
+    earlier_is_kept done is = by done is ∙ sym (cond-true (eqb event event) _ _ (eq-eqb event event refl))
       where
-        by : (kind : Kind) (name : Option Text) → AllowsNamed history kind name → last_in (received_by (message_in book) kind name) ≡ receipt_before history kind name
-        by Recv None allowed = absurd allowed
-        by Recv (Some name) allowed = of_named (message_in book name) refl
-          where
-            of_named : (had : Option Message) → message_in book name ≡ had → last_in had ≡ last_receipt history name
-            of_named None none = absurd (false≢true (ap is_some (sym none) ∙ has_message name ∙ allowed))
-            of_named (Some message) had = (message_kept name had).2
-        by kind name allowed = refl
+        by : (deed : Deed) → IsFound book deed → last_in (received_in deed) ≡ receipt_before history (kind_of deed) (name_of deed)
+        by (deed.Recv name there had) is = (message_kept name is).2
+        by deed is = refl
 
 -- a later row leaves what is told of the receipt before an event
 pub earlier_of-older : (row : Row) (earlier : History) (event : ℕ) → event ≢ suc (length earlier) → earlier_of (row ∷ earlier) event ≡ earlier_of earlier event

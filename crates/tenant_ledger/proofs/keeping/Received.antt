@@ -5,8 +5,11 @@ use Rattle.std.specs.List.{list_any}
 use Rattle.std.proofs.lemmas.List.Folds.{list_any-append}
 use Rattle.indexmap.specs.IndexSet.{insert_key}
 use Rattle.trace_types.specs.tenant.Rows.{receives_by}
-use Rattle.tenant_ledger.specs.Ledger.{ReceiptKey, has_key, is_same_receipt, key_by, key_of, keys_in, with_key}
-use Rattle.tenant_ledger.proofs.Words.{false≢true, cases_Bool, cond-true, cond-false, eq-eqb, eqb-true, nat_tests, is_same_iff, Text, is_same, History, is_known, is_sent, has_received, names, receives, sends, starts, is_of, newest, start_event, send_event, Row, Kind, Recv, Send, Spawn, AllowsNamed, IsLegal, Contents, IsKept, Message, Task, history_in, last_receipt, message_in, received_by, task_in}
+use Rattle.tenant_ledger.specs.Contents.{ReceiptKey}
+use Rattle.tenant_ledger.specs.Receipts.{has_key, is_same_receipt, key_of, keys_in, with_key}
+use Rattle.tenant_ledger.specs.Events.{key_by}
+use Rattle.tenant_ledger.proofs.Words.{false≢true, cases_Bool, cond-true, cond-false, eq-eqb, eqb-true, nat_tests, is_same_iff, Text, is_same, History, is_known, is_sent, has_received, names, receives, sends, starts, is_of, newest, start_event, send_event, Row, Kind, Recv, Send, Spawn, AllowsNamed, IsLegal, Contents, IsKept, Message, Task, history_in, last_receipt, message_in, received_in, kind_of, name_of, IsFound, Deed, task_in}
+use Rattle.tenant_ledger.specs.declared.book.report.Deed.TheVariants as deed
 use Rattle.trace_types.proofs.Reachability.{newest-le}
 use Rattle.tenant_ledger.proofs.clock.Tasks.{unknown_has_no_event}
 use Rattle.tenant_ledger.proofs.keeping.Known.{legal_history, task_kept}
@@ -258,12 +261,6 @@ module _ (book : Contents) (kept : IsKept book) (task : Text) (acting : Task) (f
   is_not_received message {entry} there none = none_received (history_in book) task message (sym (message_kept book kept message there).2 ∙ none)
 
   -- the receipt that a report is
-  pub receipt_is_kept : (kind : Kind) (named : Option Text) → AllowsNamed (history_in book) kind named
-      → key_by acting.start (received_by (message_in book) kind named) ≡ key_of (history_in book) task kind named
-  receipt_is_kept Recv None allowed = absurd allowed
-  receipt_is_kept Recv (Some name) allowed = by (message_in book name) refl
-    where
-      by : (had : Option Message) → message_in book name ≡ had → key_by acting.start had ≡ Some (start_event (history_in book) task, send_event (history_in book) name)
-      by None none = absurd (false≢true (ap is_some (sym none) ∙ has_message book kept name ∙ allowed))
-      by (Some message) had = λ i. Some ((task_kept book kept task found).4 i, (message_kept book kept name had).1 i)
-  receipt_is_kept kind named allowed = refl
+  pub receipt_is_kept : (deed : Deed) → IsFound book deed → key_by acting.start (received_in deed) ≡ key_of (history_in book) task (kind_of deed) (name_of deed)
+  receipt_is_kept (deed.Recv name there had) is = λ i. Some ((task_kept book kept task found).4 i, (message_kept book kept name is).1 i)
+  receipt_is_kept deed is = refl

@@ -1,7 +1,7 @@
 -- Which refusal is due, and what a request that is not refused steps to.
 use Rattle.std.proofs.Common.{◌≡◌, ℕ, suc, Bool, true, false, List, [], ◌∷◌, ◌++◌, length, Option, Some, None, Result, Ok, Err, IsTrue, refl, sym, ap, ◌∙◌, subst, inl, inr}
-use Rattle.std.specs.Result.{result_err, IsErrAnd}
-use Rattle.tenant_ledger.proofs.Words.{AllByRecursion, cases_Bool, cond-false, length-reverse, Limits, History, history_of, first_code, refusals, refusal_of, reported, Steps, step_unless, answer_to, accepted, row_after, with_row, may_lack_memory, Tenant, Answers, reply_to_view, is_report, step, Text, Code, NoMemory, Reply, Reported, Request, Row, Kind, Contents, Event, IsKept, Decides, Prepares, refusals_of_report, history_in, tenant_of, fresh, after, AreLegal, Accepted, Refused}
+use Rattle.std.specs.Result.{result_err}
+use Rattle.tenant_ledger.proofs.Words.{AllByRecursion, cases_Bool, cond-false, length-reverse, Limits, History, history_of, first_code, refusals, refusal_of, reported, Steps, step_unless, answer_to, accepted, row_after, with_row, may_lack_memory, Tenant, Answers, reply_to_view, is_report, step, Text, Code, Reply, Reported, Request, Row, Kind, Contents, Decides, IsNamed, refusals_of_report, history_in, tenant_of, fresh, after, AreLegal, Accepted, Refused}
 use Rattle.trace_types.specs.declared.request.Request.TheVariants as request
 use Rattle.trace_types.specs.text.Text.{CanBeWritten}
 use Rattle.trace_types.proofs.Interleaving.{after-push, limits-after}
@@ -38,15 +38,21 @@ pub refused_for : (book : Contents) (request : Request) {report : Reported} → 
 refused_for book request {report} is = (by_report book.limits (history_in book) request (Some report) is).1
 
 -- a report may lack memory
-report_may_lack : (request : Request) → is_report request ≡ true → IsTrue (may_lack_memory request)
+pub report_may_lack : (request : Request) → is_report request ≡ true → IsTrue (may_lack_memory request)
 report_may_lack request.Count report = cc
 report_may_lack request report = cc
 
--- one that is not may find no memory
-pub lacked : (old new : Contents) (request : Request) (outcome : Result Event Code) → is_report request ≡ true → IsErrAnd outcome (λ given. given ≡ NoMemory)
-    → None ≡ refusal_of old.limits (history_in old) request → IsKept new → tenant_of new ≡ tenant_of old → Prepares outcome old request new
-lacked old new request (Ok event) report given none kept tenant = absurd given
-lacked old new request (Err code) report given none kept tenant = (kept, tenant, inr ((report_may_lack request report, sym none), ap Refused given, refl))
+-- a report names what its kind names
+abbrev IsNamedIn : Option Reported → Type 0
+IsNamedIn None = Unit {0}
+IsNamedIn (Some report) = IsNamed report.kind report.name
+
+named_in : (request : Request) → IsNamedIn (reported request)
+named_in request.Count = tt
+named_in request = search
+
+pub is_named : (request : Request) {report : Reported} → Some report ≡ reported request → IsNamed report.kind report.name
+is_named request is = subst IsNamedIn (sym is) (named_in request)
 
 -- else its row is added
 pub steps_to_row : (book : Contents) (request : Request) (task : Text) (kind : Kind) (name : Option Text)

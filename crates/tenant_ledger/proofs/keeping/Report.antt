@@ -1,13 +1,14 @@
 -- What a report that is not refused says of the ids and of the trees that its event is made of.
-use Rattle.std.proofs.Common.{◌≡◌, ◌≢◌, ◌+◌, ◌<◌, ◌≤◌, true, false, length, slice_get, Option, Some, None, is_some, refl, sym, ap, ◌∙◌, subst, inl, inr, arith}
-use Rattle.tenant_ledger.proofs.Words.{false≢true, cond-false, nat_tests, length-reverse, same_Some, slice_get_within, differ_by_test, Text, second_event, History, last_event, is_ended, is_joined, tree_clock, id_of, tree_of, acting_id, id_at, of_named, takes_in, Id, Zero, AreDisjoint, owns, EventTree, maximum, Row, Kind, Join, AllowsNamed, Contents, IsKept, IsReport, history_in, task_in, row_of_report, ids_made, id_for, joined_by, receipts_in, Report, Task}
+use Rattle.std.proofs.Common.{◌≡◌, ◌≢◌, ℕ, ◌+◌, ◌<◌, ◌≤◌, true, false, length, slice_get, Some, refl, sym, ap, ◌∙◌, subst, inl, inr, arith}
+use Rattle.tenant_ledger.proofs.Words.{false≢true, cond-true, cond-false, length-reverse, same_Some, slice_get_within, differ_by_test, Text, second_event, History, last_event, tree_clock, id_of, tree_of, acting_id, id_at, takes_in, Id, Zero, AreDisjoint, owns, EventTree, maximum, Row, Kind, Join, AllowsNamed, Contents, IsKept, IsReport, history_in, task_in, row_of_report, ids_made, id_for, kind_of, name_of, second_of, received_in, receipts_in, IsFound, Deed, Report, Task}
+use Rattle.tenant_ledger.specs.declared.book.report.Deed.TheVariants as deed
 use Rattle.tenant_ledger.proofs.clock.Consequences.{ids_are_disjoint, acting_id_is_not_Zero, known_before_maximum-le}
 use Rattle.tenant_ledger.proofs.clock.Events.{known_before_new}
 use Rattle.tenant_ledger.proofs.clock.Reaching.{followed-le}
 use Rattle.tenant_ledger.proofs.clock.Tasks.{live_is_not_ended}
 use Rattle.tenant_ledger.proofs.keeping.Kept.{legal_with_row}
-use Rattle.tenant_ledger.proofs.keeping.Known.{legal_history, task_kept, IsAt, is_at, has_known}
-use Rattle.tenant_ledger.proofs.keeping.Messages.{received-le}
+use Rattle.tenant_ledger.proofs.keeping.Known.{legal_history, task_kept, IsAt, is_at}
+use Rattle.tenant_ledger.proofs.keeping.Messages.{message_kept, received-le}
 use Rattle.tenant_ledger.proofs.keeping.Tasks.{own_id}
 
 -- the id with which an event is made
@@ -15,19 +16,11 @@ pub acting_of_made : (kind : Kind) (own named : Id) → id_for (ids_made kind ow
 acting_of_made Join own named = refl
 acting_of_made kind own named = refl
 
--- a task that is joined is named, and has ended
-abbrev IsJoined : Contents → Text → Option Text → Option Task → Type 0
-IsJoined book task name joined = (child : Text) × (had : Task) × (name ≡ Some child) × (joined ≡ Some had) × (task_in book child ≡ Some had)
-    × (is_ended (history_in book) child ≡ true) × (is_joined (history_in book) child ≡ false)
-
-pub joined_is_there : (book : Contents) (kept : IsKept book) (task : Text) (name : Option Text) (joined : Option Task)
-    → AllowsNamed (history_in book) Join name → joined ≡ joined_by (task_in book) Join name → IsJoined book task name joined
-joined_is_there book kept task None joined allowed is = absurd allowed
-joined_is_there book kept task (Some child) joined allowed is = by (task_in book child) refl
-  where
-    by : (had : Option Task) → task_in book child ≡ had → IsJoined book task (Some child) joined
-    by None none = absurd (false≢true (ap is_some (sym none) ∙ has_known book kept child ∙ allowed.0))
-    by (Some had) found = (child, had, refl, is ∙ found, found, allowed.1, allowed.2)
+-- the event that a report follows beside the last one of its task
+second_is_kept : (book : Contents) → IsKept book → (deed : Deed) → IsFound book deed → second_of deed ≡ second_event (history_in book) (kind_of deed) (name_of deed)
+second_is_kept book kept (deed.Recv message there found) is = (message_kept book kept message is).1
+second_is_kept book kept (deed.Join child there found) is = (task_kept book kept child is).2
+second_is_kept book kept deed is = refl
 
 module _ {book : Contents} {report : Report} (kept : IsKept book) (is : IsReport book report) where
   abbrev history : History
@@ -52,12 +45,16 @@ module _ {book : Contents} {report : Report} (kept : IsKept book) (is : IsReport
   pub last-le : report.acting.last ≤ length book.rows
   last-le = omega (arith, acting_last, followed-le row history (last_event history report.task) (inl refl), length-reverse book.rows)
 
-  pub second-le : report.named.second ≤ length book.rows
-  second-le = omega (arith, is.second, followed-le row history (second_event history report.kind report.name) (inr refl), length-reverse book.rows)
+  second_is : second_of report.deed ≡ second_event history (kind_of report.deed) (name_of report.deed)
+  second_is = second_is_kept book kept report.deed is.found
+
+  pub second-le : second_of report.deed ≤ length book.rows
+  second-le =
+      omega (arith, second_is, followed-le row history (second_event history (kind_of report.deed) (name_of report.deed)) (inr refl), length-reverse book.rows)
 
   -- what it receives has fewer receipts than there may be
-  pub few_receipts : receipts_in report.named.received < 16384
-  few_receipts = omega (arith, ap receipts_in is.received, received-le book kept report.kind report.name, length-reverse book.rows, is.few)
+  pub few_receipts : receipts_in (received_in report.deed) < 16384
+  few_receipts = omega (arith, received-le book kept report.deed is.found, length-reverse book.rows, is.few)
 
   -- an event may be made of what is known before it
   pub id_some : {id : Id} → id ≡ acting_id tree_clock history row → id ≢ Zero
@@ -69,36 +66,38 @@ module _ {book : Contents} {report : Report} (kept : IsKept book) (is : IsReport
       omega (arith, bounded, length-reverse book.rows, kept.small)
 
   -- that is what its task knew, joined with what the second event knew where it takes that in
-  pub knows_both : takes_in report.kind ≡ true → {own second : EventTree} → own ≡ tree_of tree_clock history report.acting.last
-      → second ≡ tree_of tree_clock history report.named.second → tree_clock.join own second ≡ known_before_new tree_clock row history
-  knows_both takes own_is second_is = grind (arith, nat_tests)
+  pub knows_both : takes_in (kind_of report.deed) ≡ true → {own second : EventTree} → own ≡ tree_of tree_clock history report.acting.last
+      → second ≡ tree_of tree_clock history (second_of report.deed) → tree_clock.join own second ≡ known_before_new tree_clock row history
+  knows_both takes {own} {second} own_knows second_knows =
+      let one : own ≡ tree_of tree_clock history (last_event history report.task) = own_knows ∙ ap (tree_of tree_clock history) acting_last in
+      let other : second ≡ tree_of tree_clock history (second_event history (kind_of report.deed) (name_of report.deed)) = second_knows ∙ ap (tree_of tree_clock history) second_is in
+      (λ i. tree_clock.join (one i) (other i)) ∙ sym (cond-true (takes_in (kind_of report.deed)) _ _ takes)
 
-  pub knows_own : takes_in report.kind ≡ false → {own : EventTree} → own ≡ tree_of tree_clock history report.acting.last → own ≡ known_before_new tree_clock row history
-  knows_own takes own_is = own_is ∙ ap (tree_of tree_clock history) acting_last ∙ sym (cond-false (takes_in report.kind) _ _ takes)
+  pub knows_own : takes_in (kind_of report.deed) ≡ false → {own : EventTree} → own ≡ tree_of tree_clock history report.acting.last → own ≡ known_before_new tree_clock row history
+  knows_own takes own_is = own_is ∙ ap (tree_of tree_clock history) acting_last ∙ sym (cond-false (takes_in (kind_of report.deed)) _ _ takes)
 
-  module _ (kind_is : report.kind ≡ Join) where
-    pub joins : IsJoined book report.task report.name report.named.joined
-    joins = joined_is_there book kept report.task report.name report.named.joined
-        (subst (λ kind. AllowsNamed history kind report.name) kind_is (legal_with_row book kept report is).0.1)
-        (subst (λ kind. report.named.joined ≡ joined_by (task_in book) kind report.name) kind_is is.joined)
+  -- a task that it joins has ended, and its id is kept
+  module _ {child : Text} {there : ℕ} {had : Task} (join_is : report.deed ≡ deed.Join child there had) where
+    allowed_join : AllowsNamed history Join (Some child)
+    allowed_join = subst (λ one. AllowsNamed history (kind_of one) (name_of one)) join_is (legal_with_row book kept report is).0.1
 
-    module _ {had : Task} (had_is : report.named.joined ≡ Some had) where
-      joined_id_kept : slice_get book.ids had.id ≡ Some (id_of tree_clock history joins.0)
-      joined_id_kept =
-          let same : joins.1 ≡ had = same_Some joins.1 had (sym joins.3 ∙ had_is) in
-          let right = task_kept book kept joins.0 joins.4 in
-          ap (λ (t : Task). slice_get book.ids t.id) (sym same) ∙ right.3 λ joined.
-          false≢true (sym joins.6 ∙ (subst (IsAt history joins.0) joined (is_at book kept joins.0 joins.4)).1)
+    joined_found : task_in book child ≡ Some had
+    joined_found = subst (IsFound book) join_is is.found
 
-      pub joined_place : had.id < length book.ids
-      joined_place = slice_get_within book.ids had.id _ joined_id_kept
+    joined_id_kept : slice_get book.ids had.id ≡ Some (id_of tree_clock history child)
+    joined_id_kept =
+        (task_kept book kept child joined_found).3 λ joined.
+        false≢true (sym allowed_join.2 ∙ (subst (IsAt history child) joined (is_at book kept child joined_found)).1)
 
-      pub joined_is : {id : Id} → slice_get book.ids had.id ≡ Some id → id ≡ of_named Zero (id_of tree_clock history) report.name
-      joined_is {id} there = same_Some id _ (sym there ∙ joined_id_kept) ∙ ap (of_named Zero (id_of tree_clock history)) (sym joins.2)
+    pub joined_place : had.id < length book.ids
+    joined_place = slice_get_within book.ids had.id _ joined_id_kept
 
-      pub disjoint : {own other : Id} → own ≡ id_of tree_clock history report.task → other ≡ of_named Zero (id_of tree_clock history) report.name → AreDisjoint own other
-      disjoint acts is_named point held other_held =
-          let differ = live_is_not_ended history report.task joins.0 (legal_with_row book kept report is).0.0 joins.5 in
-          ids_are_disjoint history (legal_history book kept) report.task joins.0 (differ_by_test report.task joins.0 differ) point
-          (ap (λ id. owns id point) (sym acts) ∙ held)
-          (ap (λ id. owns id point) (sym (is_named ∙ ap (of_named Zero (id_of tree_clock history)) joins.2)) ∙ other_held)
+    pub joined_is : {id : Id} → slice_get book.ids had.id ≡ Some id → id ≡ id_of tree_clock history child
+    joined_is {id} got = same_Some id _ (sym got ∙ joined_id_kept)
+
+    pub disjoint : {own other : Id} → own ≡ id_of tree_clock history report.task → other ≡ id_of tree_clock history child → AreDisjoint own other
+    disjoint acts is_named point held other_held =
+        let differ = live_is_not_ended history report.task child (legal_with_row book kept report is).0.0 allowed_join.1 in
+        ids_are_disjoint history (legal_history book kept) report.task child (differ_by_test report.task child differ) point
+        (ap (λ id. owns id point) (sym acts) ∙ held)
+        (ap (λ id. owns id point) (sym is_named) ∙ other_held)

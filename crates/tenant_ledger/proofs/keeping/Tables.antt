@@ -2,7 +2,8 @@
 use Rattle.std.proofs.Common.{◌≡◌, ◌+◌, true, false, cond, List, [], ◌∷◌, length, Option, Some, None, is_some, refl, sym, ap, ◌∙◌, subst, inl, inr, arith}
 use Rattle.std.specs.Map.{lookup}
 use Rattle.indexmap.specs.IndexMap.{insert_entry}
-use Rattle.tenant_ledger.specs.Ledger.{entries_with, noted_with}
+use Rattle.tenant_ledger.specs.Events.{noted_with}
+use Rattle.tenant_ledger.specs.Adding.{entries_with}
 use Rattle.tenant_ledger.proofs.Words.{cases_Bool, cond-false, is_same_iff, Text, is_same, Event, Contents, value_with, value_with_some, count_with, count_with_some, with_event, tasks_with, task_count_with, messages_with, message_count_with, task_in, message_in}
 use Rattle.tenant_ledger.proofs.keeping.Known.{differ_back}
 

@@ -5,7 +5,10 @@ ghost use Rattle.indexmap.specs.IndexSet.{spare as set_spare};
 ghost use Rattle.trace_types.specs.text.Name.{Text as Characters, is_same};
 ghost use Rattle.trace_types.specs.clock.Clock.{tree_clock};
 ghost use Rattle.trace_types.specs.clock.Stamps.{id_of};
-ghost use Rattle.tenant_ledger.specs.Ledger.{HasRoom, IsReady, UsesRoomOfOne, entries_with, history_in, with_event, with_key};
+ghost use Rattle.tenant_ledger.specs.Contents.{history_in};
+ghost use Rattle.tenant_ledger.specs.Receipts.{with_key};
+ghost use Rattle.tenant_ledger.specs.Room.{HasRoom, UsesRoomOfOne};
+ghost use Rattle.tenant_ledger.specs.Adding.{IsReady, entries_with, with_event};
 
 use super::draft::Made;
 use super::message::{key_by, last_in, noted_after};

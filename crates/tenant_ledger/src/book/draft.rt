@@ -2,11 +2,18 @@
 ghost use Rattle.std.specs.Prelude.{◌≡◌, ◌<◌, ◌≤◌, [], true, IfOk, OnOk, IfSome, IfNone, Some, length, slice_get};
 ghost use Rattle.trace_types.specs.tenant.Reachability.{increasing};
 ghost use Rattle.trace_types.specs.clock.Clock.{tree_clock};
-ghost use Rattle.trace_types.specs.clock.Stamps.{tree_of, acting_id, takes_in};
-ghost use Rattle.trace_types.specs.tenant.Tenant.{is_report, row_after};
+ghost use Rattle.trace_types.specs.clock.Stamps.{tree_of, acting_id};
+ghost use Rattle.trace_types.specs.tenant.Tenant.{is_report};
 ghost use Rattle.trace_types.specs.clock.EventTree.{Leaf};
-ghost use Rattle.tenant_ledger.specs.Ledger.{IsKept, HasRoom, history_in, IsReport, row_of_report, tree_of_report, MayRaise, event_of, Drafts, IsMadeOf, Prepares, Takes};
+ghost use Rattle.tenant_ledger.specs.Contents.{history_in};
+ghost use Rattle.tenant_ledger.specs.Kept.{IsKept};
+ghost use Rattle.tenant_ledger.specs.Room.{HasRoom};
+ghost use Rattle.tenant_ledger.specs.Reports.{IsReport, row_of_report};
+ghost use Rattle.tenant_ledger.specs.Making.{tree_of_report, MayRaise, IsMadeOf};
+ghost use Rattle.tenant_ledger.specs.Events.{event_of};
+ghost use Rattle.tenant_ledger.specs.Taking.{Drafts, Prepares, Takes, TakesReport};
 
+use super::report::Deed;
 use super::{Book, Message, Report, Room, Task};
 use crate::share::{Keep, KeptId, Share};
 use crate::{Shared, Stack};
@@ -16,7 +23,7 @@ use std::alloc::Global;
 use std::marker::Model;
 use std::sync::Arc;
 use trace_query::Meant;
-use trace_types::{Code, Kind, Memory, Preds, Request, Row};
+use trace_types::{Code, Memory, Name, Preds, Request, Row};
 use tree_forest::Tree;
 
 /// What is to be kept of an event that may be added to a book. Dropping it leaves the book as it is.
@@ -40,7 +47,7 @@ impl<S: Keep> Model for Draft<S> {
     ghost use Rattle.event_tree.specs.EventTreeCode.{event_tree_code};
     ghost use Rattle.id_tree.specs.IdCode.{id_code};
     ghost use Rattle.std.specs.Prelude.{◌<◌};
-    ghost use Rattle.tenant_ledger.specs.Ledger.{Event, receipts_in};
+    ghost use Rattle.tenant_ledger.specs.Events.{Event, receipts_in};
 
     ghost Value = { Event };
 
@@ -76,7 +83,7 @@ impl<S: Keep> Model for Made<S> {
     ghost use Rattle.std.specs.Coded.{codes};
     ghost use Rattle.event_tree.specs.EventTreeCode.{event_tree_code};
     ghost use Rattle.id_tree.specs.IdCode.{id_code};
-    ghost use Rattle.tenant_ledger.specs.Ledger.{Made as Seen};
+    ghost use Rattle.tenant_ledger.specs.Making.{Made as Seen};
 
     ghost Value = { Seen };
 
@@ -109,13 +116,6 @@ impl<S: Keep> Draft<S> {
         ensures { result ≡ self.now.point }
     {
         self.made.point.as_ref().map(|point| point.share())
-    }
-
-    /// The event that started the acting task, or 0.
-    pub(crate) fn start(&self) -> u64
-        ensures { result ≡ self.now.acting.start }
-    {
-        self.acting.start
     }
 
     /// The first of the ids that the event makes, if it makes one.
@@ -202,11 +202,14 @@ impl<S: Keep> Book<S> {
             Ok(report) => report,
             Err(code) => return Err(code),
         };
-        let made = self.ready(rt, stack, &report)?;
+        self.ready(rt, stack, &report)?;
+        let made = self.made(rt, &report)?;
         Ok(self.event(&report, made))
     }
 
     /// Takes a report: adds its event and gives its number, or refuses it.
+    ///
+    /// Each kind is taken by a function of its own, which has on the stack what that kind needs.
     pub(crate) fn take<R>(
         &mut self,
         rt: &R,
@@ -224,27 +227,154 @@ impl<S: Keep> Book<S> {
             Ok(report) => report,
             Err(code) => return Err(code),
         };
-        // This does not call `prepare`, whose draft would be moved once more.
-        let made = self.ready(rt, stack, &report)?;
-        Ok(self.commit(self.event(&report, made)))
+        match &report.deed {
+            Deed::Local => self.take_local(rt, stack, &report),
+            Deed::Spawn(child) => self.take_spawn(rt, stack, &report, child),
+            Deed::Send(message) => self.take_send(rt, stack, &report, message),
+            Deed::Recv(message, place, found) => {
+                self.take_recv(rt, stack, &report, message, *place, found)
+            }
+            Deed::End => self.take_end(rt, stack, &report),
+            Deed::Join(child, place, found) => {
+                self.take_join(rt, stack, &report, child, *place, found)
+            }
+        }
     }
 
-    /// Makes room for the report's event, and gives what is made of it. Returns `Memory` if it runs out of memory.
+    /// Takes the report as one of an event of its task alone.
+    #[inline(never)]
+    fn take_local<R>(&mut self, rt: &R, stack: &mut Stack, report: &Report) -> Result<u64, Code>
+    where
+        S: Share<R>,
+        requires book { IsKept self.old }
+        requires report { IsReport self.old (record report.now { deed = Deed.Local }) }
+        ensures { TakesReport result self.old (record report.now { deed = Deed.Local }) self.new }
+    {
+        let deed = Deed::Local;
+        self.add(rt, stack, &Report { deed, ..*report })
+    }
+
+    /// Takes the report as one that starts this task.
+    #[inline(never)]
+    fn take_spawn<R>(
+        &mut self,
+        rt: &R,
+        stack: &mut Stack,
+        report: &Report,
+        child: &Name,
+    ) -> Result<u64, Code>
+    where
+        S: Share<R>,
+        requires book { IsKept self.old }
+        requires report { IsReport self.old (record report.now { deed = Deed.Spawn child.now }) }
+        ensures { TakesReport result self.old (record report.now { deed = Deed.Spawn child.now }) self.new }
+    {
+        let deed = Deed::Spawn(*child);
+        self.add(rt, stack, &Report { deed, ..*report })
+    }
+
+    /// Takes the report as one that sends this message.
+    #[inline(never)]
+    fn take_send<R>(
+        &mut self,
+        rt: &R,
+        stack: &mut Stack,
+        report: &Report,
+        message: &Name,
+    ) -> Result<u64, Code>
+    where
+        S: Share<R>,
+        requires book { IsKept self.old }
+        requires report { IsReport self.old (record report.now { deed = Deed.Send message.now }) }
+        ensures { TakesReport result self.old (record report.now { deed = Deed.Send message.now }) self.new }
+    {
+        let deed = Deed::Send(*message);
+        self.add(rt, stack, &Report { deed, ..*report })
+    }
+
+    /// Takes the report as one that receives this message.
+    #[inline(never)]
+    fn take_recv<R>(
+        &mut self,
+        rt: &R,
+        stack: &mut Stack,
+        report: &Report,
+        message: &Name,
+        place: usize,
+        found: &Message,
+    ) -> Result<u64, Code>
+    where
+        S: Share<R>,
+        requires book { IsKept self.old }
+        requires report { IsReport self.old (record report.now { deed = Deed.Recv message.now place found.now }) }
+        ensures { TakesReport result self.old (record report.now { deed = Deed.Recv message.now place found.now }) self.new }
+    {
+        let deed = Deed::Recv(*message, place, *found);
+        self.add(rt, stack, &Report { deed, ..*report })
+    }
+
+    /// Takes the report as one of the end of its task.
+    #[inline(never)]
+    fn take_end<R>(&mut self, rt: &R, stack: &mut Stack, report: &Report) -> Result<u64, Code>
+    where
+        S: Share<R>,
+        requires book { IsKept self.old }
+        requires report { IsReport self.old (record report.now { deed = Deed.End }) }
+        ensures { TakesReport result self.old (record report.now { deed = Deed.End }) self.new }
+    {
+        let deed = Deed::End;
+        self.add(rt, stack, &Report { deed, ..*report })
+    }
+
+    /// Takes the report as one that joins this task.
+    #[inline(never)]
+    fn take_join<R>(
+        &mut self,
+        rt: &R,
+        stack: &mut Stack,
+        report: &Report,
+        child: &Name,
+        place: usize,
+        found: &Task,
+    ) -> Result<u64, Code>
+    where
+        S: Share<R>,
+        requires book { IsKept self.old }
+        requires report { IsReport self.old (record report.now { deed = Deed.Join child.now place found.now }) }
+        ensures { TakesReport result self.old (record report.now { deed = Deed.Join child.now place found.now }) self.new }
+    {
+        let deed = Deed::Join(*child, place, *found);
+        self.add(rt, stack, &Report { deed, ..*report })
+    }
+
+    /// Adds the event of the report, and gives its number. It is inlined where the kind is known, so nothing is done for another
+    /// kind.
     #[inline(always)]
-    fn ready<R>(&mut self, rt: &R, stack: &mut Stack, report: &Report) -> Result<Made<S>, Memory>
+    fn add<R>(&mut self, rt: &R, stack: &mut Stack, report: &Report) -> Result<u64, Code>
     where
         S: Share<R>,
         requires book { IsKept self.old }
         requires report { IsReport self.old report.now }
+        ensures { TakesReport result self.old report.now self.new }
+    {
+        // This does not call `prepare`, whose draft would be moved once more.
+        self.ready(rt, stack, report)?;
+        let made = self.made(rt, report)?;
+        Ok(self.commit(self.event(report, made)))
+    }
+
+    /// Makes room for the report's event, and has the ids of its tasks at hand. Returns `Memory` if it runs out of memory.
+    #[inline(always)]
+    fn ready<R>(&mut self, rt: &R, stack: &mut Stack, report: &Report) -> Result<(), Memory>
+    where
+        S: Share<R>,
         ensures same { self.new ≡ record self.old { kept_ids = self.new.kept_ids; room = self.new.room } }
         ensures seeded { self.old.kept_ids ≤ self.new.kept_ids }
         ensures room { OnOk result (HasRoom self.new) }
-        ensures made { IfOk result (IsMadeOf self.old report.now) }
     {
         self.make_room(rt)?;
         self.unpack_ids(report);
-        self.make_stack_room(stack, report)?;
-        self.made(rt, report)
+        self.make_stack_room(stack, report)
     }
 
     /// What is made of the report's event. Returns `Memory` if it runs out of memory.
@@ -284,15 +414,15 @@ impl<S: Keep> Book<S> {
     {
         let row = self.row_after(report);
         let event = self.event_count() + 1;
-        let place = self.id_count();
+        let after = report.left(event, self.id_count());
         Draft {
             row,
             made,
-            acting: report.acting_after(event, place),
+            acting: after.acting,
             index: report.index,
-            named: report.named_after(event, place),
-            place: report.named.place,
-            received: report.named.received,
+            named: after.named,
+            place: after.place,
+            received: after.received,
         }
     }
 
@@ -301,13 +431,13 @@ impl<S: Keep> Book<S> {
     fn row_after(&self, report: &Report) -> Row
         requires book { IsKept self.now }
         requires report { IsReport self.now report.now }
-        ensures { result ≡ row_after (history_in self.now) report.now.task report.now.kind report.now.name }
+        ensures { result ≡ row_of_report self.now report.now }
     {
         Row {
             task: report.task,
-            kind: report.kind,
-            name: report.name,
-            preds: increasing(self.alloc, report.acting.last, report.named.second),
+            kind: report.deed.kind(),
+            name: report.deed.name(),
+            preds: increasing(self.alloc, report.acting.last, report.deed.second()),
         }
     }
 
@@ -326,8 +456,8 @@ impl<S: Keep> Book<S> {
     {
         let start = EvTree::leaf(0);
         let own = self.known(report.acting.last, &start);
-        if takes_in(report.kind) {
-            let known = own.join(self.alloc, self.known(report.named.second, &start))?;
+        if report.deed.takes_in() {
+            let known = own.join(self.alloc, self.known(report.deed.second(), &start))?;
             EvTree::event_with_point(self.alloc, id, &known)
         } else {
             EvTree::event_with_point(self.alloc, id, own)
@@ -335,6 +465,7 @@ impl<S: Keep> Book<S> {
     }
 
     /// What the event knows, or `start` if the number is 0.
+    #[inline(always)]
     fn known<'a>(&'a self, event: u64, start: &'a EvTree) -> &'a EvTree
         requires book { IsKept self.now }
         requires event { event ≤ length self.now.rows }
@@ -387,7 +518,7 @@ impl<S: Keep> Book<S> {
     /// id.
     #[inline(always)]
     fn make_stack_room(&self, stack: &mut Stack, report: &Report) -> Result<(), Memory> {
-        if matches!(report.kind, Kind::Spawn)
+        if matches!(report.deed, Deed::Spawn(_))
             && self.tasks.len() >= Stack::LEVELS
             && let Some(id) = self.ids.get(report.acting.id)
         {
@@ -397,13 +528,6 @@ impl<S: Keep> Book<S> {
         }
         Ok(())
     }
-}
-
-/// Whether a report of this kind takes in what its second event knew.
-fn takes_in(kind: Kind) -> bool
-    ensures { result ≡ takes_in kind }
-{
-    matches!(kind, Kind::Recv | Kind::Join)
 }
 
 /// The events among two numbers, increasing and each once. 0 is no event.

@@ -1,16 +1,19 @@
 //! What is kept of a tenant, as queries are answered from it.
-ghost use Rattle.std.specs.Prelude.{◌≡◌, All, IfOk, OnErr, map, true};
+ghost use Rattle.std.specs.Prelude.{◌≡◌, ◌<◌, All, IfOk, IfSome, OnErr, is_some, length, map, suc, true};
 ghost use Rattle.trace_types.specs.clock.Clock.{tree_clock};
 ghost use Rattle.trace_types.specs.clock.Stamps.{tree_of};
 ghost use Rattle.trace_types.specs.tenant.Rows.{is_event, is_sent, message_count, task_count};
 ghost use Rattle.tenant_ledger.specs.Answers.{message_due, task_due};
-ghost use Rattle.tenant_ledger.specs.Ledger.{ArePoints, IsKept, history_in, id_after, of_each, start_of};
+ghost use Rattle.tenant_ledger.specs.Contents.{history_in};
+ghost use Rattle.tenant_ledger.specs.Told.{id_after, of_each, start_of};
+ghost use Rattle.tenant_ledger.specs.Points.{ArePoints};
+ghost use Rattle.tenant_ledger.specs.Kept.{IsKept};
 
 use super::Book;
-use crate::share::{Keep, MeantId};
+use crate::share::{Keep, KeptId};
 use event_tree::RaisedPoint;
-use id_tree::IdTree;
 use std::alloc::Global;
+use trace_query::Meant;
 use trace_types::{Memory, Name, Receipts, Row, TaskState};
 
 impl<S: Keep> Book<S> {
@@ -94,18 +97,30 @@ impl<S: Keep> Book<S> {
     {
         self.messages.len() as u64
     }
-}
 
-impl<S: Keep> Book<S>
-where
-    S::Id: MeantId,
-{
-    /// The id that the event's task has after it.
-    pub fn stamp_id(&self, event: u64) -> &IdTree
-        requires kept { IsKept self.now }
-        requires event { is_event (history_in self.now) event ≡ true }
-        ensures { result.now ≡ id_after (history_in self.now) event }
+    /// The place of the event in the lists, or `None` if there is no such event.
+    pub(crate) fn place_of(&self, event: u64) -> Option<usize>
+        requires { IsKept self.now }
+        ensures there { is_some result ≡ is_event (history_in self.now) event }
+        ensures place { IfSome result (λ place. (event ≡ suc place) × (place < length self.now.rows)) }
     {
-        self.event_id(event).id_value()
+        let place = event.checked_sub(1)?;
+        if place < self.rows.len() as u64 {
+            Some(place as usize)
+        } else {
+            None
+        }
+    }
+
+    /// What is kept of the event's stamp: the id that its task has after it, and what the event knows. It is `None` if there
+    /// is no such event. All that is told of a stamp is made of these.
+    pub fn stamp_parts(&self, event: u64) -> Option<(&S::Id, &S::Kept)>
+        requires { IsKept self.now }
+        ensures there { is_some result ≡ is_event (history_in self.now) event }
+        ensures id { IfSome result (λ parts. S.Id.id parts.0.now ≡ id_after (history_in self.now) event) }
+        ensures tree { IfSome result (λ parts. S.Kept.tree parts.1.now ≡ tree_of tree_clock (history_in self.now) event) }
+    {
+        let place = self.place_of(event)?;
+        Some((self.event_id(event), &self.trees()[place]))
     }
 }

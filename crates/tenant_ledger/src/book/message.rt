@@ -1,6 +1,6 @@
 //! Messages of a book.
 ghost use Rattle.std.specs.Prelude.{◌≡◌, ◌<◌};
-ghost use Rattle.tenant_ledger.specs.Ledger.{key_by, last_in, noted_after, receipts_in};
+ghost use Rattle.tenant_ledger.specs.Events.{key_by, last_in, noted_after, receipts_in};
 
 use trace_types::Kind;
 

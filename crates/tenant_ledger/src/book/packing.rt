@@ -1,6 +1,7 @@
 //! Ids of a book are packed, where its share can do that.
 ghost use Rattle.std.specs.Prelude.{◌≡◌, map, vec_capacity, vec_len};
 
+use super::report::Deed;
 use super::{Book, Report};
 use crate::share::{Keep, KeptId};
 use std::alloc::Global;
@@ -21,12 +22,17 @@ impl<S: Keep> Book<S> {
     pub(super) fn unpack_ids(&mut self, report: &Report)
         ensures { self.new ≡ self.old }
     {
+        let acting = report.acting.id;
+        let joined = match report.deed {
+            Deed::Join(_, _, task) => task.id,
+            _ => acting,
+        };
         if self.loose > most_loose(self.rows.len() as u64) {
-            self.pack_others(report);
+            self.pack_others(acting, joined);
         }
-        self.unpack_at(report.acting.id);
-        if let Some(joined) = report.named.joined {
-            self.unpack_at(joined.id);
+        self.unpack_at(acting);
+        if joined != acting {
+            self.unpack_at(joined);
         }
     }
 
@@ -39,18 +45,13 @@ impl<S: Keep> Book<S> {
         self.loose = self.loose.saturating_add(made);
     }
 
-    /// Packs all ids but those of the report's tasks.
+    /// Packs all ids but those at these two places.
     #[inline(never)]
-    fn pack_others(&mut self, report: &Report)
+    fn pack_others(&mut self, one: usize, other: usize)
         ensures { self.new ≡ self.old }
     {
-        let acting = report.acting.id;
-        let joined = match report.named.joined {
-            Some(joined) => joined.id,
-            None => acting,
-        };
         self.loose = 0;
-        pack_all_but(self.alloc, &mut self.ids, acting, joined);
+        pack_all_but(self.alloc, &mut self.ids, one, other);
     }
 }
 

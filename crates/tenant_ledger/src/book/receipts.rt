@@ -2,7 +2,9 @@
 ghost use Rattle.std.specs.Prelude.{◌≡◌, ◌-◌, ◌<◌, ◌≤◌, IfOk, Some, length, slice_get};
 ghost use Rattle.trace_types.specs.text.Name.{Text as Characters};
 ghost use Rattle.trace_types.specs.tenant.Rows.{has_received, receipts};
-ghost use Rattle.tenant_ledger.specs.Ledger.{HasReceipts, IsKept, history_in, last_receipt, message_in, task_in};
+ghost use Rattle.tenant_ledger.specs.Contents.{history_in, message_in, task_in};
+ghost use Rattle.tenant_ledger.specs.Messages.{HasReceipts, last_receipt};
+ghost use Rattle.tenant_ledger.specs.Kept.{IsKept};
 
 use super::{Book, Message, Task};
 use crate::share::Keep;

@@ -1,91 +1,164 @@
 //! Reports that are not refused.
 ghost use Rattle.std.specs.Prelude.{◌≡◌, ◌<◌, true, IfOk, OnOk, Some, None, length};
 ghost use Rattle.std.specs.Result.{result_err};
-ghost use Rattle.trace_types.specs.tenant.Reachability.{second_event};
 ghost use Rattle.trace_types.specs.tenant.Refusal.{refusal_of};
 ghost use Rattle.trace_types.specs.tenant.Tenant.{is_report, answer_to, accepted};
-ghost use Rattle.tenant_ledger.specs.Ledger.{IsKept, history_in, task_in, message_in, Decides, refusals_of_task, refusals_of_child, refusals_of_sent, refusals_of_received, refusals_of_joined, refusals_of_named, refusals_of_room, joined_by, received_by, IsReport, acting_after, named_after};
+ghost use Rattle.tenant_ledger.specs.Contents.{history_in, task_in, message_in};
+ghost use Rattle.tenant_ledger.specs.Kept.{IsKept};
+ghost use Rattle.tenant_ledger.specs.Refusals.{Decides, refusals_of_task, refusals_of_child, refusals_of_sent, refusals_of_received, refusals_of_joined, refusals_of_named, refusals_of_room};
+ghost use Rattle.tenant_ledger.specs.Reports.{IsFound, IsNamed, IsReport, kind_of, name_of, received_in, second_of};
+ghost use Rattle.tenant_ledger.specs.Events.{acting_after, named_after};
+ghost use Rattle.trace_types.specs.clock.Stamps.{takes_in};
 
 use super::{Book, Message, Task};
 use crate::share::Keep;
 use trace_types::{Code, Kind, Name, Request, TaskState};
 
-/// A report that is not refused, and what the book has of the task and the name in it.
+/// A report that is not refused, and what the book has of its task.
 #[derive(Clone, Copy)]
 pub(super) struct Report {
     pub(super) task: Name,
-    pub(super) kind: Kind,
-    pub(super) name: Option<Name>,
     /// The acting task, and its place in the table of tasks.
     pub(super) acting: Task,
     pub(super) index: usize,
-    pub(super) named: Named,
+    pub(super) deed: Deed,
 }
 
-/// What the book has of the task or the message that a report names.
+/// What the task did, with what the book has of the message or task that it names, and the place in the table of messages or tasks.
 #[derive(Clone, Copy)]
-pub(super) struct Named {
-    /// The event that the report follows for it, or 0.
-    pub(super) second: u64,
-    /// The task that the report joins.
-    pub(super) joined: Option<Task>,
-    /// The message that it receives.
-    pub(super) received: Option<Message>,
-    /// The place of what is joined or received in the table of tasks or of messages, or 0.
+pub(super) enum Deed {
+    Local,
+    /// It starts the task of this name.
+    Spawn(Name),
+    /// It sends the message of this name.
+    Send(Name),
+    /// It receives this message.
+    Recv(Name, usize, Message),
+    End,
+    /// It joins this task.
+    Join(Name, usize, Task),
+}
+
+/// What a report leaves of its tasks and its message.
+#[derive(Clone, Copy)]
+pub(super) struct Left {
+    /// What is to be kept of the acting task.
+    pub(super) acting: Task,
+    /// What is to be kept of the task that it starts or joins.
+    pub(super) named: Option<Task>,
+    /// The place of what it joins or receives in the table of tasks or of messages, or 0.
     pub(super) place: usize,
+    /// The message that it receives, as it was before.
+    pub(super) received: Option<Message>,
 }
 
-impl Named {
-    /// What is neither joined nor received.
-    const NEW: Named = Named {
-        second: 0,
-        joined: None,
-        received: None,
-        place: 0,
-    };
-}
-
-impl Report {
-    /// What is to be kept of the acting task. This event is its last, and the first of the ids that are made is at this
-    /// place.
+impl Deed {
     #[inline(always)]
-    pub(super) fn acting_after(&self, event: u64, place: usize) -> Task
-        ensures { result ≡ acting_after self.now.kind event place self.now.acting }
+    pub(super) fn kind(&self) -> Kind
+        ensures { result ≡ kind_of self.now }
     {
-        let task = Task {
-            last: event,
-            ..self.acting
-        };
-        match self.kind {
-            Kind::Local | Kind::Send | Kind::Recv => task,
-            Kind::End => Task {
-                state: TaskState::Ended,
-                ..task
-            },
-            Kind::Spawn | Kind::Join => Task { id: place, ..task },
+        match self {
+            Deed::Local => Kind::Local,
+            Deed::Spawn(_) => Kind::Spawn,
+            Deed::Send(_) => Kind::Send,
+            Deed::Recv(..) => Kind::Recv,
+            Deed::End => Kind::End,
+            Deed::Join(..) => Kind::Join,
         }
     }
 
-    /// What is to be kept of the task that the report starts or joins.
+    /// The task or message that is named.
     #[inline(always)]
-    pub(super) fn named_after(&self, event: u64, place: usize) -> Option<Task>
-        requires { place < 18446744073709551615 }
-        ensures { result ≡ named_after self.now.kind event place self.now.named.joined }
+    pub(super) fn name(&self) -> Option<Name>
+        ensures { result ≡ name_of self.now }
     {
-        match self.kind {
-            Kind::Local | Kind::Send | Kind::Recv | Kind::End => None,
-            Kind::Spawn => Some(Task {
-                state: TaskState::Live,
-                last: event,
-                start: event,
-                id: place + 1,
-            }),
-            Kind::Join => match self.named.joined {
-                Some(task) => Some(Task {
+        match *self {
+            Deed::Local | Deed::End => None,
+            Deed::Spawn(name) | Deed::Send(name) | Deed::Recv(name, ..) | Deed::Join(name, ..) => {
+                Some(name)
+            }
+        }
+    }
+
+    /// The event that it follows beside the last one of its task, or 0. It takes in what that event knew.
+    #[inline(always)]
+    pub(super) fn second(&self) -> u64
+        ensures { result ≡ second_of self.now }
+    {
+        match self {
+            Deed::Local | Deed::Spawn(_) | Deed::Send(_) | Deed::End => 0,
+            Deed::Recv(_, _, message) => message.sent,
+            Deed::Join(_, _, task) => task.last,
+        }
+    }
+
+    /// Whether it takes in what its second event knew.
+    #[inline(always)]
+    pub(super) fn takes_in(&self) -> bool
+        ensures { result ≡ takes_in (kind_of self.now) }
+    {
+        matches!(self, Deed::Recv(..) | Deed::Join(..))
+    }
+}
+
+impl Report {
+    /// What the report leaves of its tasks and its message, if it is this event. The first of the ids that are made is at this
+    /// place.
+    #[inline(always)]
+    pub(super) fn left(&self, event: u64, place: usize) -> Left
+        requires { place < 18446744073709551615 }
+        ensures acting { result.acting ≡ acting_after self.now.deed event place self.now.acting }
+        ensures named { result.named ≡ named_after self.now.deed event place }
+        ensures received { result.received ≡ received_in self.now.deed }
+    {
+        let acting = Task {
+            last: event,
+            ..self.acting
+        };
+        let alone = Left {
+            acting,
+            named: None,
+            place: 0,
+            received: None,
+        };
+        match self.deed {
+            Deed::Local | Deed::Send(_) => alone,
+            Deed::Spawn(_) => Left {
+                acting: Task {
+                    id: place,
+                    ..acting
+                },
+                named: Some(Task {
+                    state: TaskState::Live,
+                    last: event,
+                    start: event,
+                    id: place + 1,
+                }),
+                ..alone
+            },
+            Deed::Recv(_, there, message) => Left {
+                place: there,
+                received: Some(message),
+                ..alone
+            },
+            Deed::End => Left {
+                acting: Task {
+                    state: TaskState::Ended,
+                    ..acting
+                },
+                ..alone
+            },
+            Deed::Join(_, there, task) => Left {
+                acting: Task {
+                    id: place,
+                    ..acting
+                },
+                named: Some(Task {
                     state: TaskState::Joined,
                     ..task
                 }),
-                None => None,
+                place: there,
+                ..alone
             },
         }
     }
@@ -176,52 +249,39 @@ impl<S: Keep> Book<S> {
         }
     }
 
-    /// What the book has of the task or message that such a report names, or why the report is refused for that name.
-    fn named(
-        &self,
-        task: &Name,
-        acting: &Task,
-        kind: Kind,
-        name: &Option<Name>,
-    ) -> Result<Named, Code>
+    /// What such a report says that its task did, or why the report is refused for the name in it.
+    #[inline(always)]
+    fn deed(&self, task: &Name, acting: &Task, kind: Kind, name: Option<Name>) -> Result<Deed, Code>
         requires book { IsKept self.now }
         requires acting { task_in self.now task.now ≡ Some acting.now }
-        ensures second { IfOk result (λ named. named.second ≡ second_event (history_in self.now) kind name.now) }
-        ensures joined { IfOk result (λ named. named.joined ≡ joined_by (task_in self.now) kind name.now) }
-        ensures received { IfOk result (λ named. named.received ≡ received_by (message_in self.now) kind name.now) }
-        ensures decides { Decides (refusals_of_named self.now.limits (history_in self.now) task.now kind name.now) result }
+        requires named { IsNamed kind name }
+        ensures kind { IfOk result (λ deed. kind_of deed ≡ kind) }
+        ensures name { IfOk result (λ deed. name_of deed ≡ name) }
+        ensures found { IfOk result (IsFound self.now) }
+        ensures decides { Decides (refusals_of_named self.now.limits (history_in self.now) task.now kind name) result }
     {
-        let Some(name) = *name else {
-            return Ok(Named::NEW);
-        };
         match kind {
-            Kind::Local => Ok(Named::NEW),
+            Kind::Local => Ok(Deed::Local),
             Kind::Spawn => {
-                self.check_child(&name)?;
-                Ok(Named::NEW)
+                let child = name.unwrap();
+                self.check_child(&child)?;
+                Ok(Deed::Spawn(child))
             }
             Kind::Send => {
-                self.check_message(&name)?;
-                Ok(Named::NEW)
+                let message = name.unwrap();
+                self.check_message(&message)?;
+                Ok(Deed::Send(message))
             }
             Kind::Recv => {
-                let (message, place) = self.sent_message(task, acting, &name)?;
-                Ok(Named {
-                    second: message.sent,
-                    joined: None,
-                    received: Some(message),
-                    place,
-                })
+                let message = name.unwrap();
+                let (found, place) = self.sent_message(task, acting, &message)?;
+                Ok(Deed::Recv(message, place, found))
             }
-            Kind::End => Ok(Named::NEW),
+            Kind::End => Ok(Deed::End),
             Kind::Join => {
-                let (task, place) = self.ended_task(&name)?;
-                Ok(Named {
-                    second: task.last,
-                    joined: Some(task),
-                    received: None,
-                    place,
-                })
+                let child = name.unwrap();
+                let (found, place) = self.ended_task(&child)?;
+                Ok(Deed::Join(child, place, found))
             }
         }
     }
@@ -231,22 +291,20 @@ impl<S: Keep> Book<S> {
         requires book { IsKept self.now }
         requires report { is_report request.now ≡ true }
         ensures report { IfOk result (IsReport self.now) }
-        ensures answer { IfOk result (λ report. answer_to (history_in self.now) request.now ≡ accepted (history_in self.now) report.task report.kind report.name) }
+        ensures answer { IfOk result (λ report. answer_to (history_in self.now) request.now ≡ accepted (history_in self.now) report.task (kind_of report.deed) (name_of report.deed)) }
         ensures refused { result_err result ≡ refusal_of self.now.limits (history_in self.now) request.now }
     {
         let Some(reported) = request.reported() else {
             return Err(Code::ViewOnly);
         };
         let (acting, index) = self.live_task(&reported.task)?;
-        let named = self.named(&reported.task, acting, reported.kind, &reported.name)?;
+        let deed = self.deed(&reported.task, acting, reported.kind, reported.name)?;
         self.check_room()?;
         Ok(Report {
             task: reported.task,
-            kind: reported.kind,
-            name: reported.name,
             acting: *acting,
             index,
-            named,
+            deed,
         })
     }
 }

@@ -5,4 +5,4 @@ abbrev pub invariant-loop-line : goal.invariant-loop-line
 invariant-loop-line g l =
     (goal.iterator-loop-line g).can_next l.line-iterator ×
     (goal.iterator-loop-line g).is_finite l.line-iterator ×
-    (l.view.book ≡ l.desk.book)
+    (l.view.log ≡ l.desk.log)

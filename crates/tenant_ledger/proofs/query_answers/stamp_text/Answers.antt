@@ -6,5 +6,5 @@ use Rattle.tenant_ledger.proofs.query_answers.stamp_text.Goals as goal
 
 pub returns : goal.returns
 returns g c =
-    let is = c.as_tree.ensures ∙ c.in_ok-id.ensures ∙ c.event_id.ensures in
+    let is = c.as_tree.ensures ∙ c.in_ok-id.ensures in
     subst (λ (id : Id). IfOk c.write_parts.result (λ text. text.items ≡ stamp_text id c.args.tree.now)) is c.write_parts.ensures

@@ -7,8 +7,8 @@ abbrev pub invariant-loop-view : goal.invariant-loop-view
 invariant-loop-view l = record {
   counted : length l.all.items + l.views.left ≡ l.fn.views.left;
   limits : l.views.limits ≡ l.fn.views.limits;
-  book : l.views.book ≡ l.fn.views.book;
-  same : All (λ view. view ≡ new_view l.fn.views.limits l.fn.views.book) l.all.items;
+  log : l.views.log ≡ l.fn.views.log;
+  same : All (λ view. view ≡ new_view l.fn.views.limits l.fn.views.log) l.all.items;
   room : 8 ≤ vec_capacity l.all;
 }
 

@@ -9,13 +9,13 @@ use Rattle.trace_world.proofs.line_answer.tell_stamp.Goals as goal
 
 pub returns-in-Some : goal.returns-in-Some
 returns-in-Some g c =
-    let text = stamp_text c.in-Some.id.now c.in-Some.tree.now in
+    let text = stamp_text c.id_value-id.result.now c.tree_value-tree.result.now in
     let told = reply.Stamp text in
     record {
       to = c.name.result.now;
       reply = told;
       named = c.name.ensures;
-      does = StepsOne-stays c.args.world.now c.args.tenant c.ledger.result.now (request.Stamp c.args.event) told c.ledger.ensures (rw c.in-Some.is at c.stamp_parts.ensures);
+      does = StepsOne-stays c.args.world.now c.args.tenant c.ledger.result.now (request.Stamp c.args.event) told c.ledger.ensures (rw (c.id_value-id.ensures, c.tree_value-tree.ensures) (rw c.in-Some.is at c.stamp_parts.ensures));
       tells = tells (g.W.Sink.seen c.args.writer.now) (g.W.Sink.seen c.write_stamp_answer.new.writer) c.name.result.now told _ _ c.write_stamp_answer.result (c.count_answered.ensures.stamp text) c.write_stamp_answer.ensures;
     }
 

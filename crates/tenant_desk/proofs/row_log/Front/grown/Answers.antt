@@ -9,7 +9,7 @@ compare_exchange-found-requires c =
     let seen = c.again-seen.ensures in
     let offer = c.plain-offer.ensures in
     let pen = c.no_pen-pen.ensures in
-    let same_book = ap (λ word. word.book) head ∙ ap (λ line. line.book.identity) (sym c.self.view_is) in (
+    let same_book = ap (λ word. word.book) head ∙ ap (λ line. line.log.identity) (sym c.self.view_is) in (
       ap (λ word. word.tracked) head,
       ap (λ found. found.book) seen ∙ sym same_book,
       pen.0 ∙ ap (λ found. found.book) seen ∙ sym same_book,

@@ -18,7 +18,7 @@ invariant_of-self-in-Err c =
     let inside = c.self.inside in
     let is : inside.reader ≡ Some c.in-Some.reader = sym c.take.ensures.value ∙ c.in-Some.is in
     let of = value_there inside.reader c.in-Some.reader is
-    (λ reader. IsOfDesk inside.seen.book inside.limits (known_at reader.place)) c.self.invariant.1 in
+    (λ reader. IsOfDesk inside.seen.log inside.limits (known_at reader.place)) c.self.invariant.1 in
     (c.self.invariant.0, c.in-Err.ensures _ _ of)
 
 pub invariant_of-self-in-Err-2 : goal.invariant_of-self-in-Err-2
@@ -26,7 +26,7 @@ invariant_of-self-in-Err-2 c =
     let inside = c.self.inside in
     let is : inside.reader ≡ Some c.in-Some.reader = sym c.take.ensures.value ∙ c.in-Some.is in
     let of = value_there inside.reader c.in-Some.reader is
-    (λ reader. IsOfDesk inside.seen.book inside.limits (known_at reader.place)) c.self.invariant.1 in
+    (λ reader. IsOfDesk inside.seen.log inside.limits (known_at reader.place)) c.self.invariant.1 in
     (c.self.invariant.0, c.in-Err.ensures _ _ of)
 
 pub answer_published-requires : goal.answer_published-requires
@@ -40,17 +40,17 @@ returns-in-Ok-clause-answer c =
     let request = c.args.request.now in
     let reply = c.answer_published.new.reply in
     let published = c.in-Ok.reading.part.value in
-    let old : Known = record { seen = inside.seen.rows; met = inside.met; limits = inside.limits; book = inside.seen.book } in
-    let new : Known = record { seen = c.give_back-reader.result.1.rows; met = c.clear.new.self; limits = inside.limits; book = c.give_back-reader.result.1.book } in
+    let old : Known = record { seen = inside.seen.rows; met = inside.met; limits = inside.limits; log = inside.seen.log } in
+    let new : Known = record { seen = c.give_back-reader.result.1.rows; met = c.clear.new.self; limits = inside.limits; log = c.give_back-reader.result.1.log } in
     let is : inside.reader ≡ Some c.in-Some.reader = sym c.take.ensures.value ∙ c.in-Some.is in
     let of = value_there inside.reader c.in-Some.reader is
-    (λ reader. IsOfDesk inside.seen.book inside.limits (known_at reader.place)) c.self.invariant.1 in
+    (λ reader. IsOfDesk inside.seen.log inside.limits (known_at reader.place)) c.self.invariant.1 in
     let seen : roomless c.events-events.result.now ≡ published.events = c.events-events.ensures ∙ ap (λ (one : Published). one.events) c.get.ensures in
     let answered = subst (λ (tenant : Tenant). Answers tenant request reply) (ap tenant_of seen) c.answer_published.ensures in
     let front = c.give_back-reader.ensures.front in
     let met = c.clear.ensures in
-    let is_new : new ≡ record { seen = published.front.rows; met = []; limits = inside.limits; book = published.front.book } =
-    λ i. record { seen = (front i).rows; met = met i; limits = inside.limits; book = (front i).book } in
+    let is_new : new ≡ record { seen = published.front.rows; met = []; limits = inside.limits; log = published.front.log } =
+    λ i. record { seen = (front i).rows; met = met i; limits = inside.limits; log = (front i).log } in
     subst (λ (before : Known). Responds before request reply new) c.self.view_is
     (responds old new _ _ published request reply (sym c.is_report.ensures ∙ c.if-is_report.false) of c.self.invariant.0 c.in-Ok.ensures answered is_new)
 
@@ -58,18 +58,18 @@ pub invariant_of-self : goal.invariant_of-self
 invariant_of-self c =
     let inside = c.self.inside in
     let is : inside.reader ≡ Some c.in-Some.reader = sym c.take.ensures.value ∙ c.in-Some.is in
-    let of = value_there inside.reader c.in-Some.reader is (λ reader. IsOfDesk inside.seen.book inside.limits (known_at reader.place)) c.self.invariant.1 in
-    let known = known_of_entered inside.seen.book inside.limits _ _ c.in-Ok.reading.part.value of c.in-Ok.ensures.sees in (
+    let of = value_there inside.reader c.in-Some.reader is (λ reader. IsOfDesk inside.seen.log inside.limits (known_at reader.place)) c.self.invariant.1 in
+    let known = known_of_entered inside.seen.log inside.limits _ _ c.in-Ok.reading.part.value of c.in-Ok.ensures.sees in (
       subst (BeginWithEach c.give_back-reader.result.1.rows) (sym c.clear.ensures) tt,
-      transport (λ i. IsOfDesk ((sym c.give_back-reader.ensures.front) i).book inside.limits ((sym c.give_back-reader.ensures.known) i)) known,
+      transport (λ i. IsOfDesk ((sym c.give_back-reader.ensures.front) i).log inside.limits ((sym c.give_back-reader.ensures.known) i)) known,
     )
 
-pub returns-in-Ok-clause-book : goal.returns-in-Ok-clause-book
-returns-in-Ok-clause-book c =
+pub returns-in-Ok-clause-log : goal.returns-in-Ok-clause-log
+returns-in-Ok-clause-log c =
     let inside = c.self.inside in
     let published = c.in-Ok.reading.part.value in
     let is : inside.reader ≡ Some c.in-Some.reader = sym c.take.ensures.value ∙ c.in-Some.is in
     let of = value_there inside.reader c.in-Some.reader is
-    (λ reader. IsOfDesk inside.seen.book inside.limits (known_at reader.place)) c.self.invariant.1 in
-    let same = entered_desk inside.seen.book inside.limits _ _ published of c.in-Ok.ensures.sees in
-    ap (λ (line : Line). line.book) c.give_back-reader.ensures.front ∙ same.0 ∙ ap (λ (before : Known). before.book) c.self.view_is
+    (λ reader. IsOfDesk inside.seen.log inside.limits (known_at reader.place)) c.self.invariant.1 in
+    let same = entered_desk inside.seen.log inside.limits _ _ published of c.in-Ok.ensures.sees in
+    ap (λ (line : Line). line.log) c.give_back-reader.ensures.front ∙ same.0 ∙ ap (λ (before : Known). before.log) c.self.view_is

@@ -21,7 +21,7 @@ invariant_of-self-in-Err c =
     let inside = c.self.inside in
     let is : inside.reader ≡ Some c.in-Some.reader = sym c.take.ensures.value ∙ c.in-Some.is in
     let of = value_there inside.reader c.in-Some.reader is
-    (λ reader. IsOfDesk inside.seen.book inside.limits (known_at reader.place)) c.self.invariant.1 in
+    (λ reader. IsOfDesk inside.seen.log inside.limits (known_at reader.place)) c.self.invariant.1 in
     (c.self.invariant.0, c.in-Err.ensures _ _ of)
 
 pub shared_parts-parts-requires : goal.shared_parts-parts-requires
@@ -35,18 +35,18 @@ returns-in-Ok-clause-answer c =
     let event = c.args.event in
     let found = c.shared_parts-parts.result in
     let published = c.in-Ok.reading.part.value in
-    let old : Known = record { seen = inside.seen.rows; met = inside.met; limits = inside.limits; book = inside.seen.book } in
-    let new : Known = record { seen = c.give_back-reader.result.1.rows; met = c.clear.new.self; limits = inside.limits; book = c.give_back-reader.result.1.book } in
+    let old : Known = record { seen = inside.seen.rows; met = inside.met; limits = inside.limits; log = inside.seen.log } in
+    let new : Known = record { seen = c.give_back-reader.result.1.rows; met = c.clear.new.self; limits = inside.limits; log = c.give_back-reader.result.1.log } in
     let is : inside.reader ≡ Some c.in-Some.reader = sym c.take.ensures.value ∙ c.in-Some.is in
     let of = value_there inside.reader c.in-Some.reader is
-    (λ reader. IsOfDesk inside.seen.book inside.limits (known_at reader.place)) c.self.invariant.1 in
+    (λ reader. IsOfDesk inside.seen.log inside.limits (known_at reader.place)) c.self.invariant.1 in
     let seen : roomless c.events.result.now ≡ published.events = c.events.ensures ∙ ap (λ (one : Published). one.events) c.get.ensures in
     let answered = subst (λ (tenant : Tenant). MatchResult found (λ parts. Answers tenant (Stamp event) (reply.Stamp (stamp_text parts.0 parts.1)))
     (λ code. Answers tenant (Stamp event) (reply.Refused code))) (ap tenant_of seen) c.shared_parts-parts.ensures in
     let front = c.give_back-reader.ensures.front in
     let met = c.clear.ensures in
-    let is_new : new ≡ record { seen = published.front.rows; met = []; limits = inside.limits; book = published.front.book } =
-    λ i. record { seen = (front i).rows; met = met i; limits = inside.limits; book = (front i).book } in
+    let is_new : new ≡ record { seen = published.front.rows; met = []; limits = inside.limits; log = published.front.log } =
+    λ i. record { seen = (front i).rows; met = met i; limits = inside.limits; log = (front i).log } in
     subst (λ (before : Known). MatchResult found (λ parts. Responds before (Stamp event) (reply.Stamp (stamp_text parts.0 parts.1)) new)
     (λ code. Responds before (Stamp event) (reply.Refused code) new)) c.self.view_is
     (parts_respond old new _ _ published event found of c.self.invariant.0 c.in-Ok.ensures answered is_new)
@@ -55,18 +55,18 @@ pub invariant_of-self : goal.invariant_of-self
 invariant_of-self c =
     let inside = c.self.inside in
     let is : inside.reader ≡ Some c.in-Some.reader = sym c.take.ensures.value ∙ c.in-Some.is in
-    let of = value_there inside.reader c.in-Some.reader is (λ reader. IsOfDesk inside.seen.book inside.limits (known_at reader.place)) c.self.invariant.1 in
-    let known = known_of_entered inside.seen.book inside.limits _ _ c.in-Ok.reading.part.value of c.in-Ok.ensures.sees in (
+    let of = value_there inside.reader c.in-Some.reader is (λ reader. IsOfDesk inside.seen.log inside.limits (known_at reader.place)) c.self.invariant.1 in
+    let known = known_of_entered inside.seen.log inside.limits _ _ c.in-Ok.reading.part.value of c.in-Ok.ensures.sees in (
       subst (BeginWithEach c.give_back-reader.result.1.rows) (sym c.clear.ensures) tt,
-      transport (λ i. IsOfDesk ((sym c.give_back-reader.ensures.front) i).book inside.limits ((sym c.give_back-reader.ensures.known) i)) known,
+      transport (λ i. IsOfDesk ((sym c.give_back-reader.ensures.front) i).log inside.limits ((sym c.give_back-reader.ensures.known) i)) known,
     )
 
-pub returns-in-Ok-clause-book : goal.returns-in-Ok-clause-book
-returns-in-Ok-clause-book c =
+pub returns-in-Ok-clause-log : goal.returns-in-Ok-clause-log
+returns-in-Ok-clause-log c =
     let inside = c.self.inside in
     let published = c.in-Ok.reading.part.value in
     let is : inside.reader ≡ Some c.in-Some.reader = sym c.take.ensures.value ∙ c.in-Some.is in
     let of = value_there inside.reader c.in-Some.reader is
-    (λ reader. IsOfDesk inside.seen.book inside.limits (known_at reader.place)) c.self.invariant.1 in
-    let same = entered_desk inside.seen.book inside.limits _ _ published of c.in-Ok.ensures.sees in
-    ap (λ (line : Line). line.book) c.give_back-reader.ensures.front ∙ same.0 ∙ ap (λ (before : Known). before.book) c.self.view_is
+    (λ reader. IsOfDesk inside.seen.log inside.limits (known_at reader.place)) c.self.invariant.1 in
+    let same = entered_desk inside.seen.log inside.limits _ _ published of c.in-Ok.ensures.sees in
+    ap (λ (line : Line). line.log) c.give_back-reader.ensures.front ∙ same.0 ∙ ap (λ (before : Known). before.log) c.self.view_is

@@ -1,6 +1,9 @@
 use Rattle.std.proofs.Common.{◌≡◌, suc, ◌+◌, ◌<◌, ◌∷◌, [], ◌++◌, length, map, option_to_list, refl, ap, ◌∙◌, arith}
 use Rattle.indexmap.specs.IndexMap.{insert_entry}
-use Rattle.tenant_ledger.specs.Ledger.{Event, Made, entries_with, noted_after, with_key}
+use Rattle.tenant_ledger.specs.Receipts.{with_key}
+use Rattle.tenant_ledger.specs.Making.{Made}
+use Rattle.tenant_ledger.specs.Events.{Event, noted_after}
+use Rattle.tenant_ledger.specs.Adding.{entries_with}
 use Rattle.tenant_ledger.proofs.Words.{map-append, append_assoc, length-append, length-map, length-reverse, history_of, is_same, Contents, with_seed}
 use Rattle.tenant_ledger.proofs.keeping.Lists.{seeded-append}
 use Rattle.tenant_ledger.proofs.keeping.Tables.{committed}

@@ -1,5 +1,5 @@
 use Rattle.std.proofs.Common.{not, sym, ap, ◌∙◌}
-use Rattle.tenant_ledger.specs.Ledger.{has_key}
+use Rattle.tenant_ledger.specs.Receipts.{has_key}
 use Rattle.tenant_ledger.proofs.Words.{eq-eqb, Contents}
 use Rattle.tenant_ledger.proofs.keeping.Received.{is_not_received, is_received}
 use Rattle.tenant_ledger.proofs.book.Book.is_receiver.Goals as goal

@@ -1,4 +1,5 @@
-use Rattle.std.proofs.Common.{sym, ◌∙◌}
+use Rattle.std.proofs.Common.{sym, ap, ◌∙◌, arith}
+use Rattle.tenant_ledger.proofs.Words.{tree_clock, tree_of, history_in}
 use Rattle.tenant_ledger.proofs.keeping.Report.{last-le, second-le, id_some, fits, knows_both, knows_own}
 use Rattle.tenant_ledger.proofs.keeping.Points.{found_by_report}
 use Rattle.tenant_ledger.proofs.book.Book.tree_after.Goals as goal
@@ -7,7 +8,7 @@ pub known-own-requires-clause-event : goal.known-own-requires-clause-event
 known-own-requires-clause-event g c = last-le c.requires.book c.requires.report
 
 pub known-requires-clause-event : goal.known-requires-clause-event
-known-requires-clause-event g c = second-le c.requires.book c.requires.report
+known-requires-clause-event g c = omega (arith, c.second.ensures, second-le c.requires.book c.requires.report)
 
 pub event_with_point-requires-clause-some : goal.event_with_point-requires-clause-some
 event_with_point-requires-clause-some g c = id_some c.requires.book c.requires.report c.requires.id
@@ -15,7 +16,7 @@ event_with_point-requires-clause-some g c = id_some c.requires.book c.requires.r
 pub event_with_point-requires-clause-fits : goal.event_with_point-requires-clause-fits
 event_with_point-requires-clause-fits g c =
     let takes = sym c.takes_in.ensures ∙ c.if-takes_in.true in
-    fits c.requires.book c.requires.report (c.in_ok-known.ensures ∙ knows_both c.requires.book c.requires.report takes c.known-own.ensures c.known.ensures)
+    fits c.requires.book c.requires.report (c.in_ok-known.ensures ∙ knows_both c.requires.book c.requires.report takes c.known-own.ensures (c.known.ensures ∙ ap (tree_of tree_clock (history_in c.args.self.now)) c.second.ensures))
 
 pub event_with_point-requires-else-takes_in-clause-some : goal.event_with_point-requires-else-takes_in-clause-some
 event_with_point-requires-else-takes_in-clause-some g c = id_some c.requires.book c.requires.report c.requires.id
@@ -28,7 +29,7 @@ event_with_point-requires-else-takes_in-clause-fits g c =
 pub returns-then-takes_in-clause-point : goal.returns-then-takes_in-clause-point
 returns-then-takes_in-clause-point g c =
     let takes = sym c.takes_in.ensures ∙ c.if-takes_in.true in
-    let known = c.in_ok-known.ensures ∙ knows_both c.requires.book c.requires.report takes c.known-own.ensures c.known.ensures in
+    let known = c.in_ok-known.ensures ∙ knows_both c.requires.book c.requires.report takes c.known-own.ensures (c.known.ensures ∙ ap (tree_of tree_clock (history_in c.args.self.now)) c.second.ensures) in
     let found = c.event_with_point.ensures in
     found_by_report c.args.self.now c.args.report.now c.requires.id known c.event_with_point.result found.exact found.raised found.value
 

@@ -6,5 +6,5 @@ use Rattle.tenant_ledger.proofs.ledger.Ledger.id.Goals as goal
 
 pub returns-clause-size : goal.returns-clause-size
 returns-clause-size g c =
-    let id = c.event_id.ensures ∙ ap (λ (tenant : Tenant). id_after (history_of tenant.rows) c.args.event) (ap tenant_of c.deref-book.ensures ∙ c.self.view_is) in
+    let id = c.in_ok-id.ensures.id ∙ ap (λ (tenant : Tenant). id_after (history_of tenant.rows) c.args.event) (ap tenant_of c.deref.ensures ∙ c.self.view_is) in
     omega (arith, ap inner_of_id id, (within_spawns c.args.self.now.rows c.args.event).id)

@@ -26,7 +26,7 @@ loop-found-init g c =
       open_now = open_now;
       sound = λ sound. sound;
       limits = refl;
-      book = refl;
+      log = refl;
     }
 
 pub returns-in_err-found-clause-goes : goal.returns-in_err-found-clause-goes
@@ -139,5 +139,5 @@ loop-found-preserved g c =
       open_now = next.fault;
       sound = λ sound. c.in_ok-end.ensures.sound (before.sound sound);
       limits = c.in_ok-end.ensures.limits ∙ before.limits;
-      book = c.in_ok-end.ensures.book ∙ before.book;
+      log = c.in_ok-end.ensures.log ∙ before.log;
     }

@@ -18,7 +18,7 @@ invariant-loop-found g l = record {
   open_now : l.lines.fault ≡ None;
   sound : g.L.Lent.is_sound l.fn.lent → g.L.Lent.is_sound l.lent;
   limits : (g.L.Lent.tenant_of l.lent).limits ≡ (g.L.Lent.tenant_of l.fn.lent).limits;
-  book : g.L.Lent.book_of l.lent ≡ g.L.Lent.book_of l.fn.lent;
+  log : g.L.Lent.log_of l.lent ≡ g.L.Lent.log_of l.fn.lent;
 }
 
 abbrev pub decreases-loop-found : goal.decreases-loop-found

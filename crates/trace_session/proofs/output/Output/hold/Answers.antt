@@ -18,7 +18,7 @@ returns g c =
               left_belongs = record {
                 sound = c.answer_lines-result.ensures.sound belongs.sound;
                 limits = c.answer_lines-result.ensures.limits ∙ belongs.limits;
-                book = c.answer_lines-result.ensures.book ∙ belongs.book;
+                log = c.answer_lines-result.ensures.log ∙ belongs.log;
               };
               witnessed = (c.tell-began.ensures, c.take_back-ended.ensures);
               session = on.goes.did;

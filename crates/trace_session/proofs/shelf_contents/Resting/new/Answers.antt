@@ -5,11 +5,11 @@ use Rattle.trace_session.proofs.shelf_contents.Resting.new.Goals as goal
 
 pub returns-in-Ok-clause-whole : goal.returns-in-Ok-clause-whole
 returns-in-Ok-clause-whole g c =
-    let told = ap (λ (line : Line). line.book) c.tell-told.ensures in
+    let told = ap (λ (line : Line). line.log) c.tell-told.ensures in
     record {
-      desk = record { tenant = c.in_ok-desk.ensures.tenant; published = c.in_ok-desk.ensures.published; book = sym told };
+      desk = record { tenant = c.in_ok-desk.ensures.tenant; published = c.in_ok-desk.ensures.published; log = sym told };
       count = c.in-Ok.ensures.count ∙ ap (λ (views : Remaining). views.left) c.in_ok-desk.ensures.views;
       views = λ k d within.
-          c.in-Ok.ensures.same k d within ∙ ap (λ (views : Remaining). new_view views.limits views.book) c.in_ok-desk.ensures.views
-          ∙ ap (λ (book : Log). new_view c.args.limits book) (sym told);
+          c.in-Ok.ensures.same k d within ∙ ap (λ (views : Remaining). new_view views.limits views.log) c.in_ok-desk.ensures.views
+          ∙ ap (λ (log : Log). new_view c.args.limits log) (sym told);
     }
