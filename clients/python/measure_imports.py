@@ -1,6 +1,7 @@
 """Measures what an import takes: plain, watched for the first time, and watched once more.
 
-Each import runs in a process of its own, and its thread's time of the processor counts. Of several runs the least one is told.
+Each import runs in a process of its own, and its thread's time of the processor counts. Of several runs the least one
+is told.
 
 Usage: python3 clients/python/measure_imports.py [--runs N] MODULE..
 """
@@ -28,9 +29,11 @@ def took(module: str, folder: Path, compiled: str, is_watched: bool) -> float:
     program = folder / "program.py"
     program.write_text(IMPORT)
     run = ["-m", "itc_trace", "run", "--watch", module.partition(".")[0]] if is_watched else []
-    environment = {**os.environ, "PYTHONPATH": f"{PACKAGE}{os.pathsep}{os.environ.get('PYTHONPATH', '')}", "PYTHONPYCACHEPREFIX": compiled}
+    path = f"{PACKAGE}{os.pathsep}{os.environ.get('PYTHONPATH', '')}"
+    environment = {**os.environ, "PYTHONPATH": path, "PYTHONPYCACHEPREFIX": compiled}
     environment.pop("PYTHONDONTWRITEBYTECODE", None)
-    ran = subprocess.run([sys.executable, *run, str(program), module], capture_output=True, text=True, env=environment, check=False)
+    command = [sys.executable, *run, str(program), module]
+    ran = subprocess.run(command, capture_output=True, text=True, env=environment, check=False)
     for line in ran.stdout.splitlines():
         if line.startswith("took "):
             return float(line.split()[1])

@@ -8,7 +8,9 @@ from typing import Any, TypeVar
 
 Made = TypeVar("Made", bound=ast.AST)
 Place = dict[str, Any]
-_new = ast.AST.__new__
+AST, Call, Constant, Name = ast.AST, ast.Call, ast.Constant, ast.Name
+LOAD = ast.Load()
+_new = AST.__new__
 
 
 def new_node(kind: type[Made], parts: dict[str, Any]) -> Made:
@@ -32,6 +34,52 @@ def place_of(node: Any) -> Place:
         "lineno": place["lineno"], "col_offset": place["col_offset"], "end_lineno": place.get("end_lineno"),
         "end_col_offset": place.get("end_col_offset"),
     }
+
+
+def name_at(node: Any, name: str) -> ast.Name:
+    """A variable that is read at the place of a node."""
+    place = node.__dict__
+    made = _new(Name)
+    made.__dict__ = {
+        "id": name, "ctx": LOAD, "lineno": place["lineno"], "col_offset": place["col_offset"],
+        "end_lineno": place.get("end_lineno"), "end_col_offset": place.get("end_col_offset"),
+    }
+    return made
+
+
+def call_of(name: str, words: tuple[Any, ...], node: Any) -> ast.Call:
+    """A call of a function by its name, at the place of a node. It is given nodes, and values that become constants.
+
+    A source has more of these calls than of anything else, so each part is made at once.
+    """
+    place = node.__dict__
+    line, column = place["lineno"], place["col_offset"]
+    last_line, last_column = place.get("end_lineno"), place.get("end_col_offset")
+    given = []
+    for word in words:
+        if not isinstance(word, AST):
+            constant = _new(Constant)
+            constant.__dict__ = {
+                "value": word, "lineno": line, "col_offset": column, "end_lineno": last_line,
+                "end_col_offset": last_column,
+            }
+            word = constant
+        given.append(word)
+    function = _new(Name)
+    function.__dict__ = {
+        "id": name, "ctx": LOAD, "lineno": line, "col_offset": column, "end_lineno": last_line,
+        "end_col_offset": last_column,
+    }
+    made = _new(Call)
+    made.__dict__ = {
+        "func": function, "args": given, "keywords": [], "lineno": line, "col_offset": column,
+        "end_lineno": last_line, "end_col_offset": last_column,
+    }
+    return made
+
+
+def as_statement(expression: ast.expr, node: Any) -> ast.Expr:
+    return at(node, ast.Expr(expression))
 
 
 def at(node: Any, made: Made) -> Made:

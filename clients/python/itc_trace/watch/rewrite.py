@@ -1,7 +1,7 @@
 """Rewrites a module's syntax tree, so that what several tasks may share is noted where it is read and written.
 
-Each simple statement stands there twice: with hooks for while there is more than one task, and as it was. The hooks take the
-operands, and give them back. So the program's own instructions stay, in their order and with their lines.
+Each simple statement stands there twice: with hooks for while there is more than one task, and as it was. The hooks
+take the operands, and give them back. So the program's own instructions stay, in their order and with their lines.
 """
 
 from __future__ import annotations
@@ -15,12 +15,13 @@ from typing import Any
 from ..model.conflicts import ADDITION, ITERATION, KEYS, LENGTH, REWRITE
 from . import on_stack, passed_over
 from .kinds import (
-    CHANGED_ARGUMENT, COMPARED, CONSUMING, CONTENT, DEPTHS_OF_METHODS, EACH, IN_PLACE_FUNCTIONS, IN_PLACE_METHODS, KEYED,
-    LATE_METHODS, METHODS, ORDERED, READERS, SHOWING, SHOWN, STATE, STEPPERS, STEPPING, TRUTH, WRITTEN, depth_of, known_function,
+    CHANGED_ARGUMENT, COMPARED, CONSUMING, CONTENT, DEPTHS_OF_METHODS, EACH, IN_PLACE_FUNCTIONS, IN_PLACE_METHODS,
+    KEYED, LATE_METHODS, METHODS, ORDERED, READERS, SHOWING, SHOWN, STATE, STEPPERS, STEPPING, TRUTH, WRITTEN, depth_of,
+    known_function,
 )
 from .patterns import Patterns
 from .learned import Learned
-from .nodes import at, compiled, copied, new_node, place_of
+from .nodes import as_statement, at, call_of, compiled, copied, name_at, new_node, place_of
 from .places import DELETED, MADE_HERE, OF_BASE
 from .placing import placed
 from .scopes import CLASS, COMPREHENSION, DELEGATING, FUNCTION, LATE, MODULE, SCOPED, Scope, Scopes, fields_of
@@ -28,23 +29,26 @@ from .templates import field_paths
 
 PREFIX = "_itc_"
 ON = PREFIX + "on"
-LOAD = ast.Load()
 
 WHOLE_OBJECTS = frozenset(("vars", "__dict__", "asdict"))
 """What gives all fields of an object."""
 OF_KEYS = ("__iter__", "keys")
 METHODS_OF_READERS = {
-    "len": ("__len__",), "bool": ("__bool__", "__len__"), "reversed": ("__reversed__",), "bytes": ("__bytes__", "__iter__"), "dict": OF_KEYS,
+    "len": ("__len__",), "bool": ("__bool__", "__len__"), "reversed": ("__reversed__",),
+    "bytes": ("__bytes__", "__iter__"), "dict": OF_KEYS,
 }
 """Which methods of a class these functions call, where that is another one than for the others."""
 METHODS_OF_DEPTHS = {SHOWN: ("__str__", "__repr__", "__format__"), WRITTEN: ("__repr__",)}
 METHODS_OF_COMPARISONS = {
-    ast.Eq: ("__eq__",), ast.NotEq: ("__ne__",), ast.Lt: ("__lt__", "__gt__"), ast.Gt: ("__lt__", "__gt__"), ast.LtE: ("__le__", "__ge__"),
-    ast.GtE: ("__le__", "__ge__"),
+    ast.Eq: ("__eq__",), ast.NotEq: ("__ne__",), ast.Lt: ("__lt__", "__gt__"), ast.Gt: ("__lt__", "__gt__"),
+    ast.LtE: ("__le__", "__ge__"), ast.GtE: ("__le__", "__ge__"),
 }
 METHODS_OF_OPERATORS = {
     kind: (f"__{name}__", f"__r{name}__")
-    for kind, name in ((ast.Add, "add"), (ast.Sub, "sub"), (ast.Mult, "mul"), (ast.BitOr, "or"), (ast.BitAnd, "and"), (ast.BitXor, "xor"))
+    for kind, name in (
+        (ast.Add, "add"), (ast.Sub, "sub"), (ast.Mult, "mul"),
+        (ast.BitOr, "or"), (ast.BitAnd, "and"), (ast.BitXor, "xor"),
+    )
 }
 METHODS_OF_SLICES = {"r": ("__getitem__",), "w": ("__setitem__",), "d": ("__delitem__",)}
 WRITTEN_BY = frozenset(map(ord, "ra"))
@@ -63,19 +67,27 @@ OPERATORS = {
     "operator.contains": "__contains__",
 }
 """Functions that do what a method of their first argument does."""
-CALLED_BY_OTHERS = frozenset((*OF_ATTRIBUTES, *"len sum min max any all next iter sorted list tuple set frozenset dict str repr".split()))
+CALLED_BY_OTHERS = frozenset((
+    *OF_ATTRIBUTES, *"len sum min max any all next iter sorted list tuple set frozenset dict str repr".split(),
+))
 """Functions of the language that are handed on, as `map(len, rows)` does, and look at what they are called with."""
 OF_SYSTEM = frozenset(("os.environ", "sys.path", "sys.argv", "sys.modules"))
 """Containers of the library that programs change."""
 GIVERS = frozenset("getattr next vars globals max min iter reversed".split())
 """Functions of the language that may give what is there already."""
-CONTAINER_CLASSES = frozenset(f"collections.{name}" for name in "deque defaultdict OrderedDict Counter UserDict UserList".split())
+CONTAINER_CLASSES = frozenset(
+    f"collections.{name}" for name in "deque defaultdict OrderedDict Counter UserDict UserList".split()
+)
 DISPLAYS = (ast.Dict, ast.List, ast.Set, ast.DictComp, ast.ListComp, ast.SetComp)
 VIEWS = frozenset(("items", "keys", "values"))
 PARTS = (ast.Starred,)
 REACHED = (ast.Name, ast.Attribute, ast.Subscript)
 GIVEN = (*REACHED, ast.Call, ast.IfExp, ast.BoolOp, ast.NamedExpr, ast.Await)
 """What may give something that others can reach."""
+GIVEN_OR_STARRED = (*GIVEN, ast.Starred)
+SHOWN_ARGUMENTS = (*GIVEN, ast.List, ast.Tuple, ast.Dict)
+COMPARED_AS_A_WHOLE = (*DISPLAYS, ast.Tuple)
+ASKED_FOR_TRUTH = (*REACHED, ast.Call, ast.NamedExpr)
 JOINING = (ast.Add, ast.Sub, ast.BitOr, ast.BitAnd, ast.BitXor)
 """Operators that make a container of two others."""
 NUMBERS = (int, float, complex)
@@ -84,17 +96,20 @@ IN_PLACE: dict[type[ast.operator], str] = {
 }
 
 
+Preparing = Callable[[ast.Module, bytes, str], None]
+"""What somebody else does to a module's tree first."""
+
+
 def rewritten(
-    source: bytes | str, file: str, module: str, is_watched: Callable[[str], bool],
-    prepare: Callable[[ast.Module, bytes, str], None] | None = None,
+    source: bytes | str, file: str, module: str, is_watched: Callable[[str], bool], prepare: Preparing | None = None,
 ) -> CodeType:
-    """The module's code with hooks, whose places are known from here on. `prepare` is what somebody else does to its tree first."""
+    """The module's code with hooks, whose places are known from here on."""
     learned = Learned(is_watched)
     return placed(written(source, file, module, learned, prepare), learned.found(), file, module)
 
 
 def written(
-    source: bytes | str, file: str, module: str, learned: Learned, prepare: Callable[[ast.Module, bytes, str], None] | None = None,
+    source: bytes | str, file: str, module: str, learned: Learned, prepare: Preparing | None = None,
 ) -> CodeType:
     """The code with hooks, whose places have no numbers of the process yet."""
     tree = ast.parse(source, file)
@@ -108,7 +123,9 @@ def _is_new(value: Any) -> bool:
     if not isinstance(value, ast.Call):
         return isinstance(value, DISPLAYS)
     func = value.func
-    return isinstance(func, ast.Name) and func.id in MAKERS or isinstance(func, ast.Attribute) and func.attr in MAKERS_OF_MODULES
+    if isinstance(func, ast.Attribute):
+        return func.attr in MAKERS_OF_MODULES
+    return isinstance(func, ast.Name) and func.id in MAKERS
 
 
 def _is_super(node: Any) -> bool:
@@ -125,7 +142,7 @@ def _pairs_of(node: ast.Assign) -> list[tuple[Any, Any]]:
     target, value = node.targets[0], node.value
     if type(value) is not ast.Tuple:
         return []
-    is_paired = isinstance(target, (ast.Tuple, ast.List)) and isinstance(value, ast.Tuple) and len(target.elts) == len(value.elts)
+    is_paired = isinstance(target, (ast.Tuple, ast.List)) and len(target.elts) == len(value.elts)
     pairs = [*zip(target.elts, value.elts)] if is_paired else []  # type: ignore[attr-defined]
     return [] if any(isinstance(one, ast.Starred) for pair in pairs for one in pair) else pairs
 
@@ -133,8 +150,9 @@ def _pairs_of(node: ast.Assign) -> list[tuple[Any, Any]]:
 class Rewriter:
     """Rewrites one module.
 
-    An expression and a simple statement stay as they are, since each may stand there twice. What is rewritten is a copy of its own, which
-    shares with them what has no hooks. Compound statements stand there once, and are changed in place.
+    An expression and a simple statement stay as they are, since each may stand there twice. What is rewritten is a copy
+    of its own, which shares with them what has no hooks. Compound statements stand there once, and are changed in
+    place.
     """
 
     def __init__(self, scopes: Scopes, file: str) -> None:
@@ -148,10 +166,10 @@ class Rewriter:
         self._is_guarding = False
         self._before: list[ast.stmt] = []
         self._after: list[ast.stmt] = []
-        self._has_texts_of_annotations = "annotations" in scopes.module.imported and scopes.module.imported["annotations"] == (
-            "__future__.annotations"
+        self._has_texts_of_annotations = scopes.module.imported.get("annotations") == "__future__.annotations"
+        self._patterns = Patterns(
+            self._learned, self._site, self._text, lambda name: self._scope.owner(name).kind == MODULE,
         )
-        self._patterns = Patterns(self._learned, self._site, self._text, lambda name: self._scope.owner(name).kind == MODULE)
 
     def module(self, tree: ast.Module) -> ast.Module:
         tree.body = self._statements(tree.body)
@@ -165,19 +183,14 @@ class Rewriter:
 
     def _hook(self, name: str, node: ast.AST, *words: Any) -> ast.Call:
         self._hooks += 1
-        place = place_of(node)
-        made = [word if isinstance(word, ast.AST) else new_node(ast.Constant, {"value": word, **place}) for word in words]
-        func = new_node(ast.Name, {"id": PREFIX + name, "ctx": LOAD, **place})
-        return new_node(ast.Call, {"func": func, "args": made, "keywords": [], **place})
+        return call_of(PREFIX + name, words, node)
 
     def _is_on(self, node: ast.AST) -> ast.Name:
-        return new_node(ast.Name, {"id": ON, "ctx": LOAD, **place_of(node)})
+        return name_at(node, ON)
 
     def _choice(self, hooked: ast.expr, node: Any) -> ast.expr:
         """The hooked expression while hooks are on, else the one that stood there."""
-        place = place_of(node)
-        is_on = new_node(ast.Name, {"id": ON, "ctx": LOAD, **place})
-        return new_node(ast.IfExp, {"test": is_on, "body": hooked, "orelse": node, **place})
+        return new_node(ast.IfExp, {"test": self._is_on(node), "body": hooked, "orelse": node, **place_of(node)})
 
     def _operand(self, node: Any, hook: str, *words: Any) -> ast.expr:
         """The expression, passed through a hook."""
@@ -194,7 +207,9 @@ class Rewriter:
         """The hook of a variable that only its function has, and of the object that a constructor makes."""
         if not self._is_local(node):
             return hook
-        return "before_attribute_of_new" if hook == "before_attribute" and node.id == self._scope.made else hook + "_local"
+        if hook == "before_attribute" and node.id == self._scope.made:
+            return "before_attribute_of_new"
+        return hook + "_local"
 
     def _key_of(self, owner: Any, key: Any, site: int) -> ast.expr:
         """The key, passed through a hook with the variable that has the container."""
@@ -216,7 +231,10 @@ class Rewriter:
         return self._guarded(node) if self._is_guarding else self._visit(node)
 
     def _guarded(self, node: Any, visit: Callable[[Any], Any] | None = None) -> Any:
-        """An expression of a statement that stands there once: each part without scopes of its own stands there twice."""
+        """An expression of a statement that stands there once.
+
+        Each part without scopes of its own stands there twice.
+        """
         visit = visit or self._visit
         before = self._is_guarding, self._hooks
         is_whole = not node.inside & SCOPED and not isinstance(node, PARTS)
@@ -248,7 +266,8 @@ class Rewriter:
         known = self._scope.local.get(node.id)
         if known is None:
             owner = self._scope.owner(node.id)
-            known = self._scope.local[node.id] = owner.kind in (FUNCTION, COMPREHENSION) and node.id not in owner.captured
+            is_of_function = owner.kind in (FUNCTION, COMPREHENSION)
+            known = self._scope.local[node.id] = is_of_function and node.id not in owner.captured
         return known
 
     def _is_simple(self, node: Any) -> bool:
@@ -258,7 +277,10 @@ class Rewriter:
         return isinstance(node, ast.Constant) or isinstance(node, ast.Name)
 
     def _import_of(self, node: Any) -> str | None:
-        """The dotted name of what is imported and not bound to anything else. What hooks stand in has none: the program may change it."""
+        """The dotted name of what is imported and not bound to anything else.
+
+        What hooks stand in has none: the program may change it.
+        """
         fields = ""
         while type(node) is ast.Attribute:
             if getattr(node, "has_hooks", False):
@@ -314,9 +336,10 @@ class Rewriter:
         if isinstance(node, ast.Subscript):
             inside = repr(node.slice.value) if isinstance(node.slice, ast.Constant) else ".."
             return f"{self._text(node.value)}[{inside}]"
-        if isinstance(node, ast.Call) and isinstance(node.func, ast.Attribute) and node.func.attr in TAKING and node.args:
+        func = node.func if isinstance(node, ast.Call) else None
+        if isinstance(func, ast.Attribute) and func.attr in TAKING and node.args:
             inside = repr(node.args[0].value) if isinstance(node.args[0], ast.Constant) else ".."
-            whole = self._text(node.func.value)
+            whole = self._text(func.value)
             return f"{whole}[{inside}]" if whole else ""
         return ""
 
@@ -329,7 +352,7 @@ class Rewriter:
         if owner.kind == MODULE:
             return self._hook("at_variable", node, site)
         empty = ast.arguments(posonlyargs=[], args=[], kwonlyargs=[], kw_defaults=[], defaults=[])
-        looked = ast.Lambda(empty, ast.copy_location(ast.Name(name, ast.Load()), node))
+        looked = ast.Lambda(empty, name_at(node, name))
         return self._hook("at_cell", node, ast.copy_location(looked, node), site)
 
     def _bindings(self, target: Any) -> Iterator[ast.Name]:
@@ -342,14 +365,13 @@ class Rewriter:
 
     def _stores(self, targets: list[Any], node: Any, kinds: str = "w") -> list[ast.stmt]:
         """Statements that note that these variables were written."""
-        return [
-            ast.copy_location(ast.Expr(self._variable(one, one.id, kinds)), node) for target in targets for one in self._bindings(target)
-        ]
+        bound = [one for target in targets for one in self._bindings(target)]
+        return [as_statement(self._variable(one, one.id, kinds), node) for one in bound]
 
     def _stored(self, names: list[str], node: ast.AST) -> list[ast.stmt]:
         """The same for names that are bound by a definition, an import, a handler or a pattern."""
         made: list[ast.stmt] = [
-            ast.copy_location(ast.Expr(self._variable(node, name, "w")), node) for name in names if self._is_shared(name)
+            as_statement(self._variable(node, name, "w"), node) for name in names if self._is_shared(name)
         ]
         return self._only_on(made, node)
 
@@ -391,8 +413,9 @@ class Rewriter:
     def _simple_Assign(self, node: ast.Assign) -> ast.stmt:
         pairs = _pairs_of(node)
         if any(_is_new(value) for _, value in pairs):
-            node.value = copied(node.value)
-            node.value.elts = [self._made_or_visited(value, target) for target, value in pairs]  # type: ignore[attr-defined]
+            values: Any = copied(node.value)
+            values.elts = [self._made_or_visited(value, target) for target, value in pairs]
+            node.value = values
             self._store_targets(node)
             return node
         node.value = self._made(node.value, node.targets[0])
@@ -402,7 +425,7 @@ class Rewriter:
             node.value = node.value if _is_hook(node.value) else self._child(node.value)
         self._store_targets(node)
         if isinstance(node.value, ast.Constant) and node.value.value is None:
-            self._after.append(ast.copy_location(ast.Expr(self._hook("after_letting_go", node)), node))
+            self._after.append(as_statement(self._hook("after_letting_go", node), node))
         return node
 
     def _store_targets(self, node: ast.Assign) -> None:
@@ -430,13 +453,13 @@ class Rewriter:
         is_late = node.value.inside & LATE != 0  # type: ignore[attr-defined]
         if isinstance(target, ast.Name):
             if self._is_shared(target.id):
-                self._before += [ast.copy_location(ast.Expr(self._variable(target, target.id, "r")), node)]
+                self._before.append(as_statement(self._variable(target, target.id, "r"), node))
                 self._after += self._stores([target], node)
             if self._is_in_place(node):
-                loaded = ast.copy_location(ast.Name(target.id, ast.Load()), target)
                 kind = IN_PLACE[type(node.op)]
                 site = self._site(node, "whole", kind, "", self._text(target), IN_PLACE_METHODS[kind])
-                self._before.append(ast.copy_location(ast.Expr(self._hook(self._named_for("before_whole", target), node, loaded, site)), node))
+                hook = self._hook(self._named_for("before_whole", target), node, name_at(target, target.id), site)
+                self._before.append(as_statement(hook, node))
             node.value = self._added(node)
         elif isinstance(target, ast.Attribute):
             self._augment_attribute(node, target, is_late)
@@ -446,7 +469,10 @@ class Rewriter:
 
     @staticmethod
     def _is_in_place(node: ast.AugAssign) -> bool:
-        """Whether a container may be changed: no number can be added to one, and it can be multiplied by a whole one alone."""
+        """Whether a container may be changed.
+
+        No number can be added to one, and it can be multiplied by a whole one alone.
+        """
         value = node.value.value if isinstance(node.value, ast.Constant) else None
         is_number = type(value) in (NUMBERS[1:] if isinstance(node.op, ast.Mult) else NUMBERS)
         return type(node.op) in IN_PLACE and not is_number
@@ -503,7 +529,7 @@ class Rewriter:
         targets = node.targets
         node.targets = [self._child(target) for target in targets]
         self._after += self._stores(targets, node)
-        self._after.append(ast.copy_location(ast.Expr(self._hook("after_letting_go", node)), node))
+        self._after.append(as_statement(self._hook("after_letting_go", node), node))
         return node
 
     def _simple_Assert(self, node: ast.Assert) -> ast.stmt:
@@ -553,8 +579,8 @@ class Rewriter:
         """Has a constructor tell where it was called."""
         place = 1 if ast.get_docstring(node, clean=False) is not None else 0
         at = node.body[min(place, len(node.body) - 1)]
-        call = self._hook("at_constructor", at, ast.copy_location(ast.Name(name, ast.Load()), at), constructor)
-        node.body.insert(place, ast.copy_location(ast.Expr(call), at))
+        call = self._hook("at_constructor", at, name_at(at, name), constructor)
+        node.body.insert(place, as_statement(call, at))
 
     def _visit_defaults(self, arguments: ast.arguments) -> None:
         arguments.defaults = [self._guarded(one) for one in arguments.defaults]
@@ -637,7 +663,8 @@ class Rewriter:
 
     def _do_Match(self, node: ast.Match) -> list[ast.stmt]:
         site = self._patterns.site_of(node)
-        node.subject = self._guarded(node.subject, None if site is None else lambda subject: self._operand(subject, "before_match", site))
+        visit = None if site is None else lambda subject: self._operand(subject, "before_match", site)
+        node.subject = self._guarded(node.subject, visit)
         for case in node.cases:
             if case.guard is not None:
                 case.guard = self._guarded(case.guard, self._truth)
@@ -646,12 +673,13 @@ class Rewriter:
 
     def _bound_by(self, case: ast.match_case) -> list[ast.stmt]:
         """Statements that note which variables a pattern has bound. With a guard they are bound before it."""
-        names = [name for one in ast.walk(case.pattern) for name in (getattr(one, "name", None), getattr(one, "rest", None)) if name]
+        parts = [*ast.walk(case.pattern)]
+        names = [name for one in parts for name in (getattr(one, "name", None), getattr(one, "rest", None)) if name]
         if case.guard is None:
             return self._stored(names, case.body[0])
         for name in names:
             if self._is_shared(name):
-                case.guard = ast.copy_location(ast.BoolOp(ast.Or(), [self._variable(case.guard, name, "w"), case.guard]), case.guard)
+                case.guard = self._behind_note(case.guard, name, "w")
         return []
 
     # Expressions
@@ -679,17 +707,20 @@ class Rewriter:
             if isinstance(one, ast.expr):
                 setattr(node, name, self._child(one))
             elif one and type(one) is list:
-                setattr(node, name, [self._child(child) if isinstance(child, ast.expr) else self._inner(child) for child in one])
+                setattr(node, name, [self._inner(child) for child in one])
         return node
 
     def _inner(self, node: Any) -> Any:
-        """What is no expression itself, but may have some: a keyword."""
+        """One of several parts. A keyword is no expression itself, but has one."""
+        if isinstance(node, ast.expr):
+            return self._child(node)
         return self._keyword(node) if isinstance(node, ast.keyword) else node
 
     def _keyword(self, node: ast.keyword, is_of_print: bool = False) -> ast.keyword:
         node = copied(node)
         if is_of_print and node.arg == "file" and isinstance(node.value, GIVEN) and not self._is_foreign(node.value):
-            node.value = self._operand(node.value, "before_method", self._site(node.value, "method", "", "write", self._text(node.value)))
+            site = self._site(node.value, "method", "", "write", self._text(node.value))
+            node.value = self._operand(node.value, "before_method", site)
         elif node.arg == "key" and isinstance(node.value, GIVEN):
             node.value = self._handed(node.value)
         elif node.arg is None:
@@ -701,25 +732,36 @@ class Rewriter:
     def _visit_Name(self, node: ast.Name) -> ast.expr:
         if type(node.ctx) is not ast.Load or not self._is_shared(node.id):
             return node
-        return ast.copy_location(ast.BoolOp(ast.Or(), [self._variable(node, node.id, "r"), node]), node)
+        return self._behind_note(node, node.id, "r")
+
+    def _behind_note(self, node: ast.expr, name: str, kinds: str) -> ast.expr:
+        """The expression, behind a hook that notes a touch of a variable."""
+        return at(node, ast.BoolOp(ast.Or(), [self._variable(node, name, kinds), node]))
 
     def _visit_Attribute(self, node: ast.Attribute) -> ast.expr:
         passed_over.look_at_attribute(node, self._learned)
         if node.attr == "__dict__":
-            is_read = isinstance(node.ctx, ast.Load)
-            node.value = self._operand(node.value, "before_fields") if is_read else self._operand(node.value, "before_new_fields", self._site(node, "field", "w"))
+            if isinstance(node.ctx, ast.Load):
+                node.value = self._operand(node.value, "before_fields")
+            else:
+                node.value = self._operand(node.value, "before_new_fields", self._site(node, "field", "w"))
         elif node.attr.startswith("__") and node.attr.endswith("__") or self._is_never_changed(node):
             node.value = self._child(node.value)
         else:
             kinds = "r" if isinstance(node.ctx, ast.Load) else "w"
             words = DELETED if isinstance(node.ctx, ast.Del) else None
-            node.value = self._operand(node.value, "before_attribute", self._site(node, "field", kinds, self._mangled(node.attr), words=words))
+            site = self._site(node, "field", kinds, self._mangled(node.attr), words=words)
+            node.value = self._operand(node.value, "before_attribute", site)
         return node
 
     def _is_never_changed(self, node: ast.Attribute) -> bool:
-        """Whether it is an attribute of what is not watched, which no source of the program stores. What `super()` finds is the program's."""
-        is_loaded = isinstance(node.ctx, ast.Load)
-        return self._is_foreign(node.value) and is_loaded and not self._learned.is_stored_elsewhere(node.attr) and not self._is_super_of_any(node.value)
+        """Whether it is an attribute of what is not watched, which no source of the program stores.
+
+        What `super()` finds is the program's.
+        """
+        if not self._is_foreign(node.value) or not isinstance(node.ctx, ast.Load):
+            return False
+        return not self._learned.is_stored_elsewhere(node.attr) and not self._is_super_of_any(node.value)
 
     def _visit_Subscript(self, node: ast.Subscript) -> ast.expr:
         kinds = "r" if isinstance(node.ctx, ast.Load) else "d" if isinstance(node.ctx, ast.Del) else "w"
@@ -727,7 +769,8 @@ class Rewriter:
             return self._generic(node)  # type: ignore[no-any-return]
         if isinstance(node.slice, ast.Slice):
             whole, methods = ITERATION if kinds == "r" else REWRITE, METHODS_OF_SLICES[kinds]
-            node.value = self._operand(node.value, "before_whole", self._site(node, "whole", whole, "", self._text(node.value), methods))
+            site = self._site(node, "whole", whole, "", self._text(node.value), methods)
+            node.value = self._operand(node.value, "before_whole", site)
             node.slice = self._child(node.slice)
         else:
             self._element(node, self._site(node, "element", kinds, "", self._text(node.value)))
@@ -778,12 +821,16 @@ class Rewriter:
         return node
 
     def _call_imported(self, node: ast.Call, name: str) -> ast.expr | None:
-        """A call of a function of the library whose name tells what it does to its arguments. None, if it tells nothing."""
+        """A call of a function of the library whose name tells what it does to its arguments.
+
+        None, if it tells nothing.
+        """
         if name in STEPPING:
             return self._call_stepping(node)
         if name == "os.getenv" and node.args and not isinstance(node.args[0], ast.Starred):
             node.args = [self._child(one) for one in node.args]
-            node.args[0] = self._hook("before_environment", node.args[0], node.args[0], self._site(node, "method", "", "get", "os.environ"))
+            site = self._site(node, "method", "", "get", "os.environ")
+            node.args[0] = self._hook("before_environment", node.args[0], node.args[0], site)
             return node
         known = known_function(name)
         if known is not None:
@@ -809,7 +856,10 @@ class Rewriter:
                 self._name_elements(node, one, f"builtins.{one.id}")
 
     def _name_elements(self, node: ast.Call, function: Any, name: str) -> None:
-        """Keeps the name of what a function looks at, if it is given each element of what the call has beside it: `map(len, queues)`."""
+        """Keeps the name of what a function looks at, if it is given each element of what the call has beside it.
+
+        So it is in `map(len, queues)`.
+        """
         given: Any = next((other for other in node.args if other is not function), getattr(node.func, "value", None))
         if isinstance(given, GIVEN):
             self._learned.handed[node.lineno, name] = f"{self._text(given)}[..]"
@@ -833,12 +883,13 @@ class Rewriter:
         changed = CHANGED_ARGUMENT.get(name, 0)
         others = ITERATION if name in IN_PLACE_FUNCTIONS or changed else "" if kinds == REWRITE else kinds
         depth = self._depth_with_default(node, depth) if depth == CONTENT else depth
-        is_joined = name == "functools.reduce" and any((self._import_of(one) or "").startswith("operator.") for one in node.args[:1])
+        is_reduced = name == "functools.reduce"
+        is_joined = is_reduced and any((self._import_of(one) or "").startswith("operator.") for one in node.args[:1])
         node.args = [*node.args]
         for place, one in enumerate(node.args):
             if place == changed and not isinstance(one, ast.Starred):
                 node.args[place] = self._operand(one, "before_whole", self._site_of_whole(one, kinds, depth))
-            elif place == 0 and name == "functools.reduce":
+            elif place == 0 and is_reduced:
                 node.args[0] = self._handed(one)
             else:
                 node.args[place] = self._whole(one, others, EACH if is_joined else "") if others else self._child(one)
@@ -846,7 +897,10 @@ class Rewriter:
         return node
 
     def _depth_with_default(self, node: ast.Call, depth: str) -> str:
-        """How deep `json` looks at objects: `default` may be their text, all of their fields, or the program's own code."""
+        """How deep `json` looks at objects.
+
+        `default` may be their text, all of their fields, or the program's own code.
+        """
         for one in [keyword.value for keyword in node.keywords if keyword.arg == "default"]:
             if isinstance(one, ast.Name) and one.id in SHOWING and self._is_builtin(one.id):
                 return WRITTEN
@@ -883,24 +937,28 @@ class Rewriter:
         elif name in READERS or name in STEPPERS:
             is_called = name in ("map", "filter") or name == "iter" and len(node.args) > 1
             depth = TRUTH if name in ("any", "all") else EACH if name == "sum" and len(node.args) > 1 else ""
-            node.args = [
-                self._handed(one) if is_called and place == 0 else self._looked_at(one, name, depth) for place, one in enumerate(node.args)
-            ]
+            called = [self._handed(one) for one in node.args[:is_called]]
+            node.args = [*called, *(self._looked_at(one, name, depth) for one in node.args[is_called:])]
         else:
             node.args = [self._child(one) for one in node.args]
 
     def _attribute_by_name(self, node: ast.Call, kinds: str) -> None:
-        """The object and the name of its attribute are the first two arguments. A name that is computed is computed once."""
+        """The object and the name of its attribute are the first two arguments.
+
+        A name that is computed is computed once.
+        """
         site = self._site(node, "field", kinds, words=OF_BASE if isinstance(node.func, ast.Attribute) else None)
         name: Any = node.args[1]
         if self._is_simple(name):
-            node.args = [self._operand(node.args[0], "before_named_attribute", name, site), *(self._child(one) for one in node.args[1:])]
+            owner = self._operand(node.args[0], "before_named_attribute", name, site)
+            node.args = [owner, *(self._child(one) for one in node.args[1:])]
             return
         node.args = [self._child(one) for one in node.args]
         if not any(isinstance(one, ast.Starred) for one in node.args):
-            last = len(node.args) - 1
-            kept = [on_stack.copy(on_stack.form_of_argument(place, last), node.args[last]) for place in range(min(last, 2))]
-            node.args[last] = self._hook("given_name" if last == 1 else "given_with_name", node.args[last], node.args[last], *kept, site)
+            place = len(node.args) - 1
+            last = node.args[place]
+            kept = [on_stack.copy(on_stack.form_of_argument(one, place), last) for one in range(min(place, 2))]
+            node.args[place] = self._hook("given_name" if place == 1 else "given_with_name", last, last, *kept, site)
 
     def _is_made(self, node: Any) -> bool:
         """Whether it is a call of a function of the language that gives something new."""
@@ -916,36 +974,40 @@ class Rewriter:
             return self._starred(node, ITERATION, SHOWING[name])
         if isinstance(node, ast.Starred) or name in STEPPERS:
             return self._child(node)  # type: ignore[no-any-return]
-        return self._whole(node, READERS[name], SHOWING.get(name, depth), METHODS_OF_READERS.get(name))  # type: ignore[no-any-return]
+        looked_at: ast.expr = self._whole(node, READERS[name], SHOWING.get(name, depth), METHODS_OF_READERS.get(name))
+        return looked_at
 
     def _call_method(self, node: ast.Call, func: ast.Attribute) -> ast.expr:
         name, owner = func.attr, func.value
         is_late = any([one.inside & LATE for one in node.args])  # type: ignore[attr-defined]
+        has_first = bool(node.args) and not isinstance(node.args[0], ast.Starred)
         if name in METHODS and _is_super(owner) and self._scope.first:
             self._call_of_base(node, func)
-        elif name in METHODS and node.args and not isinstance(node.args[0], ast.Starred) and self._is_container_class(owner):
-            self._call_unbound(node, func)
+        elif name in METHODS and has_first and self._is_container_class(owner):
+            node.args = self._given_first(node, name)
         elif name in OF_OBJECT and len(node.args) > WORDS_OF_OBJECT[name]:
             self._attribute_by_name(node, OF_OBJECT[name])
-        elif name in OF_OBJECT and node.args and not isinstance(node.args[0], ast.Starred):
+        elif name in OF_OBJECT and has_first:
             self._attribute_of_owner(node, func)
         elif name in ("format", "format_map") and not self._is_foreign_module(owner):
             return self._call_format(node, func)
         elif name not in METHODS or self._is_foreign_container(owner):
             given = node.args
             called = self._called(func)
-            node.func = self._hook("before_call", func, called) if self._learned.is_field(name) and not self._is_foreign(owner) else called
+            is_field = self._learned.is_field(name) and not self._is_foreign(owner)
+            node.func = self._hook("before_call", func, called) if is_field else called
             node.args = [self._argument(one, func, owner) for one in given]
             if name in TEMPLATES:
                 return self._call_template(node, func)
-        elif name in KEYED and node.args and not isinstance(node.args[0], ast.Starred):
+        elif name in KEYED and has_first:
             self._call_keyed(node, func, self._site(node, "method", "", name, self._text(owner)))
         elif is_late and name in LATE_METHODS and not isinstance(node.args[-1], ast.Starred):
             self._call_late(node, func, self._site(node, "method", "", name, self._text(owner)))
         else:
             words = [keyword.arg for keyword in node.keywords] if self._is_of_fields(owner) else None
             is_known = words is not None and None not in words and len(node.args) < 2
-            func.value = self._operand(owner, "before_method", self._site(node, "method", "", name, self._text(owner), words if is_known else None))
+            site = self._site(node, "method", "", name, self._text(owner), words if is_known else None)
+            func.value = self._operand(owner, "before_method", site)
             node.args = [self._argument(one, func, owner) for one in node.args]
         if name in METHODS and any(map(self._learned.is_field, DELEGATING)) and not self._is_foreign(owner):
             self._call_delegated(node, func)
@@ -973,9 +1035,8 @@ class Rewriter:
         """Whether it gives the fields of an object as a dictionary."""
         if isinstance(node, ast.Attribute):
             return node.attr == "__dict__"
-        return isinstance(node, ast.Call) and isinstance(node.func, ast.Name) and node.func.id in ("vars", "globals") and (
-            self._is_builtin(node.func.id)
-        )
+        func = node.func if isinstance(node, ast.Call) else None
+        return isinstance(func, ast.Name) and func.id in ("vars", "globals") and self._is_builtin(func.id)
 
     def _is_foreign_module(self, node: Any) -> bool:
         return self._import_of(node) is not None and self._is_foreign(node)
@@ -987,7 +1048,7 @@ class Rewriter:
         given: list[Any] = node.args
         node.args = [self._child(one) for one in given]
         if _is_super(owner) and self._scope.function.first:
-            me: Any = ast.copy_location(ast.Name(self._scope.function.first, ast.Load()), node)
+            me: Any = name_at(node, self._scope.function.first)
         elif isinstance(owner, ast.Name):
             me = owner
         else:
@@ -1018,12 +1079,15 @@ class Rewriter:
         if node.arg is not None and not is_known:
             return self._keyword(node)
         node = copied(node)
-        node.value = self._whole(node.value, ITERATION, SHOWN) if node.arg is None else self._shown(node.value, template, node.arg)
+        if node.arg is None:
+            node.value = self._whole(node.value, ITERATION, SHOWN)
+        else:
+            node.value = self._shown(node.value, template, node.arg)
         return node
 
     def _shown(self, node: Any, template: Any, name: int | str) -> Any:
         """What a text puts in at a place of its own, or by a name."""
-        if not isinstance(node, (*GIVEN, ast.List, ast.Tuple, ast.Dict)):
+        if not isinstance(node, SHOWN_ARGUMENTS):
             return self._child(node)
         site = self._site(node, "whole", ITERATION, SHOWN, self._text(node))
         if isinstance(template, str):
@@ -1034,7 +1098,7 @@ class Rewriter:
     def _call_of_base(self, node: ast.Call, func: ast.Attribute) -> None:
         """A method of the container that the object itself is, as in `super().append(one)`."""
         site = self._site(node, "base", "", func.attr, self._scope.class_name or "")
-        me = ast.copy_location(ast.Name(self._scope.first, ast.Load()), node)
+        me = name_at(node, self._scope.first)
         given: list[Any] = node.args
         node.args = [self._child(one) for one in given]
         if func.attr in KEYED and given and not isinstance(given[0], ast.Starred):
@@ -1044,12 +1108,11 @@ class Rewriter:
         else:
             func.value = self._hook("after_value", func.value, func.value, me, site)
 
-    def _call_unbound(self, node: ast.Call, func: ast.Attribute) -> None:
-        """A function of a class that is given the container first, as in `list.append(items, one)`."""
-        node.args = self._given_first(node, func.attr)
-
     def _given_first(self, node: ast.Call, name: str) -> list[ast.expr]:
-        """The arguments of a function that does what a method of this name of its first argument does."""
+        """The arguments of a function that does what a method of this name of its first argument does.
+
+        So `list.append(items, one)` does.
+        """
         owner: Any = node.args[0]
         site = self._site(node, "base", "", name, self._text(owner))
         given: list[Any] = node.args
@@ -1068,17 +1131,26 @@ class Rewriter:
         return self._import_of(node) in CONTAINER_CLASSES
 
     def _argument(self, node: Any, func: ast.Attribute, owner: Any) -> Any:
-        """What a method is given. Some look at all of it, and a class of the program may have a method of such a name."""
-        kinds = CONSUMING.get(func.attr)
+        """What a method is given.
+
+        Some look at all of it, and a class of the program may have a method of such a name.
+        """
+        name = func.attr
+        kinds = CONSUMING.get(name)
+        if kinds is None:
+            return self._child(node)
         is_bytes = isinstance(owner, ast.Constant) and type(owner.value) is bytes
-        is_given = isinstance(node, (*GIVEN, ast.Starred)) or is_bytes or func.attr == "update" and self._is_of_fields(owner)
-        if kinds is None or not is_given or self._is_foreign(node) or self._is_made(node) or self._import_of(owner) is not None:
+        is_given = isinstance(node, GIVEN_OR_STARRED) or is_bytes or name == "update" and self._is_of_fields(owner)
+        is_of_others = not is_given or self._is_foreign(node) or self._is_made(node)
+        if is_of_others or self._import_of(owner) is not None:
             return self._child(node)
         if isinstance(node, ast.Starred):
             return self._starred(node, kinds, EACH)
-        if isinstance(owner, (ast.Constant, ast.JoinedStr)) or isinstance(owner, ast.Name) and self._is_builtin(owner.id):
-            return self._whole(node, kinds, EACH if is_bytes else DEPTHS_OF_METHODS.get(func.attr, ""))
-        site = self._site(node, "given", kinds, func.attr, self._text(node), OF_KEYS if kinds == KEYS or func.attr == "update" else None)
+        is_builtin = isinstance(owner, ast.Name) and self._is_builtin(owner.id)
+        if is_builtin or isinstance(owner, (ast.Constant, ast.JoinedStr)):
+            return self._whole(node, kinds, EACH if is_bytes else DEPTHS_OF_METHODS.get(name, ""))
+        words = OF_KEYS if kinds == KEYS or name == "update" else None
+        site = self._site(node, "given", kinds, name, self._text(node), words)
         if isinstance(owner, ast.Name):
             return self._hook("before_argument", node, self._child(node), owner, site)
         return self._hook("before_argument", node, self._child(node), self._owner_wanted(node), site)
@@ -1088,7 +1160,7 @@ class Rewriter:
         return on_stack.wanted(node)
 
     def _with_owner(self, node: ast.Call, func: ast.Attribute) -> ast.expr:
-        """The call. If hooks of what it is given want the object whose method it is, a hook around it keeps that on the stack."""
+        """The call. If hooks of what it is given want its object, a hook around it keeps that on the stack."""
         if not self._wanted:
             return node
         given: list[Any] = [*node.args, *(keyword.value for keyword in node.keywords)]
@@ -1125,16 +1197,20 @@ class Rewriter:
         return owner  # type: ignore[no-any-return]
 
     def _whole(self, node: Any, kinds: str, depth: str = "", methods: tuple[str, ...] | None = None) -> Any:
-        """An expression, all of which is looked at if it is a container, and no class of the program has one of the methods."""
+        """An expression, all of which is looked at if it is a container.
+
+        Of an object nothing is looked at if a class of the program has one of the methods.
+        """
         is_looked_at = isinstance(node, GIVEN) and not self._is_foreign_container(node) and not self._is_made(node)
-        if is_looked_at or depth and isinstance(node, (*DISPLAYS, ast.Tuple)):
+        if is_looked_at or depth and isinstance(node, COMPARED_AS_A_WHOLE):
             return self._operand(node, "before_whole", self._site_of_whole(node, kinds, depth, methods))
         return self._child(node)
 
     def _site_of_whole(self, node: Any, kinds: str, depth: str = "", methods: tuple[str, ...] | None = None) -> int:
         """The site of something that is looked at as a whole. A view that is made there is known by its container."""
-        is_view = isinstance(node, ast.Call) and isinstance(node.func, ast.Attribute) and node.func.attr in VIEWS
-        is_iterator = isinstance(node, ast.Call) and isinstance(node.func, ast.Name) and node.func.id in ("iter", "reversed")
+        func = node.func if isinstance(node, ast.Call) else None
+        is_view = isinstance(func, ast.Attribute) and func.attr in VIEWS
+        is_iterator = isinstance(func, ast.Name) and func.id in ("iter", "reversed")
         text = self._text(node.func.value if is_view else node)
         methods = methods or METHODS_OF_DEPTHS.get(depth) or (OF_KEYS[:1] if kinds == KEYS else None)
         return self._site(node, "whole", kinds, depth, text, MADE_HERE if is_view or is_iterator else methods)
@@ -1143,13 +1219,20 @@ class Rewriter:
         sides: list[Any] = [node.left, node.right]
         if isinstance(node.op, ast.Mod) and not _is_number(node.left):
             node.left, node.right = self._child(node.left), self._formatted(node.right)
-        elif isinstance(node.op, JOINING) and not any(_is_number(side) or _is_text(side) for side in sides):
-            node.left, node.right = (self._whole(side, ITERATION, methods=METHODS_OF_OPERATORS[type(node.op)]) for side in sides)
-        elif isinstance(node.op, ast.Mult) and not any(_is_text(side) or _is_fraction(side) for side in sides):
-            node.left, node.right = (self._whole(side, ITERATION, methods=METHODS_OF_OPERATORS[ast.Mult]) for side in sides)
+        elif self._makes_a_container(node):
+            methods = METHODS_OF_OPERATORS[type(node.op)]
+            node.left, node.right = (self._whole(side, ITERATION, methods=methods) for side in sides)
         else:
             node.left, node.right = map(self._child, sides)
         return node
+
+    @staticmethod
+    def _makes_a_container(node: ast.BinOp) -> bool:
+        """Whether it may make a container of its sides."""
+        sides = (node.left, node.right)
+        if isinstance(node.op, ast.Mult):
+            return not any(_is_text(side) or _is_fraction(side) for side in sides)
+        return isinstance(node.op, JOINING) and not any(_is_number(side) or _is_text(side) for side in sides)
 
     def _formatted(self, node: Any) -> Any:
         """What `%` puts into a text."""
@@ -1191,7 +1274,8 @@ class Rewriter:
             node.args = [self._key_of(owner, first, site), *rest]
         else:
             func.value = self._child(owner)
-            node.args = [self._hook("before_key_local", first, self._owner_wanted(first), self._child(first), site), *rest]
+            key = self._hook("before_key_local", first, self._owner_wanted(first), self._child(first), site)
+            node.args = [key, *rest]
 
     def _call_late(self, node: ast.Call, func: ast.Attribute, site: int) -> None:
         """A method whose argument takes its time: the touch comes behind it."""
@@ -1234,14 +1318,18 @@ class Rewriter:
             if not isinstance(operator, (ast.Is, ast.IsNot)) and not any(_is_plain(one) for one in both):
                 depth = COMPARED if isinstance(operator, (ast.Eq, ast.NotEq, ast.In, ast.NotIn)) else ORDERED
                 looked_at |= dict.fromkeys((place, place + 1), (depth, METHODS_OF_COMPARISONS.get(type(operator), ())))
-        made = [self._whole(one, ITERATION, *looked_at[place]) if place in looked_at else self._child(one) for place, one in enumerate(sides)]
+        made = [
+            self._whole(one, ITERATION, *looked_at[place]) if place in looked_at else self._child(one)
+            for place, one in enumerate(sides)
+        ]
         node.left, node.comparators = made[0], made[1:]
         return node
 
     def _truth(self, node: Any) -> Any:
         """An expression whose truth is asked for: that of a container is its length."""
-        if isinstance(node, (*REACHED, ast.Call, ast.NamedExpr)) and not self._is_foreign(node) and not self._is_made(node):
-            return self._operand(node, "before_whole", self._site(node, "whole", LENGTH, "", self._text(node), METHODS_OF_READERS["bool"]))
+        if isinstance(node, ASKED_FOR_TRUTH) and not self._is_foreign(node) and not self._is_made(node):
+            site = self._site(node, "whole", LENGTH, "", self._text(node), METHODS_OF_READERS["bool"])
+            return self._operand(node, "before_whole", site)
         if isinstance(node, ast.BoolOp):
             node = copied(node)
             node.values = [self._part(one, self._truth) for one in node.values]
@@ -1249,7 +1337,8 @@ class Rewriter:
         return self._visit(node)
 
     def _visit_BoolOp(self, node: ast.BoolOp) -> ast.expr:
-        node.values = [*(self._part(one, self._truth) for one in node.values[:-1]), self._part(node.values[-1], self._visit)]
+        *asked, last = node.values
+        node.values = [*(self._part(one, self._truth) for one in asked), self._part(last, self._visit)]
         return node
 
     def _part(self, node: Any, visit: Callable[[Any], Any]) -> Any:
@@ -1334,7 +1423,6 @@ class Rewriter:
             return self._operand(node, "before_loop", self._site_of_whole(node, KEYS))
         return self._visit(node)
 
-
     def _gone_through(self, node: Any, target: Any) -> Any:
         """What a loop goes through, with a look at each element that its target takes apart."""
         paths = tuple(_taken_apart(target, ()))
@@ -1342,7 +1430,11 @@ class Rewriter:
             return self._guarded(node, self._iteration)
         text = self._text(node)
         site = self._site(node, "whole", ITERATION, "", text and f"{text}[..]")
-        return self._guarded(node, lambda one: self._hook("before_taking_apart", one, self._iteration(one), paths, site))
+
+        def taken_apart(one: Any) -> ast.expr:
+            return self._hook("before_taking_apart", one, self._iteration(one), paths, site)
+
+        return self._guarded(node, taken_apart)
 
 
 _SIMPLE: dict[type, Callable[[Rewriter, Any], Any]] = {
@@ -1359,7 +1451,10 @@ _VISITS: dict[type, Callable[[Rewriter, Any], Any]] = {}
 
 
 def _taken_apart(target: Any, path: tuple[int, ...]) -> Iterator[tuple[int, ...]]:
-    """Where in an element there is something that a target takes apart: the element itself, and what is inside up to a starred part."""
+    """Where in an element there is something that a target takes apart.
+
+    These are the element itself, and what is inside up to a starred part.
+    """
     if isinstance(target, (ast.Tuple, ast.List)):
         yield path
         for place, one in enumerate(target.elts):
