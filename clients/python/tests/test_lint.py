@@ -17,7 +17,7 @@ from .support import PACKAGE
 
 PYFLAKES, MYPY = "pyflakes3", "mypy"
 OF_THE_LIBRARY = {
-    "cli.launch": "_run_module_as_main",
+    "cli.launch": "_exit _run_module_as_main",
     "cli.parser": "_option_string_actions",
     "cli.run": "_args_from_interpreter_flags _xoptions",
     "processes.children": "_popen",

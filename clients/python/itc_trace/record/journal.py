@@ -62,7 +62,10 @@ class Row(NamedTuple):
     at: tuple[tuple[str | None, int, str], ...] = ()
     """Where it has acquired those: file, line and function of each."""
     shared: tuple[int, ...] = ()
-    """Which of those were acquired for reading, by their numbers from 0 on. The last number is that of the wanted one."""
+    """Which of those were acquired for reading, by their numbers from 0 on.
+
+    The last number is that of the wanted one.
+    """
 
     @property
     def is_touch(self) -> bool:
