@@ -10,6 +10,7 @@ from pathlib import Path
 
 from itc_trace import Verdict
 from itc_trace.record.collector import find_program
+from itc_trace.record.journal import Begun, read_line
 from itc_trace.processes.part_collectors import PartCollectors, ask_for_port
 from itc_trace.analyse.parts import races_of_parts
 from itc_trace.model.verdict import BREAKS_OFF, END_ROW, Cause, Unseen, end_row
@@ -17,6 +18,8 @@ from itc_trace.model.verdict import BREAKS_OFF, END_ROW, Cause, Unseen, end_row
 from .support import ProgramCase, run_python, run_traced
 
 EVENTS_OF_A_PART = "3"
+MOST_TAKEN_ALONG = 640
+"""Of a program with a few live tasks: the tracer learns late of those that ended, as of up to some hundred of them."""
 ROW = '{"event":1,"task":"root","thing":null,"kind":"local","file":null,"line":0,"label":"touch"}\n'
 SERVER = """
 import sys, threading
@@ -114,6 +117,39 @@ asyncio.run(main())
 """
 
 
+AWAITED = """
+import asyncio, threading
+lock, cache = threading.Lock(), {}
+async def one(number):
+    await asyncio.sleep(0)
+    with lock:
+        cache[number % 100] = number
+async def main():
+    for number in range(600):
+        AWAIT
+asyncio.run(main())
+"""
+GATHERED = AWAITED.replace("AWAIT", "await asyncio.gather(one(number), one(number))")
+IN_GROUPS = AWAITED.replace("AWAIT", """async with asyncio.TaskGroup() as group:
+            group.create_task(one(number))
+            group.create_task(one(number))""")
+CHAIN = """
+import asyncio
+count = {"steps": 0}
+async def step(number, over):
+    count["steps"] = number
+    await asyncio.sleep(0)
+    if number < 900:
+        asyncio.current_task().next = asyncio.create_task(step(number + 1, over))
+    else:
+        over.set_result(None)
+async def main():
+    over = asyncio.get_running_loop().create_future()
+    first = asyncio.create_task(step(0, over))
+    del first
+    await over
+asyncio.run(main())
+"""
 ASKS_ITSELF = """
 import threading, urllib.request
 from http.server import BaseHTTPRequestHandler, ThreadingHTTPServer
@@ -249,6 +285,17 @@ class LongRuns(ProgramCase):
         ran = run_traced("--part-events", "1000", self.program(CLEAN))
         self.assertEqual(ran.returncode, Verdict.NO_RACE, ran.stderr)
         self.assertIn("no race in this run", ran.stderr)
+
+    def test_tasks_that_were_awaited_are_not_taken_along_from_part_to_part(self) -> None:
+        for name, program in (("gathered", GATHERED), ("in groups", IN_GROUPS), ("each begins the next", CHAIN)):
+            with self.subTest(name), tempfile.TemporaryDirectory() as folder:
+                journal = Path(folder, "journal")
+                ran = run_traced("--part-events", "1000", "--journal", str(journal), self.program(program))
+                self.assertEqual(ran.returncode, Verdict.NO_RACE, ran.stderr)
+                rows = [read_line(line) for line in journal.read_text().splitlines()]
+                positions = [len(row.border.positions) for row in rows if isinstance(row, Begun)]
+                self.assertGreater(len(positions), 3)
+                self.assertLess(max(positions), MOST_TAKEN_ALONG)
 
     def test_threads_that_wait_for_a_processor_behind_their_end_may_be_many(self) -> None:
         """As on a machine that is loaded: they have ended, and are waited for much later."""

@@ -148,7 +148,7 @@ class OrderOfTasks:
             token.message = line.message
             if self._parts is not None:
                 self._parts.sent(line.message, line.lock, [token])
-        else:
+        elif not line.has_ended:  # Else it sends nothing any more.
             line.pending.append(token)
 
     def take(self, line: Line, token: Token, code: CodeType | None, instruction: int) -> None:
@@ -178,7 +178,9 @@ class OrderOfTasks:
         if count > 0:
             return line.known.get(source, 0) >= count
         parent = source.parent
-        return parent is None or parent is line or line.known.get(parent, 0) >= source.parent_count
+        if parent is None:
+            return source.parent_count == 0
+        return parent is line or line.known.get(parent, 0) >= source.parent_count
 
     def _knows_by_lock(self, line: Line, token: Token) -> bool:
         """Whether the line has taken the lock from the other one since."""

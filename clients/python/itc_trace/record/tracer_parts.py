@@ -92,6 +92,9 @@ class Parts:
         for line in self._lines.values():
             _forget_gone(line)
         joinable = self._joinable(may_be_asked_for)
+        for task in self._lines:
+            if self._is_over(task, may_be_asked_for) and not self._is_held(task):
+                self._lines[task].end_token = None  # Nobody else knows it, so nobody receives the message of its end.
         outside = [message for message, known in self._messages.items() if known.is_outside]
         for message in outside[:-MOST_OUTSIDE]:
             del self._messages[message]
@@ -123,6 +126,11 @@ class Parts:
             self._lines[task].is_forgotten = True
         return set(taken)
 
+    def _is_over(self, task: str, may_be_asked_for: Callable[[Line], bool]) -> bool:
+        """Whether the task has ended, and nobody has its own object."""
+        line = self._lines[task]
+        return line.has_ended and not line.is_forgotten and not may_be_asked_for(line)
+
     def _is_held(self, task: str) -> bool:
         """Whether somebody else has the line of a task whose own object is gone, as a pool has those of its jobs."""
         end = self._lines[task].end_token
@@ -146,5 +154,7 @@ def _forget_gone(line: Line) -> None:
     line.joined = []
     if line.has_ended:
         line.section = None  # Its thread does not come back to it.
+    if line.parent is not None and (line.parent.has_ended or line.count and not line.has_ended):
+        line.parent = None  # Whoever comes after it may be told of the order once more.
     line.known = {other: count for other, count in line.known.items() if not other.is_gone}
     line.known_by_locks = {key: count for key, count in line.known_by_locks.items() if not key[0].is_gone}
