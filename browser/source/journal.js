@@ -17,7 +17,7 @@ function objectIn(line) {
 
 // What the tool itself does, which is no part of the program: the runs of its loops, and what a part of a run takes over from the one before.
 const OWN_LABELS = new Set(["run loop", "run in loop", "run until loop stops", "loop has stopped", "goes on", "border"]);
-const OWN_TASKS = new Set(["ended_threads", "ended_tasks", "keeper"]);
+const OWN_TASKS = new Set(["ended_threads", "ended_tasks", "keeper", "itc_nursery", "itc_border"]);
 // Labels that say nothing of the program, and those of touches that a person would say in other words.
 const BARE_LABELS = new Set(["touch", "send to another process", "receive from another process"]);
 const OTHER_WORDS = [["making ", "make "], ["lookup ", "look up in "], ["replacement ", "replace an entry of "]];

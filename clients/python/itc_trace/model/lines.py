@@ -114,7 +114,7 @@ class Line:
         "name", "count", "message", "lock", "sent", "pending", "known", "known_by_locks", "parent", "parent_count",
         "touches",
         "end_token", "is_finished", "has_ended", "is_gone", "joined_by", "joined_at", "joined", "first_taker",
-        "is_forgotten", "is_process",
+        "is_forgotten", "is_process", "starter", "children", "nursery",
     )
 
     def __init__(self, tracer: Reporter | None, hint: str) -> None:
@@ -159,6 +159,12 @@ class Line:
         """Whether it ended in an earlier part of the run, and is no more known to the collector."""
         self.is_process = False
         """Whether it is a child process, which reports for itself."""
+        self.starter: Line | None = None
+        """The task that has spawned it, as the collector knows it: its parent, or a nursery of that one."""
+        self.children = 0
+        """How many tasks it has spawned in this part of the run that nobody has joined yet."""
+        self.nursery: Line | None = None
+        """The nursery that spawns its next tasks."""
         state.lines += 1
 
     def watch(self, thing: object) -> None:

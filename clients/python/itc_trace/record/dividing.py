@@ -9,6 +9,7 @@ from __future__ import annotations
 
 from collections import defaultdict
 from collections.abc import Callable
+from itertools import count
 from typing import NamedTuple
 
 from .collector import MOST_EVENTS, MOST_MESSAGES, MOST_TASKS
@@ -48,6 +49,12 @@ MOST_NEW_TASKS = 640
 tasks that nobody joins make each stamp as long as they are many."""
 
 
+NURSERY = "itc_border"
+"""So begin the names of the tasks that spawn those of a wide border."""
+WIDE = 32
+"""A border with more tasks has nurseries. Each spawns so many."""
+
+
 class Border(NamedTuple):
     """How a part begins: its first reports, and what they stand for."""
 
@@ -67,7 +74,8 @@ class _Sent(NamedTuple):
 class Divider:
     """Keeps what a new part has to begin with."""
 
-    def __init__(self) -> None:
+    def __init__(self, has_nurseries: bool = False) -> None:
+        self._has_nurseries = has_nurseries
         self._begin_part()
 
     def _begin_part(self) -> None:
@@ -122,13 +130,27 @@ class Divider:
         before, tasks = self._last, dict.fromkeys([*self._last, *ended, *sent])
         self._begin_part()
         border = Border([], [], [])
-        for task in tasks:
-            if task != ROOT:
-                self._begin(border, Report("spawn", ROOT, task))
+        self._spawn(border, [task for task in tasks if task != ROOT])
         for task in tasks:
             self._go_on(border, task, sent[task], before.get(task), ended.get(task))
         self.tasks_before = self.tasks
         return border
+
+    def _spawn(self, border: Border, tasks: list[str]) -> None:
+        """Has the root spawn the tasks. Many are spawned by others that it spawns before, and that do nothing else."""
+        if not self._has_nurseries or len(tasks) <= WIDE:
+            for task in tasks:
+                self._begin(border, Report("spawn", ROOT, task))
+            return
+        taken = set(tasks)
+        names = (name for number in count(1) if (name := f"{NURSERY}_{number}") not in taken)
+        nurseries = [next(names) for _ in range(0, len(tasks), WIDE)]
+        for place, nursery in enumerate(nurseries):
+            self._begin(border, Report("spawn", ROOT, nursery))
+            for task in tasks[place * WIDE : (place + 1) * WIDE]:
+                self._begin(border, Report("spawn", nursery, task))
+            self._begin(border, Report("end", nursery))
+            del self._ended[nursery]  # Nobody comes after it.
 
     def _go_on(self, border: Border, task: str, sent: list[_Sent], last: int | None, ended: int | None) -> None:
         """Sends the task's messages once more, each at the position where it was sent,

@@ -14,6 +14,7 @@ from ..model.loop_runs import STOPS, LoopRun
 from ..model.verdict import Cause
 from .awaited import await_at_exit, take_awaited
 from .names import Names
+from .nurseries import Nurseries
 from .reports import Outstanding, Reports
 from .tracer_parts import Parts
 from .waiting import Waiter
@@ -57,6 +58,7 @@ class OrderOfTasks:
         """How often each task is still waited for, by the notes that are looked at."""
         self._gone_soon: set[Line] = set()
         self._keeper: Line | None = None
+        self.nurseries = Nurseries(reporter, reports, names, self._message_numbers.__next__)
 
     def look_ahead(self, batch: deque[tuple[float, Note]]) -> None:
         """Looks notes through for how often each task is waited for, and which ones nobody can wait for after that."""
@@ -76,6 +78,7 @@ class OrderOfTasks:
 
     def end_finished(self) -> None:
         """At the end of the session: the tasks that are done have their ends."""
+        self.nurseries.end()
         for line in self._finished:
             if not line.has_ended and line.name:
                 line.pending.clear()
@@ -209,7 +212,7 @@ class OrderOfTasks:
     def spawn(self, parent: Line, child: Line, code: CodeType | None, instruction: int) -> Outstanding:
         self.leave(parent)
         child.name = self._names.new(child.hint)
-        report = self._reports.report(parent, "spawn", child.name, code, instruction, f"start {child.name}")
+        report = self.nurseries.spawn(parent, child, code, instruction)
         if self._parts is not None:
             self._parts.add(child)
         child.parent, child.parent_count = parent, parent.count
@@ -263,6 +266,7 @@ class OrderOfTasks:
         report = self._reports.report(line, "join", child.name, code, instruction, label)
         report.may_be_refused = child.is_process
         child.joined_by, child.joined_at = line, line.count
+        self.nurseries.joined(line, child)
         if child.loop_run is not None:
             child.loop_run.lines.discard(child)
         line.joined.append(child)

@@ -415,6 +415,7 @@ class Tracer:
         """Leaves a trace that is nearly full, and goes on in a new one with what may still give order."""
         self._order.keep_ended()
         self._order.keep_ended_of_loops(parts.lines)
+        self._order.nurseries.end()
         for line in parts.lines:
             if line.touches is not None:
                 self._touches.end_event(line)

@@ -52,7 +52,7 @@ class Parts:
         self.is_shared = False
         """Whether other processes report to this part too. Then there is no further one."""
         self.number = 1
-        self.divider = Divider()
+        self.divider = Divider(has_nurseries=True)
         self._asked_for = self._limits = limits
         self._lines: dict[str, Line] = {}
         self._messages: dict[str, _Message] = {}
@@ -145,8 +145,8 @@ class Parts:
         """Forgets the lines that are not among these tasks, and what happened in the part before to the others."""
         self._lines = {task: line for task, line in self._lines.items() if task in tasks}
         for line in self._lines.values():
-            line.message = line.lock = line.joined_by = None
-            line.joined_at, line.sent = 0, []
+            line.message = line.lock = line.joined_by = line.starter = line.nursery = None
+            line.joined_at, line.sent, line.children = 0, [], 0
 
 
 def _forget_gone(line: Line) -> None:
