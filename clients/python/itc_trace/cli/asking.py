@@ -8,7 +8,6 @@ import re
 import signal
 import threading
 import time
-from collections.abc import Callable
 
 from ..processes.hanging import TOLD
 from .saying import say
@@ -46,9 +45,9 @@ class Asking:
                     return
                 time.sleep(0.02)
 
-    def ask_beside(self, process: Callable[[], int], adds: bool) -> None:
+    def ask_beside(self, process: int, adds: bool) -> None:
         """The same, and goes on at once."""
-        threading.Thread(target=lambda: self.ask(process(), adds), daemon=True).start()
+        threading.Thread(target=self.ask, args=(process, adds), daemon=True).start()
 
     @property
     def has_begun(self) -> bool:

@@ -124,7 +124,7 @@ class Child:
         if is_of_group:
             self._sentinel.close()
             self._sentinel = Sentinel()
-        self._asking.ask_beside(lambda: process.pid, not is_of_group)
+        self._asking.ask_beside(process.pid, not is_of_group)
 
     def _end(self, number: int, frame: FrameType | None) -> None:
         if frame is not None:
