@@ -53,6 +53,7 @@ FILES = {
 """The options that name a file."""
 FOUND = "itc_trace_found"
 """The attribute of a test's report by which what was found comes from the process of a worker."""
+SHOWN = Shown(how="-v shows them at the end")
 TENANTS = tuple(f"test{number}" for number in range(16))
 
 _tenants: Any = pytest.StashKey["_Tenants"]()
@@ -133,7 +134,7 @@ class _Traced:
         try:
             self.report = report_of(traced.races(), fail_on_possible=self._fails_on_possible)
             if self.report.verdict:
-                self.found = text(self.report)
+                self.found = text(self.report, SHOWN)
         except Exception as fault:  # The collector is gone, say.
             self._miss(f"the test was not traced to its end: {fault}")
         finally:
@@ -381,7 +382,7 @@ def _section(met: OfTests, report: Report, is_quiet: bool, is_verbose: bool) -> 
         yield from short(report.findings)
         yield f"itc_trace: {report.summary}"
         return
-    told = text(report, Shown(is_all=is_verbose)).splitlines()
+    told = text(report, Shown(is_verbose, how=SHOWN.how)).splitlines()
     yield from told[:-1]
     if is_verbose:
         yield from (f"id {one.identity} in {test}" for one in report.findings for test in one.tests[1:])

@@ -175,6 +175,9 @@ class Usages(unittest.TestCase):
         self.run_here("run", "--export", "shop.export", "shop.py")
         self.assertNotIn("no line of", self.run_here("races", "shop.export").stdout)
         (self.folder / "shop.py").unlink()
+        self.assertNotIn("no line of", self.run_here("races", "shop.export").stdout, "the journal has the lines")
+        journal = self.folder / "shop.export.journal"
+        journal.write_text("".join(line for line in journal.read_text().splitlines(True) if not line.startswith('{"source"')))
         told = self.run_here("races", "shop.export").stdout
         self.assertIn("itc_trace: no line of shop.py is shown, as it is not here: list the races in the folder of the run", told)
 

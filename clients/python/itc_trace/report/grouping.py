@@ -38,7 +38,7 @@ class Entry:
     def more(self) -> str:
         """How many further pairs there are."""
         count = len(self.findings) - 1
-        return f"and {count} more {'pair' if count == 1 else 'pairs'} on {self.owner}: --all"
+        return f"and {count} more {'pair' if count == 1 else 'pairs'} on {self.owner}"
 
 
 def is_field(thing: str) -> bool:

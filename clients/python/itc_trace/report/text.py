@@ -24,6 +24,8 @@ class Shown:
     """Whether each pair is shown, and not one of each cause."""
     most: int | None = None
     """So many entries at most."""
+    how: str = "--all"
+    """What is typed to see each pair."""
 
 
 def text(report: Report, shown: Shown = Shown(), style: Style = Style()) -> str:
@@ -39,7 +41,7 @@ def _lines(report: Report, shown: Shown, style: Style) -> Iterator[str]:
     if len(causes) > MOST_WITHOUT_SUMMARY:
         yield f"itc_trace: {_summary(causes)}"
     for entry in found[: shown.most]:
-        yield from _entry(entry, report, style)
+        yield from _entry(entry, report, shown, style)
     if shown.most is not None and len(found) > shown.most:
         yield f"itc_trace: and {len(found) - shown.most} more, which --max {shown.most} leaves out"
     for hint in report.hints:
@@ -47,12 +49,12 @@ def _lines(report: Report, shown: Shown, style: Style) -> Iterator[str]:
     yield f"itc_trace: {style.summary(report.summary, report.verdict is Verdict.NO_RACE)}"
 
 
-def _entry(entry: Entry, report: Report, style: Style) -> Iterator[str]:
+def _entry(entry: Entry, report: Report, shown: Shown, style: Style) -> Iterator[str]:
     yield "itc_trace: " + "\n    ".join(style.lines(entry.shown, report.folder))
     if report.picture is not None:
         yield f"    {link(entry.shown, report.picture)}"
     if len(entry.findings) > 1:
-        yield f"    {entry.more}"
+        yield f"    {entry.more}: {shown.how}"
 
 
 def _summary(causes: list[Entry]) -> str:
