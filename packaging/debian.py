@@ -46,6 +46,7 @@ def contents() -> dict[str, tuple[bytes, int]]:
 
 
 def write(target: Path) -> Path:
+    target.mkdir(parents=True, exist_ok=True)
     package = target / f"itc-trace_{version()}_amd64.deb"
     held = contents()
     with tempfile.TemporaryDirectory() as root:

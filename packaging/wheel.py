@@ -57,6 +57,7 @@ def name() -> str:
 
 
 def write(target: Path) -> Path:
+    target.mkdir(parents=True, exist_ok=True)
     held = [*files(), *about()]
     wheel = target / name()
     with zipfile.ZipFile(wheel, "w", zipfile.ZIP_DEFLATED) as archive:

@@ -13,7 +13,7 @@ from pathlib import Path
 from itc_trace.analyse.kept_sources import MOST_KEPT, add_sources, source_rows, sources_of
 from itc_trace.cli.process_sources import ProcessSources
 from itc_trace.cli.system_file import Described
-from itc_trace.record.journal import SourceText, read_line, read_whole
+from itc_trace.record.journal import ProcessTold, SourceText, read_line, read_whole
 
 from .support import PACKAGE
 from .test_report import SELLING
@@ -75,8 +75,16 @@ class Rows(unittest.TestCase):
         told = sources_of([SourceText("a.py", {1: "x"}), SourceText("a.py", {1: "x", 2: "y"}), SourceText("b.py", {1: "x"}), SourceText("b.py", {1: "y"})])
         self.assertEqual(told.kept, {"a.py": {1: "x", 2: "y"}})
 
+    def test_processes_have_their_whole_names_in_whichever_order_they_start(self) -> None:
+        told = [ProcessTold("wareh2", "warehouse_go"), ProcessTold("wareh", "warehouse_py")]
+        self.assertEqual([read_line(one.row()) for one in told], told)
+        sources = sources_of([], told)
+        for task, due in (("wareh2", "warehouse_go"), ("wareh2_pay_1", "warehouse_go_pay_1"), ("wareh_pay_1", "warehouse_py_pay_1"),
+                          ("wareh3_pay", "wareh3_pay"), ("root", "root"), ("", "")):
+            self.assertEqual(sources.task(task), due)
+
     def test_a_line_that_is_none_is_told(self) -> None:
-        for line in ('{"source":"a.py"}\n', '{"source":"a.py","lines":[1]}\n', '{"source":"a.py","lines":{"x":"y"}}\n'):
+        for line in ('{"process":"a"}\n', '{"source":"a.py"}\n', '{"source":"a.py","lines":[1]}\n', '{"source":"a.py","lines":{"x":"y"}}\n'):
             self.assertIsNone(read_line(line), line)
 
 
@@ -110,7 +118,7 @@ class Lists(unittest.TestCase):
         with tempfile.TemporaryDirectory() as folder, tempfile.TemporaryDirectory() as away:
             (Path(folder) / "py").mkdir()
             Path(folder, "py", "shop.py").write_text(SELLING)
-            Path(folder, "shop.toml").write_text('export = "s"\n[process.shop]\ncommand = ["python3", "shop.py"]\ndirectory = "py"\n')
+            Path(folder, "shop.toml").write_text('export = "s"\n[process.storekeeper]\ncommand = ["python3", "shop.py"]\ndirectory = "py"\n')
             environment = {**os.environ, "PYTHONPATH": str(PACKAGE)}
 
             def run(cwd: str, *words: str) -> "subprocess.CompletedProcess[str]":
@@ -119,6 +127,7 @@ class Lists(unittest.TestCase):
             first = run(f"{folder}/py", "run", "--export", "../g", "shop.py").stderr
             system = run("/", "system", f"{folder}/shop.toml").stderr
             self.assertIn('    write at shop.py:4 in sell:  stock["left"] -= 1\n', system)
+            self.assertIn("    threads storekeeper_sell_1 and storekeeper_sell_2: nothing orders them", system)
             for name in ("g", "s"):
                 for end in ("", ".journal"):
                     shutil.move(f"{folder}/{name}{end}", away)

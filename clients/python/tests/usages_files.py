@@ -93,12 +93,13 @@ def write_files(folder: Path) -> None:
 
 
 def write_trace(folder: Path) -> None:
-    """A trace with a race that was kept once, its journal, and pieces of both.
+    """A trace with a race that was kept once, its journal, pieces of both, and a report.
 
     A fresh one would have other rows, in another order, from run to run.
     """
     for name in ("kept.export", "kept.export.journal"):
         shutil.copy(KEPT / name, folder)
+    shutil.copy(KEPT.parent / "reports" / "kept.json", folder / "report.json")
     for name, whole, begin, end in (
         ("cut.export", "kept.export", 0, 5), ("cut.journal", "kept.export.journal", 0, 4),
         ("headless.journal", "kept.export.journal", 2, None),

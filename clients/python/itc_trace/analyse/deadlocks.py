@@ -113,8 +113,8 @@ class Deadlock:
 def _found_side(step: Step, kind: str, at: Place, sources: Sources) -> FoundSide:
     file = at.file or ""
     return FoundSide(
-        kind, file, at.line, at.function, step.task, step.event, step.part, (step.holds,), bool(step.loop), False,
-        *sources.around(file, at.line),
+        kind, file, at.line, at.function, sources.task(step.task), step.event, step.part, (step.holds,),
+        bool(step.loop), False, *sources.around(file, at.line),
     )
 
 

@@ -8,7 +8,7 @@ import re
 from collections.abc import Callable, Iterable, Iterator
 
 from ..model.sources import LINES_AROUND, MOST_LETTERS, Sources
-from ..record.journal import SourceText
+from ..record.journal import ProcessTold, SourceText
 
 PLACE = re.compile(r'"file":("(?:[^"\\]|\\.)*"),"line":(\d+)')
 MOST_FILE = 1 << 20
@@ -58,9 +58,9 @@ def _kept(path: str | None, numbers: set[int]) -> dict[int, str]:
         return {}
 
 
-def sources_of(told: Iterable[SourceText]) -> Sources:
+def sources_of(told: Iterable[SourceText], processes: Iterable[ProcessTold] = ()) -> Sources:
     """The sources that journals have kept. Lines of which two say otherwise are left out: they may be of two files."""
-    sources = Sources()
+    sources = Sources(processes={one.tag: one.process for one in processes})
     spoilt: set[str] = set()
     for one in told:
         known = sources.kept.get(one.file, {})

@@ -20,7 +20,7 @@ from ..record.collector import Collector, NoCollector
 from ..model.conflicts import MAKING
 from ..record.dividing import Border, Report
 from ..record.journal import (
-    BORDER, Begun, Children, ChildTold, Count, DeadlockTold, End, Row, SignalTold, SourceText, read_line,
+    BORDER, Begun, Children, ChildTold, Count, DeadlockTold, End, ProcessTold, Row, SignalTold, SourceText, read_line,
 )
 from .kept_sources import sources_of
 from ..model.lock_identity import ANSWER, REQUEST
@@ -221,7 +221,7 @@ def races_of_parts(
         divided = _Divided(journal, folder)
         found = Races(
             deadlocks=deadlocks_told(divided.deadlocks, divided.all_rows()), unseen=divided.unseen,
-            passed_over=divided.passed_over, sources=sources_of(divided.sources),
+            passed_over=divided.passed_over, sources=sources_of(divided.sources, divided.processes),
         )
         try:
             keep = None if export is None else _Exports(export, divided).keep
@@ -232,7 +232,7 @@ def races_of_parts(
             found.unseen.append(Unseen(Cause.COLLECTOR, f"the collector does not tell the order of events ({fault})"))
         all_found = [*found.races, *found.possible]
         numbers = sorted({row.part for race in all_found for row in race.example})
-        add_stories(all_found, (row for number in numbers for row in divided.rows(number)))
+        add_stories(all_found, (row for number in numbers for row in divided.rows(number)), found.sources)
         looking.silence(found)
         return found
 
@@ -266,6 +266,7 @@ class _Divided:
         self.passed_over: list[PassedOver] = []
         self.signals: set[str] = set()
         self.sources: list[SourceText] = []
+        self.processes: list[ProcessTold] = []
         self.deadlocks: list[DeadlockTold] = []
         children = Children()
         count = Count()
@@ -281,6 +282,8 @@ class _Divided:
                     self.unseen.append(read)
                 elif isinstance(read, SourceText):
                     self.sources.append(read)
+                elif isinstance(read, ProcessTold):
+                    self.processes.append(read)
                 elif isinstance(read, ChildTold):
                     children.add(read)
                 elif isinstance(read, Begun):

@@ -87,8 +87,8 @@ def _found_side(row: Row, side: Side, sources: Sources) -> FoundSide:
     file, _, line = side.place.rpartition(":")
     number = int(line) if line.isdigit() else 0
     return FoundSide(
-        side.kind, file, number, side.function, row.task, row.event, row.part, row.held, bool(row.loop), row.is_write,
-        *sources.around(file, number),
+        side.kind, file, number, side.function, sources.task(row.task), row.event, row.part, row.held, bool(row.loop),
+        row.is_write, *sources.around(file, number),
     )
 
 
@@ -205,7 +205,7 @@ def find_races(
         touches=len(touches),
         events=len({row.event for row in rows}),
     )
-    found.sources = sources_of(whole.sources)
+    found.sources = sources_of(whole.sources, whole.processes)
     found.places = len({(row.thing, row.place) for row in touches})
     found.things = len({row.thing for row in touches})
     things = [thing for thing in _things_of(rows) if thing.may_race]

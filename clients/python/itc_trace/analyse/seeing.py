@@ -6,7 +6,7 @@ from collections.abc import Iterable, Iterator
 
 from .benign import Looking
 from ..record.collector import HOST
-from ..record.journal import Journal, NoJournal, read_whole
+from ..record.journal import Journal, NoJournal, Row, read_whole
 from .progress import Bar
 from .races import Races, find_races
 from .story import add_stories
@@ -24,11 +24,15 @@ def races_seen(
     lines, looking = list(journal), looking or Looking()
     try:
         found = find_races(tenant, port, lines, host, looking.strict, bar)
-        add_stories([*found.races, *found.possible], read_whole(lines).rows if found.races or found.possible else [])
+        add_stories([*found.races, *found.possible], _rows(lines), found.sources)
         looking.silence(found)
         return found
     except (OSError, Refused) as fault:
         return _unknown(read_whole(lines), fault)
+
+
+def _rows(lines: list[str]) -> Iterator[Row]:
+    yield from read_whole(lines).rows
 
 
 def check_trace(tenant: str, port: int, lines: Iterable[str], host: str = HOST, trace: str = "") -> None:

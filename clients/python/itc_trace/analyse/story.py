@@ -2,10 +2,11 @@
 
 from __future__ import annotations
 
-from collections.abc import Iterable, Iterator
+from collections.abc import Callable, Iterable, Iterator
 
 from ..model.conflicts import MAKING
 from ..model.finding import Step, Story
+from ..model.sources import Sources
 from ..record.journal import Row
 from .races import Race
 
@@ -14,11 +15,11 @@ STEPS = 3
 MOST_TOUCHES = 2
 
 
-def add_stories(races: Iterable[Race], rows: Iterable[Row]) -> None:
-    """Gives each race its story, by the rows of the journal."""
+def add_stories(races: Iterable[Race], rows: Iterable[Row], sources: Sources) -> None:
+    """Gives each race its story, by the rows of the journal. Processes have their whole names."""
     told = list(races)
     if told:
-        trace = _Rows(rows, {row.task for race in told for row in race.example})
+        trace = _Rows(rows, {row.task for race in told for row in race.example}, sources.task)
         for race in told:
             race.story = trace.story(*race.example)
 
@@ -26,7 +27,8 @@ def add_stories(races: Iterable[Race], rows: Iterable[Row]) -> None:
 class _Rows:
     """The rows of some tasks, by their events."""
 
-    def __init__(self, rows: Iterable[Row], tasks: set[str]) -> None:
+    def __init__(self, rows: Iterable[Row], tasks: set[str], named: Callable[[str], str]) -> None:
+        self._called = named
         self._of_task: dict[str, dict[tuple[int, int], list[Row]]] = {}
         self._joins: dict[str, list[Row]] = {}
         self._spawns: dict[str, Row] = {}
@@ -60,12 +62,14 @@ class _Rows:
         yield self._message(first, second)
 
     def _lock(self, first: Row, second: Row) -> str:
+        one, other = self._called(first.task), self._called(second.task)
         for lock in first.held:
-            return f"{_name(lock)}: {first.task} holds it, and {second.task} has to hold it, too"
+            return f"{_name(lock)}: {one} holds it, and {other} has to hold it, too"
         for lock in second.held:
-            return f"{_name(lock)}: {second.task} holds it, and {first.task} has to hold it, too"
+            return f"{_name(lock)}: {other} holds it, and {one} has to hold it, too"
         uses, others = self._uses(first), self._uses(second)
-        common = min((one for one in uses if one in others), key=lambda one: uses[one] + others[one], default=None)
+        both = [lock for lock in uses if lock in others]
+        common = min(both, key=lambda lock: uses[lock] + others[lock], default=None)
         if common is None:
             return "a lock: no lock is used by both tasks, and one that both hold here keeps them apart"
         return f"{_name(common)}: both tasks use it, and neither holds it here"
@@ -81,27 +85,26 @@ class _Rows:
         return uses
 
     def _join(self, first: Row, second: Row) -> str:
-        joins = sorted(
-            (row for row in self._joins.get(first.task, []) if _place(row) > _place(first)), key=_place,
-        )
+        one, other = self._called(first.task), self._called(second.task)
+        joins = sorted((row for row in self._joins.get(first.task, []) if _place(row) > _place(first)), key=_place)
         start = self._spawns.get(second.task)
-        before = f"before {second.task} is started{_at(start)}" if start else f"before {second.task} touches it"
+        early = f"before {other} {f'is started{_at(start)}' if start else 'touches it'} would be early enough"
         if not joins:
-            return f"a join: nobody joins {first.task}, and {before} would be early enough"
-        late = joins[0]
-        return f"a join: {late.task} joins {first.task}{_at(late)}, and {before} would be early enough"
+            return f"a join: nobody joins {one}, and {early}"
+        return f"a join: {self._called(joins[0].task)} joins {one}{_at(joins[0])}, and {early}"
 
     def _message(self, first: Row, second: Row) -> str:
+        one, other = self._called(first.task), self._called(second.task)
         sent = next((row for row in self._after(first) if row.kind == "send" and not row.lock), None)
         taken = next((row for row in self._before(second) if row.kind == "recv" and not row.lock), None)
         if sent is None and taken is None:
-            return f"a queue or an event: {first.task} sends nothing behind its touch"
-        gives = f"{first.task} sends nothing behind its touch" if sent is None else f"behind its touch {_does(sent)}"
-        takes = (
-            f"{second.task} takes nothing before its own" if taken is None
-            else f"before its own touch {_does(taken)} of another task"
-        )
+            return f"a queue or an event: {one} sends nothing behind its touch"
+        gives = f"behind its touch {self._does(sent)}" if sent else f"{one} sends nothing behind its touch"
+        takes = f"before its own touch {self._does(taken)}" if taken else f"{other} takes nothing before its own"
         return f"a queue or an event: {gives}, and {takes}"
+
+    def _does(self, row: Row) -> str:
+        return f"{self._called(row.task)} does `{row.label}`{_at(row)}"
 
     def _after(self, touch: Row) -> Iterator[Row]:
         events = self._of_task.get(touch.task, {})
@@ -138,7 +141,3 @@ def _name(lock: str) -> str:
 
 def _at(row: Row) -> str:
     return f" at {row.place}" if row.file else ""
-
-
-def _does(row: Row) -> str:
-    return f"{row.task} does `{row.label}`{_at(row)}"

@@ -1,4 +1,4 @@
-"""The source lines that a list of findings shows: those that a journal has kept, else those of the files here."""
+"""What a list of findings shows besides: source lines, which a journal has kept or which are here, and whole names."""
 
 from __future__ import annotations
 
@@ -16,6 +16,13 @@ class Sources:
     """The lines by their file and their number."""
 
     kept: dict[str, dict[int, str]] = field(default_factory=dict)
+    processes: dict[str, str] = field(default_factory=dict)
+    """The whole name of each process, by what the names of its tasks begin with."""
+
+    def task(self, name: str) -> str:
+        """The name of a task, with that of its process in full."""
+        tag, line, rest = name.partition("_")
+        return f"{self.processes.get(tag, tag)}{line}{rest}"
 
     def add(self, file: str, lines: Mapping[int, str]) -> None:
         self.kept.setdefault(file, {}).update(lines)

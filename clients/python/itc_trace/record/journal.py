@@ -95,6 +95,7 @@ class Journal(NamedTuple):
     """The locks that are signals."""
     sources: tuple[SourceText, ...] = ()
     """Lines of the program that were kept with the journal."""
+    processes: tuple[ProcessTold, ...] = ()
     deadlocks: tuple[DeadlockTold, ...] = ()
 
 
@@ -114,6 +115,7 @@ def read_whole(lines: Iterable[str]) -> Journal:
     passed_over: list[PassedOver] = []
     signals: set[str] = set()
     sources: list[SourceText] = []
+    processes: list[ProcessTold] = []
     deadlocks: list[DeadlockTold] = []
     children = Children()
     count = Count()
@@ -126,6 +128,8 @@ def read_whole(lines: Iterable[str]) -> Journal:
             rows.append(read)
         elif isinstance(read, SourceText):
             sources.append(read)
+        elif isinstance(read, ProcessTold):
+            processes.append(read)
         elif isinstance(read, Unseen):
             unseen.append(read)
         elif isinstance(read, PassedOver):
@@ -147,7 +151,8 @@ def read_whole(lines: Iterable[str]) -> Journal:
     unseen += children.unseen()
     missing = count.missing(unseen)
     return Journal(
-        rows, [*unseen, *missing], missing, passed_over, frozenset(signals), tuple(sources), tuple(deadlocks),
+        rows, [*unseen, *missing], missing, passed_over, frozenset(signals), tuple(sources), tuple(processes),
+        tuple(deadlocks),
     )
 
 
@@ -226,6 +231,16 @@ class SignalTold(NamedTuple):
     lock: str
 
 
+class ProcessTold(NamedTuple):
+    """The whole name of a process, and what the names of its tasks begin with."""
+
+    tag: str
+    process: str
+
+    def row(self) -> str:
+        return json.dumps({"process": self.process, "tag": self.tag}, separators=(",", ":")) + "\n"
+
+
 class Children:
     """The child processes of which a journal tells."""
 
@@ -272,6 +287,8 @@ def read_line(line: str) -> Read | None:
             return DeadlockTold(tuple(read["deadlock"]))
         if "signal" in read:
             return SignalTold(str(read["signal"]))
+        if "process" in read:
+            return ProcessTold(str(read["tag"]), str(read["process"]))
         if "source" in read:
             return SourceText(str(read["source"]), {int(one): str(text) for one, text in read["lines"].items()})
         if "end" in read:
@@ -308,7 +325,7 @@ class Begun(NamedTuple):
     border: Border
 
 
-Read = SourceText | Row | Unseen | PassedOver | ChildTold | DeadlockTold | SignalTold | Begun | End
+Read = SourceText | Row | Unseen | PassedOver | ChildTold | DeadlockTold | SignalTold | ProcessTold | Begun | End
 """What a line of a journal says."""
 
 

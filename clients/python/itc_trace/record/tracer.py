@@ -23,7 +23,7 @@ from .collector import HOST, MOST_TASKS
 from .connection import Connection
 from .faults import FULL, Fault, refusal
 from .following import ChildProcess
-from .journal import Places, TouchTexts, border_row, text_of
+from .journal import Places, ProcessTold, TouchTexts, border_row, text_of
 from .journal_file import JournalFile
 from .names import ANY_PROCESS, Names, tag_of
 from .noting import enter
@@ -159,6 +159,8 @@ class Tracer:
                 self.prefix = f"{tag}_"
                 row = Outstanding("", "root", "spawn", tag, None, 0, f"start process {tag}", time=_now())
                 self._journal.write(self._row(int(reply[4:]), row))
+                if process not in (tag, ANY_PROCESS):
+                    self._journal.write(ProcessTold(tag, process).row())
                 return
             if not reply.startswith("402"):
                 raise Fault(refusal(reply, self.connection.tenant, self.port))
