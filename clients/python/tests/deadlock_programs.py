@@ -120,6 +120,24 @@ def three_locks_of_two_tasks() -> Steps:
     return [forth, back]
 
 
+def second_of_two() -> Steps:
+    """The cycle is of the lock that was acquired second, and the first one is held beside it."""
+    beside, second, third = (threading.Lock() for _ in range(3))
+
+    def forth() -> None:
+        with beside:
+            with second:  # told
+                with third:  # told
+                    pass
+
+    def back() -> None:
+        with third:  # told
+            with second:  # told
+                pass
+
+    return [forth, back]
+
+
 def within_functions() -> Steps:
     one, other = threading.Lock(), threading.Lock()
 
@@ -425,10 +443,10 @@ def tried_first() -> Steps:
 
 
 TOLD = [
-    two_locks, two_rlocks, lock_and_rlock, by_calls, three_tasks, four_tasks, three_locks_of_two_tasks, within_functions,
-    many_times, of_objects, lock_and_condition, two_conditions, wait_with_a_lock, semaphores, semaphore_and_lock, stacks,
-    jobs, job_and_thread, timers, asyncio_locks, asyncio_conditions, asyncio_semaphores, loops_of_two_threads,
-    tried_first,
+    two_locks, two_rlocks, lock_and_rlock, by_calls, three_tasks, four_tasks, three_locks_of_two_tasks, second_of_two,
+    within_functions, many_times, of_objects, lock_and_condition, two_conditions, wait_with_a_lock, semaphores,
+    semaphore_and_lock, stacks, jobs, job_and_thread, timers, asyncio_locks, asyncio_conditions, asyncio_semaphores,
+    loops_of_two_threads, tried_first,
 ]
 
 

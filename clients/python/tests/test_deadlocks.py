@@ -31,10 +31,13 @@ def lines_of(deadlocks: list[Deadlock]) -> set[int]:
 
 class Deadlocks(TracedCase):
     def found(self, scenario: Callable[[], Steps]) -> Races:
+        """All of it has to be seen: what the collector contradicts is told as not seen."""
         def run() -> None:
             in_turn(*scenario())
 
-        return self.races(run)
+        found = self.races(run)
+        self.assertEqual(found.unseen, [])
+        return found
 
     def test_each_is_told_with_all_its_places(self) -> None:
         for scenario in TOLD * PROGRAM_RUNS:
