@@ -7,6 +7,7 @@ from collections.abc import Iterator
 
 from ..analyse.benign import Pattern
 from ..model.finding import Finding, FoundSide, Step
+from ..model.verdict import reasons
 from .report import Report
 from .text import link
 
@@ -25,7 +26,8 @@ def finding_by(identity: str, report: Report, where: str) -> Finding:
     if len(identity) >= LEAST_DIGITS and len(found) == 1:
         return found[0]
     if not known:
-        raise NoFinding(f"{where} has no race")
+        seen = f" in what was seen: {reasons(report.unseen)}" if report.unseen else ""
+        raise NoFinding(f"{where} has no race{seen}")
     listed = ", ".join(f"{name} ({one.thing})" for name, one in known.items())
     if len(identity) < LEAST_DIGITS:
         raise NoFinding(f"{identity or 'nothing'} is too short for an id: {where} has {listed}")
