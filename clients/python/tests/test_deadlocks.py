@@ -13,7 +13,7 @@ from itc_trace.analyse.deadlocks_of_parts import ACROSS
 
 from . import deadlock_programs
 from .deadlock_programs import CLEAN, OF_SEVERAL, TOLD, Steps, two_locks
-from .support import PART_EVENTS, PROGRAM_RUNS, TracedCase, in_turn
+from .support import PART_EVENTS, PROGRAM_RUNS, ProgramCase, TracedCase, in_turn, run_traced
 
 
 def marked(scenario: Callable[[], Steps]) -> set[int]:
@@ -56,6 +56,43 @@ class Deadlocks(TracedCase):
                 found = self.found(scenario)
                 self.assertEqual(list(map(str, found.possible_deadlocks)), [])
                 self.assertEqual(found.passed_over, [])
+
+
+PROCESSES = """
+import multiprocessing, time
+def forth(one, other):
+    with one:  # told
+        with other:  # told
+            pass
+def back(one, other):
+    time.sleep(0.5)
+    with other:  # told
+        with one:  # told
+            pass
+if __name__ == "__main__":
+    context = multiprocessing.get_context("fork")
+    locks = [context.Lock() for _ in range(2)]
+    processes = [context.Process(target=work, args=locks) for work in (forth, back)]
+    for process in processes:
+        process.start(); WAIT
+    for process in processes:
+        process.join()
+"""
+
+
+class Processes(ProgramCase):
+    def told(self, wait: str) -> tuple[int, str]:
+        ran = run_traced("--fail-on", "possible", "--watch-nothing", self.program(PROCESSES.replace("WAIT", wait)))
+        return ran.returncode, ran.stderr
+
+    def test_locks_that_processes_share_are_told_with_all_places(self) -> None:
+        status, told = self.told("pass")
+        self.assertEqual(status, Verdict.RACES, told)
+        self.assertEqual(told.count("  # told\n"), 4, told)
+
+    def test_processes_one_after_another_are_in_order(self) -> None:
+        status, told = self.told("process.join()")
+        self.assertEqual((status, told.count("deadlock")), (0, 0), told)
 
 
 class Findings(TracedCase):

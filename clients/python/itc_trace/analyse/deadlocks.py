@@ -280,8 +280,15 @@ def before_without(trace: Trace, locks: set[int]) -> list[Events]:
 
 
 def locks_of(rows: Iterable[Row], trace: Trace) -> set[int]:
-    """The hand-over of all locks, also of those at whose conditions others wait."""
-    return lock_events(trace, {row.event for row in rows if row.lock is not None or row.guard is not None})
+    """The hand-over of all locks, also of those at whose conditions others wait, and of those that processes share.
+
+    Of the latter only the receipt tells.
+    """
+    told = {row.event for row in rows if row.lock is not None or row.guard is not None}
+    received = {trace[number].name for number in told if trace[number].kind == "recv"}
+    return lock_events(trace, told) | {
+        event.number for event in trace.events if event.kind in ("send", "recv") and event.name in received
+    }
 
 
 class _Concurrent:
