@@ -8,17 +8,21 @@ import signal
 import subprocess
 import sys
 import tempfile
+import threading
 import time
 import unittest
 from concurrent.futures import ThreadPoolExecutor
 from pathlib import Path
 
 from itc_trace import Verdict
+from itc_trace.processes.waits import Since
 
 from .support import PACKAGE, PROGRAM_RUNS, ProgramCase, run_traced, wait_until
 
 ANSWER = 10.0
 """So many seconds an answer may take on a busy machine. On an idle one it takes less than one."""
+LOOKS = 10000
+"""With a frame held meanwhile, some ten of these keep what goes beyond its end."""
 PRELUDE = """
 import asyncio, concurrent.futures, ctypes, multiprocessing, queue, threading, time
 def start(work):
@@ -238,6 +242,43 @@ class Confirmed(ProgramCase):
         ran = run_traced("--confirm", self.program(ORDERED))
         self.assertEqual(ran.returncode, 0, ran.stderr)
         self.assertNotIn("--confirm runs", ran.stderr)
+
+
+
+class Looks(unittest.TestCase):
+    def test_nothing_lives_longer_since_somebody_looks_where_threads_are(self) -> None:
+        log: list[str] = []
+        late = []
+        is_over = threading.Event()
+
+        class Noted:
+            def __del__(self) -> None:
+                log.append("gone")
+
+        def holding() -> int:
+            kept = [Noted()]
+            return len(kept)
+
+        def work() -> None:
+            while not is_over.is_set():
+                log.clear()
+                holding()
+                if not log:
+                    late.append(1)
+
+        thread = threading.Thread(target=work)
+        thread.start()
+        before = sys.getswitchinterval()
+        sys.setswitchinterval(1e-6)
+        try:
+            since = Since()
+            for _ in range(LOOKS):
+                since.look()
+        finally:
+            sys.setswitchinterval(before)
+            is_over.set()
+            thread.join()
+        self.assertEqual(late, [])
 
 
 if __name__ == "__main__":

@@ -11,9 +11,11 @@ import queue
 import sys
 import threading
 import time
-from collections.abc import Iterator
+from collections.abc import Callable, Iterator
 from concurrent.futures import Future
 from dataclasses import dataclass
+from itertools import chain, islice, tee
+from operator import attrgetter, itemgetter
 from types import CodeType, FrameType
 from typing import Any
 
@@ -23,6 +25,8 @@ from ..model.lines import Line, state
 from ..model.lock_identity import LockIdentity
 from ..record import own_threads
 
+_current_frames: Callable[[], dict[int, FrameType]] = vars(sys)["_current_frames"]
+_THREAD, _FRAME, _INSTRUCTION = itemgetter(0), itemgetter(1), attrgetter("f_lasti")
 LIBRARY = frozenset({"multiprocessing", "subprocess", "selectors", "socket", "ssl", "contextlib"})
 """Beside what is internal: whoever waits within these was sent there by the program."""
 WAITS = "waits for "
@@ -75,11 +79,27 @@ class Since:
     def look(self) -> dict[int, float]:
         """Notes where all threads are. Gives since when each has been there."""
         now = time.monotonic()
-        frames = _frames()
-        found = {thread: self.of(thread, _where(frame), now) for thread, frame in frames.items()}
-        for gone in [one for one in self._seen if isinstance(one, int) and one not in frames]:
+        places = {thread: where for thread, *where in _places() if thread not in own_threads.IDENTS}
+        found = {thread: self.of(thread, tuple(where), now) for thread, where in places.items()}
+        for gone in [one for one in self._seen if isinstance(one, int) and one not in places]:
             del self._seen[gone]
         return found
+
+
+def _places() -> list[tuple[int, int, int]]:
+    """The number of each thread, and where it is, as `_where` has it.
+
+    A frame that is held keeps what is in it behind its end. So one call makes all of it in C, and lets go of it: no
+    thread of the program goes on meanwhile.
+    """
+    return list(_places_once_asked())
+
+
+def _places_once_asked() -> Iterator[tuple[int, int, int]]:
+    """The same, with no frame yet. What is made on the way is held by nothing but this iterator."""
+    frames = chain.from_iterable(map(dict.items, islice(iter(_current_frames, None), 1)))
+    first, second, third = tee(frames, 3)
+    return zip(map(_THREAD, first), map(id, map(_FRAME, second)), map(_INSTRUCTION, map(_FRAME, third)))
 
 
 def _where(frame: FrameType) -> object:
@@ -88,8 +108,7 @@ def _where(frame: FrameType) -> object:
 
 def _frames() -> dict[int, FrameType]:
     """The threads that are not the package's own."""
-    frames = vars(sys)["_current_frames"]()
-    return {thread: frame for thread, frame in frames.items() if not _is_own(frame)}
+    return {thread: frame for thread, frame in _current_frames().items() if not _is_own(frame)}
 
 
 def _is_own(frame: FrameType) -> bool:

@@ -17,8 +17,11 @@ _OF_ONES_OWN = {getattr(signal, name, None) for name in ("SIGSEGV", "SIGBUS", "S
 """What a thread does wrong comes to itself."""
 _alive: set[object] = set()
 """Something for each of these threads that has not ended."""
+IDENTS: set[int] = set()
+"""The numbers of those that run."""
 if hasattr(os, "register_at_fork"):
     os.register_at_fork(after_in_child=_alive.clear)
+    os.register_at_fork(after_in_child=IDENTS.clear)
 
 
 def count_of_own() -> int:
@@ -34,9 +37,12 @@ def start_thread(run: Callable[[], object]) -> None:
     counted = object()
 
     def run_counted() -> None:
+        own = _thread.get_ident()
+        IDENTS.add(own)
         try:
             run()
         finally:
+            IDENTS.discard(own)
             _alive.discard(counted)
 
     _alive.add(counted)
