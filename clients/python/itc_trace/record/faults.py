@@ -90,7 +90,7 @@ def _reached(port: int, host: str) -> Iterator[None]:
         yield
     except ConnectionRefusedError as refused:
         raise Fault(nobody_listens(port)) from refused
-    except socket.gaierror as unknown:
+    except (socket.gaierror, UnicodeError) as unknown:  # The second is of a name that is too long.
         raise Fault(f"there is no host {host}: name one by --host, or its address") from unknown
     except TimeoutError as late:
         raise Fault(f"the collector at port {port} of {host} does not answer: {NO_ROOM}") from late
