@@ -80,7 +80,7 @@ class Rewriting(unittest.TestCase):
 
     def test_what_stands_there_twice_is_plain_once(self) -> None:
         programs = [path.read_text() for path in Path(PACKAGE, "tests", "programs", "unchanged").glob("*.py")]
-        for source in [SOURCE, *programs, *of_file("same.txt").values(), *of_file("forms.txt").values()]:
+        for source in [SOURCE, *programs, *of_file("same.txt").values(), *of_file("forms.txt").values(), *of_file("kinds.txt").values()]:
             with self.subTest(program=source):
                 self.assertEqual(changed_in_place(source), [])
 
