@@ -104,7 +104,7 @@ def check_service(built: Path, name: str, status: int) -> None:
             f'[process.store]\ncommand = ["{built}", "{name}"]\nready = "ready"\nservice = true\n'
             f'[process.seller]\ncommand = ["{built}", "kid"]\nafter = ["store"]\n')
         environment = {**os.environ, "PYTHONPATH": str(CLIENTS / "python")}
-        ran = subprocess.run([sys.executable, "-m", "itc_trace", "system", str(folder / "system.toml")], env=environment,
+        ran = subprocess.run([sys.executable, "-m", "itc_trace", "system", "--all", str(folder / "system.toml")], env=environment,
                              capture_output=True, text=True, timeout=MOST_SECONDS, check=False)
     if ran.returncode != status or "incomplete" in ran.stderr:
         raise Wrong(f"{name}: status {ran.returncode}\n{ran.stdout}{ran.stderr}")

@@ -141,7 +141,7 @@ def run_system(folder: Path, options: list[str] | None = None, **processes: list
     file.write_text("".join(f"[process.{name}]\ncommand = {json.dumps(words)}\n" for name, words in processes.items()))
     environment = {**os.environ, "PYTHONPATH": str(CLIENTS / "python")}
     return subprocess.run(
-        [sys.executable, "-m", "itc_trace", "system", *(options or []), str(file)], env=environment, capture_output=True, text=True,
+        [sys.executable, "-m", "itc_trace", "system", "--all", *(options or []), str(file)], env=environment, capture_output=True, text=True,
         timeout=MOST_SECONDS)
 
 
@@ -254,7 +254,7 @@ def check_service(programs: Programs) -> None:
         file = written(folder, "system.toml", f'[process.one]\ncommand = {words}\nready = "raced"\nservice = true\n'
                        '[process.other]\ncommand = ["true"]\nafter = ["one"]\ntraced = false\n')
         ran = subprocess.run(
-            [sys.executable, "-m", "itc_trace", "system", str(file)], env={**os.environ, "PYTHONPATH": str(CLIENTS / "python")},
+            [sys.executable, "-m", "itc_trace", "system", "--all", str(file)], env={**os.environ, "PYTHONPATH": str(CLIENTS / "python")},
             capture_output=True, text=True, timeout=MOST_SECONDS)
     check(ran, RACES, marked(PRIMITIVES[programs.language], "race", "ends"), set())
 
@@ -450,6 +450,15 @@ def check_table() -> None:
         raise Wrong(f"{PAGE.name} lacks {sorted(due - named)}, and has {sorted(named - due)}, which nothing runs")
 
 
+def check_table_of_ends() -> None:
+    """The table of how a process ends names each way that is tried, and no others."""
+    text = PAGE.read_text().partition("\n| The end | Java | Rust | Programs |\n")[2].partition("\n\n")[0]
+    named = {name for row in re.findall(r"^\| .* \| ([^|]*) \|$", text, re.M) for name in re.findall(r"`(\w+)`", row)} - {"killed"}
+    due = {*ENDS["java"], *ENDS["rust"], "hook", "service"}
+    if named != due:
+        raise Wrong(f"{PAGE.name} lacks {sorted(due - named)}, and has {sorted(named - due)}, which nothing runs")
+
+
 def check_other_table(programs: Programs) -> None:
     """The table of what else a client follows names each of its programs of one order, and no others."""
     text = PAGE.read_text().partition(f"\n## What else {programs.language.title()} follows\n")[2].partition("\n## ")[0]
@@ -502,7 +511,7 @@ def systems_of(statuses: dict[str, int]) -> Iterator[dict[str, int]]:
 
 
 def main() -> int:
-    checks = [Check(["table"], check_table, ())]
+    checks = [Check(["table"], check_table, ()), Check(["table of ends"], check_table_of_ends, ())]
     for language in sys.argv[2:]:
         programs = Programs(language, Path(sys.argv[1]))
         own = {**COMMON, **OWN[language]}
