@@ -89,6 +89,8 @@ async function oddTexts(tab) {
     return [document.documentElement.scrollWidth, window.innerWidth, document.getElementById("panel").scrollWidth, document.getElementById("panel").clientWidth];
   });
   assert.ok(width[0] <= width[1] && width[2] <= width[3], `${width}`);
+  const written = await tab.run(() => document.getElementById("panel").textContent.length);
+  assert.ok(written < MEBIBYTE / 10, `${written} letters are laid out`);
   await nothingRan(tab);
 }
 

@@ -35,14 +35,19 @@ function programWords(label) {
 /** What a message carries, by the label of who sends it, or nothing where that says only that it is sent. */
 const wordsOfMessage = (label) => programWords(label).replace(/^(send|put|post) /, "");
 
+const MOST_READABLE = 1000;
+
+/** As much of a text as somebody reads. A page of more than that takes long to lay out. */
+const readable = (text, most = MOST_READABLE) => clipped(text, most);
+
 /** What a row of a journal says of its event, or null. It has to be one of so many events. */
 function labelOf(row, events = Infinity) {
   if (row === null || !Number.isInteger(row.event) || typeof row.label !== "string") return null;
   if (row.event < 1 || row.event > events) return null;
   const isPlaced = typeof row.file === "string" && Number.isInteger(row.line);
-  const isTouch = typeof row.thing === "string", isBare = !isTouch && (isPlaced ? false : row.label === "touch");
-  return { event: row.event, label: row.label, words: programWords(row.label), kind: row.kind, isOwn: isBare || OWN_LABELS.has(row.label),
-    name: typeof row.name === "string" ? row.name : row.thing, place: isPlaced ? `${fileName(row.file)}:${row.line}` : "",
+  const isTouch = typeof row.thing === "string", isBare = !isTouch && (isPlaced ? false : row.label === "touch"), label = readable(row.label);
+  return { event: row.event, label, words: programWords(label), kind: row.kind, isOwn: isBare || OWN_LABELS.has(label),
+    name: typeof row.name === "string" ? row.name : row.thing, place: isPlaced ? `${readable(fileName(row.file))}:${row.line}` : "",
     source: isPlaced ? `${row.file}:${row.line}` : "", isTouch,
     thing: isTouch ? row.thing : null, isLock: typeof row.lock === "string" };
 }

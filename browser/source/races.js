@@ -1,14 +1,19 @@
 // Reading races
 
-const DEADLOCKS = ["deadlock", "possible deadlock"], MOST_SIDES = 32;
+const DEADLOCKS = ["deadlock", "possible deadlock"], MOST_SIDES = 32, MOST_NAMED = 200;
 const KINDS_IN_WORDS = { read: "reads", write: "writes", lookup: "looks up in", replacement: "replaces an entry of", making: "makes" };
+
+/** As much of a name as leaves room for the rest of a race. */
+const named = (text) => readable(text, MOST_NAMED);
 
 /** A touch of a race, or null. One of a run in parts says in which part. */
 function sideOf(side) {
   if (typeof side !== "object" || side === null || !Array.isArray(side.text)) return null;
   const areTexts = [side.task, side.kind, side.file, side.function, ...side.text].every((text) => typeof text === "string");
   const { part = 1 } = side, areNumbers = [side.event, side.line, side.begin, part].every(Number.isInteger);
-  return areTexts && areNumbers && side.text.length <= MOST_SOURCE ? { ...side, part } : null;
+  if (!areTexts || !areNumbers || side.text.length > MOST_SOURCE) return null;
+  const [task, kind, name] = [side.task, side.kind, side.function].map(named);
+  return { ...side, part, task, kind, function: name, text: side.text.map((line) => readable(line)) };
 }
 
 /** Whether so many lines belong to it: two of a race, and two of each task of a deadlock, which holds one lock and wants another. */
@@ -23,7 +28,7 @@ function raceOf(row) {
   if (!isCountOfSides(isDeadlock, row.sides.length)) return null;
   const sides = row.sides.map(sideOf), areTexts = [row.thing, row.made, row.why].every((text) => typeof text === "string");
   if (sides.includes(null) || !areTexts || !Number.isInteger(row.times)) return null;
-  const { thing, made, why, times } = row, pair = [sides[0], sides.at(-1)];
+  const [thing, made, why] = [row.thing, row.made, row.why].map(named), { times } = row, pair = [sides[0], sides.at(-1)];
   return { thing, made, why, times, isPossible: row.possible === true, isDeadlock, sides, pair };
 }
 
@@ -35,7 +40,7 @@ const capital = (words) => `${words.slice(0, 1).toUpperCase()}${words.slice(1)}`
 /** What the first line of a list of races says of all of it, or null: how many there are, and why more may not have been seen. */
 function headOfRaces(row) {
   if (row === null || !Number.isInteger(row.races) || !Number.isInteger(row.possible) || !Array.isArray(row.unseen)) return null;
-  return { unseen: row.unseen.filter((why) => typeof why === "string") };
+  return { unseen: row.unseen.filter((why) => typeof why === "string").map(named) };
 }
 
 /** Whether the side tells of a lock: what it holds or wants stands in its kind. */
@@ -52,7 +57,7 @@ const timesOf = ({ times }) => times === 1 ? "once" : `${times} times`;
 /** The file, the line and the function of a touch, in few words. */
 function placeIn(side) {
   const isNamed = side.function !== "" && side.function !== "<module>";
-  return `${fileName(side.file)}:${side.line}${isNamed ? ` in ${side.function}` : ""}`;
+  return `${named(fileName(side.file))}:${side.line}${isNamed ? ` in ${side.function}` : ""}`;
 }
 
 const isOneLine = ([one, other]) => one.file === other.file && one.line === other.line && one.begin === other.begin;
@@ -64,7 +69,7 @@ function sourceOf(sides) {
     const number = side.begin + place, isIt = number === side.line;
     lines.append(element(isIt ? "strong" : "span", {}, `${isIt ? ">" : " "} ${String(number).padStart(width)}  ${text}`), "\n");
   });
-  const words = `${sides.map(({ task, kind }) => `${task}: ${kind}`).join(", ")} at ${side.file}:${side.line}`;
+  const words = `${sides.map(({ task, kind }) => `${task}: ${kind}`).join(", ")} at ${readable(side.file)}:${side.line}`;
   lines.setAttribute("aria-label", words);
   return element("figure", { className: "source" }, element("figcaption", {}, words), ...side.text.length > 0 ? [lines] : []);
 }
