@@ -168,4 +168,11 @@ export async function words(tab) {
   assert.deepEqual(await lanes(), [2, "Nothing is hidden."], "a task of the tool has no lane");
   await tab.run(() => page.choose(6));
   assert.deepEqual(await lanes(), [3, "Nothing is hidden."], "a task that is chosen has one");
+  const reports = ["spawn root itc_nursery_1", "spawn itc_nursery_1 a", "spawn itc_nursery_1 b", "local a", "local b"];
+  await opened(tab, pictureOf("nursery.html", exportOf(reports), ["--labels", file("nursery.journal", rows([{ ...lock, event: 4, task: "a", kind: "local" }]))]));
+  await tab.run(() => {
+    page.choose(4);
+    page.choose(5, { asOther: true });
+  });
+  assert.deepEqual(await lanes(), [4, "Nothing is hidden."], "a task of the tool that starts others has a lane");
 }

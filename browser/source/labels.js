@@ -32,13 +32,21 @@ const WithLabels = (Base) => class extends Base {
   /** Finds the events of the tool itself, and those by which tasks of its own begin and end. */
   findOwn() {
     const { trace, labels } = this, own = this.own = new Uint8Array(trace.events + 1);
-    this.ownTasks = new Set(trace.tasks.flatMap(({ name, started }, place) => OWN_TASKS.has(stemOf(name)) && started > 0 ? [place] : []));
-    const isOwnTask = (name) => this.ownTasks.has(trace.taskPlaces.get(name));
+    const isTool = ({ name, started }) => OWN_TASKS.has(stemOf(name)) && started > 0, isOwnTask = (name) => isTool(trace.tasks[trace.taskPlaces.get(name)]);
+    const ends = this.deadEnds();
+    this.ownTasks = new Set(trace.tasks.flatMap((task, place) => isTool(task) && ends.has(place) ? [place] : []));
     for (let event = 1; event <= trace.events; event++) {
       const kind = trace.kinds[event], { lines = [] } = labels.get(event) ?? {};
       const namesOwn = (kind === SPAWN || kind === JOIN) && isOwnTask(trace.nameOf[event]);
       if (namesOwn || isOwnTask(trace.taskName(event)) || (lines.length > 0 && lines.every(({ isOwn }) => isOwn))) own[event] = 1;
     }
+  }
+
+  /** The tasks that no way between two others leads through: nobody comes after what they do. */
+  deadEnds() {
+    const { trace } = this, found = new Set(trace.tasks.flatMap(({ joined }, place) => joined > 0 ? [] : [place]));
+    for (let event = 1; event <= trace.events; event++) if (![LOCAL, END].includes(trace.kinds[event])) found.delete(trace.taskOf[event]);
+    return found;
   }
 
   isOwn(event) {
