@@ -150,7 +150,7 @@ for thread in threads: thread.join()
     def assert_lost_update(self, command: list[str], lines: set[str]) -> None:
         """The two lines of another language race with those of a Python program, and nothing else does."""
         python = self.python("store", 'import itc_trace\nitc_trace.touch("stock row", across=True)\nitc_trace.touch("stock row", True, across=True)\n')
-        ran = self.run_system(store={"command": python}, seller={"command": command})
+        ran = self.run_system("--all", store={"command": python}, seller={"command": command})
         self.assertEqual(ran.returncode, Verdict.RACES, ran.stderr)
         told = {line.split(":  ")[0].split("/")[-1].split()[-1].removesuffix(":") for line in ran.stderr.splitlines() if " at " in line}
         self.assertEqual(told, {"store.py:2", "store.py:3", *lines})
