@@ -9,6 +9,7 @@ import tempfile
 from collections.abc import Callable, Iterable, Iterator
 from contextlib import AbstractContextManager
 from dataclasses import dataclass, field
+from functools import partial
 from typing import IO, Any
 
 from .across_parts import AcrossParts, Pairing
@@ -20,7 +21,8 @@ from ..record.collector import Collector, NoCollector
 from ..model.conflicts import MAKING
 from ..record.dividing import Border, Report
 from ..record.journal import (
-    BORDER, Begun, Children, ChildTold, Count, DeadlockTold, End, ProcessTold, Row, SignalTold, SourceText, read_line,
+    BORDER, Aside, Asides, Begun, Children, ChildTold, Count, DeadlockTold, End, ProcessTold, Row, SignalTold, SiteTold,
+    SourceText, read_line,
 )
 from .kept_sources import sources_of
 from ..model.lock_identity import ANSWER, REQUEST
@@ -262,6 +264,9 @@ class _Divided:
     def __init__(self, journal: str, folder: str) -> None:
         self._folder = folder
         self._borders: dict[int, Border] = {}
+        self._asides = Asides()
+        self._things_aside: set[str] = set()
+        self._lines_aside: IO[str] | None = None
         self.unseen: list[Unseen] = []
         self.passed_over: list[PassedOver] = []
         self.signals: set[str] = set()
@@ -278,6 +283,11 @@ class _Divided:
                 count.add(read)
                 if isinstance(read, Row):
                     files.add(read.part, line)
+                    self._asides.add(read)
+                elif isinstance(read, Aside):
+                    self._keep_aside(read)
+                elif isinstance(read, SiteTold):
+                    self._asides.add_site(read)
                 elif isinstance(read, Unseen):
                     self.unseen.append(read)
                 elif isinstance(read, SourceText):
@@ -296,8 +306,32 @@ class _Divided:
                     self.signals.add(read.lock)
                 elif not isinstance(read, End):
                     self.unseen.append(Unseen(Cause.JOURNAL, f"line {number} of the journal is none"))
+        self._take_asides()
         self.unseen += children.unseen()
         self.unseen += count.missing(self.unseen)
+
+    def _keep_aside(self, aside: Aside) -> None:
+        """What is put aside is looked at once all things are known that the other rows tell of."""
+        if self._lines_aside is None:
+            self._lines_aside = open(os.path.join(self._folder, "asides"), "w+", encoding="utf-8")
+        self._lines_aside.write(aside.line)
+        self._things_aside.add(aside.thing)
+
+    def _take_asides(self) -> None:
+        if self._lines_aside is None:
+            return
+        with self._lines_aside as lines, contextlib.closing(_Files(self.file)) as files:
+            handlers: tuple[Callable[[Aside], object], ...] = self._asides.look_at, partial(self._add_rows, files)
+            for handle in handlers:
+                lines.seek(0)
+                for line in lines:
+                    aside = read_line(line)
+                    if isinstance(aside, Aside):
+                        handle(aside)
+
+    def _add_rows(self, files: _Files, aside: Aside) -> None:
+        for text, row in self._asides.rows(aside):
+            files.add(row.part, text)
 
     def file(self, part: int) -> str:
         return os.path.join(self._folder, f"part-{part}")
@@ -305,7 +339,8 @@ class _Divided:
     def rows(self, part: int) -> list[Row]:
         try:
             with open(self.file(part), encoding="utf-8") as lines:
-                return [row for line in lines if isinstance(row := read_line(line), Row)]
+                rows = (row for line in lines if isinstance(row := read_line(line), Row))
+                return [row for row in rows if not self._asides.is_private(row.thing, self._things_aside)]
         except FileNotFoundError:
             return []  # It has no event.
 

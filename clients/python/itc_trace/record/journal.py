@@ -13,7 +13,7 @@ from ..model.conflicts import CHANGING
 from .dividing import Border
 from ..model.file_names import name_of_file
 from ..model.frames import line_of
-from ..model.lines import Acquisition, Touch
+from ..model.lines import Acquisition, Touch, TouchEvent
 from ..model.lock_identity import Asking, LockOrAsking
 from ..model.stretches import SITES, Across
 from ..model.verdict import BREAKS_OFF, Cause, PassedOver, Unseen
@@ -21,7 +21,7 @@ from ..model.verdict import BREAKS_OFF, Cause, PassedOver, Unseen
 text_of: Callable[[str], str] = vars(json.encoder)["encode_basestring_ascii"]
 """A text as JSON has it."""
 MOST_NAMED = 4096
-"""So many texts of named things are kept, not to make each anew."""
+"""So many texts of things and of locks are kept, not to make each anew."""
 
 
 class Row(NamedTuple):
@@ -111,6 +111,8 @@ def read_journal(lines: Iterable[str]) -> Iterator[Row]:
 def read_whole(lines: Iterable[str]) -> Journal:
     """A journal, with a word of it if it breaks off. A last line that was cut off is passed over."""
     rows: list[Row] = []
+    asides: list[Aside] = []
+    known = Asides()
     unseen: list[Unseen] = []
     passed_over: list[PassedOver] = []
     signals: set[str] = set()
@@ -130,6 +132,10 @@ def read_whole(lines: Iterable[str]) -> Journal:
             sources.append(read)
         elif isinstance(read, ProcessTold):
             processes.append(read)
+        elif isinstance(read, Aside):
+            asides.append(read)
+        elif isinstance(read, SiteTold):
+            known.add_site(read)
         elif isinstance(read, Unseen):
             unseen.append(read)
         elif isinstance(read, PassedOver):
@@ -148,12 +154,98 @@ def read_whole(lines: Iterable[str]) -> Journal:
             raise NoJournal("its first line is none of a journal")
         else:
             unseen.append(Unseen(Cause.JOURNAL, f"line {number} of the journal is none"))
+    rows = _with_asides(rows, asides, known)
     unseen += children.unseen()
     missing = count.missing(unseen)
     return Journal(
         rows, [*unseen, *missing], missing, passed_over, frozenset(signals), tuple(sources), tuple(processes),
         tuple(deadlocks),
     )
+
+
+def _with_asides(rows: list[Row], asides: list[Aside], known: Asides) -> list[Row]:
+    if not asides:
+        return rows
+    for row in rows:
+        known.add(row)
+    for aside in asides:
+        known.look_at(aside)
+    things = {aside.thing for aside in asides}
+    kept = [row for row in rows if not known.is_private(row.thing, things)]
+    return [*kept, *(row for aside in asides for _, row in known.rows(aside))]
+
+
+class SiteTold(NamedTuple):
+    """A place that rows which are put aside name by its number."""
+
+    number: str
+    file: str
+    line: int
+    function: str
+
+
+class Aside(NamedTuple):
+    """The rows of a thing that one task alone had touched. They count if another task's rows tell of the thing."""
+
+    thing: str
+    line: str
+
+    def rows(self, sites: dict[str, SiteTold]) -> Iterator[tuple[str, Row]]:
+        """The rows, and each as a line of a journal by itself."""
+        read = json.loads(self.line)
+        names = {key: read[key] for key in ("name", "group", "made")}
+        for event, part, task, kind, number, held, loop, turn in read["rows"]:
+            if number not in sites:
+                continue  # The journal lacks a line, and its end says so.
+            _, file, line, function = sites[number]
+            row = Row(
+                event, task, self.thing, kind, file, line, f"{kind} {names['name']}", **names, function=function,
+                held=tuple(held), loop=loop, turn=turn, part=part,
+            )
+            yield f"{json.dumps(row._asdict())}\n", row
+
+
+def aside_of(read: dict[str, Any], line: str) -> Aside:
+    """The line of a thing that is put aside, which is looked at as a whole: it may be damaged."""
+    if not all(isinstance(read[key], str) for key in ("aside", "name", "group", "made")):
+        raise TypeError("a thing has a number and names")
+    for event, part, task, kind, site, held, loop, turn in read["rows"]:
+        if not all(isinstance(one, int) for one in (event, part, loop, turn)):
+            raise TypeError("an event has a number")
+        if not all(isinstance(one, str) for one in (task, kind, site, *held)):
+            raise TypeError("a task has a name")
+    return Aside(read["aside"], line)
+
+
+class Asides:
+    """What is told of things that are put aside, and which of them other tasks have touched, too."""
+
+    def __init__(self) -> None:
+        self._sites: dict[str, SiteTold] = {}
+        self._task_of: dict[str, str | None] = {}
+        """Who has touched each thing of the other rows. None if several tasks have."""
+
+    def add_site(self, site: SiteTold) -> None:
+        self._sites[site.number] = site
+
+    def add(self, row: Row) -> None:
+        if row.thing is not None and self._task_of.setdefault(row.thing, row.task) != row.task:
+            self._task_of[row.thing] = None
+
+    def look_at(self, aside: Aside) -> None:
+        """Each has to be looked at before the first is asked for."""
+        if aside.thing in self._task_of:
+            for _, row in aside.rows(self._sites):
+                self.add(row)
+
+    def rows(self, aside: Aside) -> Iterator[tuple[str, Row]]:
+        """Its rows, if they count."""
+        is_shared = self._task_of.get(aside.thing, "") is None
+        return aside.rows(self._sites) if is_shared else iter(())
+
+    def is_private(self, thing: str | None, aside: set[str]) -> bool:
+        """Whether one task alone has touched the thing, some touches of which were put aside."""
+        return thing in aside and self._task_of[thing] is not None if thing is not None else False
 
 
 class End(NamedTuple):
@@ -271,6 +363,8 @@ def read_line(line: str) -> Read | None:
     """What a line of a journal says. None if it is no such line."""
     try:
         read = json.loads(line)
+        if "aside" in read:
+            return aside_of(read, line)
         if "event" in read:
             return _row_of(read)
         if "border" in read:
@@ -279,6 +373,8 @@ def read_line(line: str) -> Read | None:
             return ChildTold(
                 str(read["child"]), str(read["begun"]) if "begun" in read else None, int(read.get("lines", 0)),
             )
+        if "site" in read:
+            return SiteTold(str(read["site"]), str(read["file"]), int(read["line"]), str(read["function"]))
         if "unseen" in read:
             return Unseen(Cause(read["unseen"]), str(read["text"]))
         if "passed_over" in read:
@@ -325,7 +421,10 @@ class Begun(NamedTuple):
     border: Border
 
 
-Read = SourceText | Row | Unseen | PassedOver | ChildTold | DeadlockTold | SignalTold | ProcessTold | Begun | End
+Read = (
+    Row | Aside | SiteTold | Unseen | PassedOver | SourceText | ChildTold | DeadlockTold | SignalTold | ProcessTold
+    | Begun | End
+)
 """What a line of a journal says."""
 
 
@@ -363,6 +462,7 @@ class TouchTexts:
         """Of things that the program has named."""
         self._things: dict[int, str] = {}
         self._sites: dict[int, str] = {}
+        self._told_sites: set[int] = set()
         self._locks: dict[int, str] = {}
 
     def text(self, touch: Touch) -> str:
@@ -418,15 +518,36 @@ class TouchTexts:
         if text is None:
             number = f"{self._prefix}{lock.serial}" if isinstance(lock, Asking) or not lock.across else lock.across
             text = self._locks[lock.serial] = json.dumps(f"#{number} {lock.name}")
+            if len(self._locks) >= MOST_NAMED:
+                self._locks.clear()
+            text = self._locks[lock.serial] = json.dumps(f"#{self._prefix}{lock.serial} {lock.name}")
         return text
+
+    def name_of(self, thing: Any) -> str:
+        """What tells the thing from all others, as JSON."""
+        return f'"#{self._prefix}{thing.number}"'
 
     def _thing(self, thing: Any) -> str:
         text = self._things.get(thing.number)
         if text is None:
-            number = json.dumps(f"#{self._prefix}{thing.number}")
-            names = f'"name":{json.dumps(thing.name)},"group":{json.dumps(thing.group)},"made":{json.dumps(thing.made)}'
-            text = self._things[thing.number] = f'"thing":{number},{names}'
+            names = f'"name":{text_of(thing.name)},"group":{text_of(thing.group)},"made":{text_of(thing.made)}'
+            if len(self._things) >= MOST_NAMED:
+                self._things.clear()
+            text = self._things[thing.number] = f'"thing":{self.name_of(thing)},{names}'
         return text
+
+    def aside(self, thing: Any, waiting: list[tuple[TouchEvent, Touch]]) -> str:
+        """The line of a thing that is put aside, behind those of sites that were not told yet."""
+        rows, sites = [], []
+        for event, (_, kind, site, held, loop, turn, _) in waiting:
+            if site not in self._told_sites:
+                self._told_sites.add(site)
+                sites.append(f'{{"site":"{self._prefix}{site}",{self._site(site)}}}\n')
+            locks = ",".join([self.lock(one) for one in held])
+            told = f'{event.event},{event.part},"{event.task}","{kind}","{self._prefix}{site}"'
+            rows.append(f"[{told},[{locks}],{loop},{turn}]")
+        names = f'"name":{text_of(thing.name)},"group":{text_of(thing.group)},"made":{text_of(thing.made)}'
+        return f'{"".join(sites)}{{"aside":{self.name_of(thing)},{names},"rows":[{",".join(rows)}]}}\n'
 
     def _site(self, site: int) -> str:
         text = self._sites.get(site)

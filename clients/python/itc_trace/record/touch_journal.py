@@ -105,6 +105,7 @@ class TouchJournal:
             if gone and all(event.event for event in unwritten):
                 self.rows.forget(gone)
                 self._things_gone = []
+            rows.append(self.rows.put_aside())
             if self.rows.jobs.has_new_suspicion():
                 rows.append(MANY_JOBS.row())
             if any(rows):

@@ -10,6 +10,10 @@ from ..model.lines import Acquisition, Touch, TouchEvent
 from .many_jobs import ManyJobs
 
 MOST_PRIVATE = 10000
+MOST_KEPT = 4096
+"""So many things are known. Then the rows of those that were not touched for long are put aside, in the journal."""
+BITS = 1 << 22
+ODD = 0x9E3779B97F4A7C15
 
 
 def part_text(part: int) -> str:
@@ -38,13 +42,37 @@ class _Alone:
         self.is_changed = False
 
 
+class _Numbers:
+    """A set of numbers, of which some that were never added may seem to be in it, too. So it never grows."""
+
+    def __init__(self) -> None:
+        self._bits: bytearray | None = None
+
+    def add(self, number: int) -> None:
+        if self._bits is None:
+            self._bits = bytearray(BITS // 8)
+        for place in self._places(number):
+            self._bits[place >> 3] |= 1 << (place & 7)
+
+    def may_have(self, number: int) -> bool:
+        bits = self._bits
+        return bits is not None and all(bits[place >> 3] >> (place & 7) & 1 for place in self._places(number))
+
+    @staticmethod
+    def _places(number: int) -> tuple[int, int]:
+        mixed = (number ^ number >> 48) * ODD
+        return mixed >> 32 & BITS - 1, mixed >> 10 & BITS - 1
+
+
 class TouchRows:
     """Makes the rows of touch events, each touch once."""
 
     def __init__(self, texts: TouchTexts) -> None:
         self._texts = texts
         self._alone: dict[int, _Alone | None] = {}
-        """Of each thing that was seen by its number, and None of those that are listed."""
+        """Of each thing that was seen lately by its number, and None of those that are listed."""
+        self._put_aside = _Numbers()
+        """Those that were seen before. A further touch of theirs is listed."""
         self._swept = 0
         self.jobs = ManyJobs()
 
@@ -72,10 +100,14 @@ class TouchRows:
         number = touch.thing.number
         alone = self._alone.get(number)
         if alone is None:
-            if number in self._alone:
+            if number in self._alone or self._put_aside.may_have(number):
+                self._alone[number] = None
                 rows.append(self._row(event, touch))
                 return
-            alone = self._alone[number] = _Alone(touch.thing, event.task)
+            alone = _Alone(touch.thing, event.task)
+        else:
+            del self._alone[number]  # It comes to the end of those that are known.
+        self._alone[number] = alone
         alone.waiting.append((event, touch))
         alone.has_other_task = alone.has_other_task or event.task != alone.task
         alone.is_changed = alone.is_changed or touch.kind in CHANGING
@@ -91,6 +123,21 @@ class TouchRows:
         time = "" if event.has_row else time_text(event.time)
         event.has_row = True
         return f'{{"event":{event.event},{part_text(event.part)}{time}"task":"{event.task}",'
+
+    def put_aside(self) -> str:
+        """Forgets the things that nobody has touched for the longest time, if too many are known.
+
+        Whoever reads the journal passes over the rows that are put aside, but of things that others' rows tell of.
+        """
+        if len(self._alone) <= MOST_KEPT:
+            return ""
+        rows: list[str] = []
+        for number in list(self._alone)[: len(self._alone) - MOST_KEPT // 2]:
+            alone = self._alone.pop(number)
+            self._put_aside.add(number)
+            if alone is not None:
+                rows.append(self._texts.aside(alone.thing, alone.waiting))
+        return "".join(rows)
 
     def keep_last(self) -> None:
         """At the end of a part: of what one task alone has touched at one place, the last touch stands for all."""

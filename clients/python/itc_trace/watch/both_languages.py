@@ -13,7 +13,7 @@ LOOKED_THROUGH = 2
 LOOKED_THROUGH_AT_ONCE = 64
 SHORTENED_AT = 64
 """So many more stretches have touched an owner when it is tried to keep them in short."""
-MOST_MADE = 500_000
+MOST_MADE = 50_000
 MOST_BEGUN = 10_000
 
 

@@ -108,8 +108,9 @@ def hook_before_attribute(one: Any, site: int) -> Any:
         seen = owner.seen
         if site in seen and seen.stretch is stretch_of(get_ident()):
             return one
-        if site in owner.recipes:
-            again(owner, site, owner.recipes[site])
+        touches = owner.recipes.get(site)
+        if touches is not None:
+            again(owner, site, touches)
             return one
     if id(type(one)) not in SKIPPED[site]:
         try:
@@ -125,8 +126,9 @@ def hook_before_attribute_local(one: Any, site: int) -> Any:
         seen = owner.seen
         if site in seen and seen.stretch is stretch_of(get_ident()):
             return one
-        if site in owner.recipes:
-            again(owner, site, owner.recipes[site])
+        touches = owner.recipes.get(site)
+        if touches is not None:
+            again(owner, site, touches)
             return one
     elif getrefcount(one) <= OF_VARIABLE - 1:
         return one
@@ -820,8 +822,9 @@ def hook_before_element(one: Any, key: Any, site: int) -> Any:
         mark = site, key
         if mark in seen and seen.stretch is stretch_of(get_ident()):
             return one
-        if mark in owner.recipes and (type(one) is not dict or key in one):
-            again(owner, mark, owner.recipes[mark])
+        touches = owner.recipes.get(mark)
+        if touches is not None and (type(one) is not dict or key in one):
+            again(owner, mark, touches)
             return one
     try:
         _touch_keyed(one, key, site, OF_TEMPORARY)

@@ -25,6 +25,8 @@ from .things import OWNERS, Owner, element_of, field_of, shape_of
 
 Touches = dict[Any, Touched]
 
+MOST_RECIPES = 1024
+"""So many touches of an owner are kept ready to be noted once more."""
 READ_ONLY = "r"
 ADDED, FOUND = "added", "found"
 """What `setdefault` does to a key.
@@ -168,6 +170,8 @@ def note_shared(owner: Owner, stretch: Stretch, mark: Any, late: Late, is_repeat
     if touches is None:
         touches = _worked_out(owner, mark, late, told, _line_of(stretch))
         if is_repeated:
+            if len(owner.recipes) >= MOST_RECIPES:
+                owner.recipes.clear()
             owner.recipes[mark] = touches
     if told:
         stretch.update(told)

@@ -12,6 +12,7 @@ import weakref
 from builtins import id, len, min, next, repr, type
 from collections import deque
 from collections.abc import Callable
+from hashlib import blake2b
 from sys import getrefcount
 from types import CodeType, FunctionType
 from typing import TYPE_CHECKING, Any, NamedTuple
@@ -30,6 +31,13 @@ from .seen import NEVER
 
 FIRST_NUMBER_OF_OWNERS = 1 << 32
 """The keys of touches are numbers: that of the owner, which is a multiple of this, and that of the place."""
+FIRST_NUMBER_OF_KEYS = 1 << 96
+"""From here on are the numbers of elements that follow from their keys. No two of them are the same but by a chance of
+one in 2 ** 96 for each pair.
+"""
+DIGEST_BYTES = 12
+MOST_THINGS = 2048
+"""So many things of an owner are known. Then its elements are forgotten."""
 LONGEST_KEY = 30
 
 
@@ -336,10 +344,48 @@ def mark_of(key: Any, value: Any) -> tuple[Any, Any]:
 
 
 def element_of(owner: Owner, mark: Any, key: Any, told: dict[Any, Touched], line: Line | None) -> Element:
-    element: Element = owner.things.get(mark) or _added(
-        owner, mark, Element(next(_numbers), owner, key), told, line,
-    )
+    element: Element | None = owner.things.get(mark)
+    if element is None:
+        if len(owner.things) >= MOST_THINGS:
+            _forget_elements(owner)
+        number = number_of(owner.base, mark) or next(_numbers)
+        element = _added(owner, mark, Element(number, owner, key), told, line)
     return element
+
+
+def _forget_elements(owner: Owner) -> None:
+    """Forgets the elements of which the keys tell the numbers. One that is touched once more has the same number."""
+    for mark, thing in list(owner.things.items()):
+        if type(thing) is Element and thing.number >= FIRST_NUMBER_OF_KEYS:
+            owner.things.pop(mark, None)
+
+
+def number_of(base: int, mark: Any) -> int | None:
+    """The number of the element of an owner, by the key alone. None if equal keys of its kind may have other texts."""
+    text = _text_of(mark)
+    if text is None:
+        return None
+    digest = blake2b(f"{base} {text}".encode("utf-8", "surrogatepass"), digest_size=DIGEST_BYTES).digest()
+    return FIRST_NUMBER_OF_KEYS + int.from_bytes(digest, "big")
+
+
+def _text_of(key: Any) -> str | None:
+    """A text that is the same for equal keys, and another one for all others."""
+    kind = type(key)
+    if kind is str:
+        return f"s{key}"
+    if kind is int or kind is bool:
+        return f"i{int(key):x}"
+    if kind is float:
+        return f"i{int(key):x}" if key.is_integer() else f"f{key.hex()}" if key == key else None
+    if kind is bytes:
+        return f"b{key.hex()}"
+    if key is None:
+        return "n"
+    if kind is not tuple:
+        return None
+    texts = [_text_of(part) for part in key]
+    return "t" + "".join([f"{len(text)}:{text}" for text in texts if text is not None]) if None not in texts else None
 
 
 _variables: dict[tuple[str, str], Thing] = {}
