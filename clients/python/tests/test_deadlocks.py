@@ -8,8 +8,9 @@ from collections.abc import Callable
 
 from itc_trace import Races, Verdict
 from itc_trace.analyse.benign import Looking, Pattern
-from itc_trace.analyse.deadlocks import Deadlock
+from itc_trace.analyse.deadlocks import Deadlock, acquisitions_of, cycles
 from itc_trace.analyse.deadlocks_of_parts import ACROSS
+from itc_trace.record.journal import Row
 
 from . import deadlock_programs
 from .deadlock_programs import CLEAN, OF_SEVERAL, TOLD, Steps, two_locks
@@ -93,6 +94,18 @@ class Processes(ProgramCase):
     def test_processes_one_after_another_are_in_order(self) -> None:
         status, told = self.told("process.join()")
         self.assertEqual((status, told.count("deadlock")), (0, 0), told)
+
+
+class Readers(unittest.TestCase):
+    def test_a_cycle_of_readers_is_gone_through_once(self) -> None:
+        """Two patterns that hold locks for reading want each other's, and a third one wants the first of them."""
+        def row(task: str, held: str, wants: str, event: int) -> Row:
+            at = (("shop.go", event, "main"),)
+            return Row(event, task, None, "local", "shop.go", event, "", held=(held,), wants=wants, at=at, shared=(0,))
+
+        rows = [row("a", "#3 c", "#1 a", 1), row("b", "#1 a", "#2 b", 2), row("c", "#2 b", "#1 a", 3)]
+        found = list(cycles(acquisitions_of(rows)))
+        self.assertEqual([[one.wants for one in cycle] for cycle in found], [["#2", "#1"]])
 
 
 class Findings(TracedCase):

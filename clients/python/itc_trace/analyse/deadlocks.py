@@ -243,8 +243,9 @@ def cycles(patterns: Iterable[Pattern]) -> Iterator[tuple[Pattern, ...]]:
                     continue
                 if number == start and len(path) > 1:
                     yield tuple(left[one] for one in path)
-                elif number > start and not any(left[one].is_apart(left[number]) for one in path):
-                    paths.append((*path, number))
+                elif number > start and number not in path:
+                    if not any(left[one].is_apart(left[number]) for one in path):
+                        paths.append((*path, number))
 
 
 def _in_cycles(patterns: list[Pattern]) -> list[Pattern]:
