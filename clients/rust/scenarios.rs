@@ -112,9 +112,9 @@ fn table(is_raced: bool) {
     join(threads);
 }
 
-/// Workers of a scope each have a part of one vector.
+/// Workers of a scope each have a part of one array.
 fn parts(is_raced: bool) {
-    let mut cells = vec![0; 8];
+    let mut cells = [0; 8];
     thread::scope(|scope| {
         for (number, cell) in cells.iter_mut().enumerate() {
             scope.spawn(move || {
