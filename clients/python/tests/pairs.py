@@ -1813,7 +1813,7 @@ def _run_all(modules: list[ModuleType], step: str, faults: dict[str, str], done:
     done.append(step)
 
 
-def _races_of(chosen: list[Pair], lock: str, faults: dict[str, str]) -> tuple[set[str], Races]:
+def races_of(chosen: list[Pair], lock: str, faults: dict[str, str]) -> tuple[set[str], Races]:
     """The modules of which a race is told, if one thread does the first step of each, and then another one the second."""
     hooks.put(False)
     modules = [_load(pair, f"pair_{number}", lock) for number, pair in enumerate(chosen)]
@@ -1837,8 +1837,8 @@ def _races_of(chosen: list[Pair], lock: str, faults: dict[str, str]) -> tuple[se
 def told_of(chosen: list[Pair]) -> Told:
     """Runs pairs, all in this process."""
     faults: dict[str, str] = {}
-    plain, races = _races_of(chosen, "", faults)
-    locked, _ = _races_of(chosen, "lock", faults)
+    plain, races = races_of(chosen, "", faults)
+    locked, _ = races_of(chosen, "lock", faults)
     names = [(f"pair_{number}", f"{pair.group}: {pair.touch}") for number, pair in enumerate(chosen)]
     racing = {f"pair_{number}" for number, pair in enumerate(chosen) if pair.is_race}
     others = {f"pair_{number}" for number, pair in enumerate(chosen) if OTHER_TASK.search(pair.touch)}

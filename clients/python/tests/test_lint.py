@@ -37,6 +37,7 @@ OF_THE_LIBRARY = {
     "sync.threads": "_args _cond _count _flag _is_owned _lock _target _waiters",
     "sync.values": "_wrapper",
     "watch": "_get_code_from_file",
+    "watch.begun_loops": "_current_frames",
     "watch.inside": "_FIELD _field_type",
     "watch.late": "_at_fork_reinit",
     "watch.places": "_at_fork_reinit",

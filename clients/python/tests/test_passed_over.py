@@ -27,6 +27,49 @@ LATER = "from mmap import mmap\nimport ctypes\n\ndef work():\n    print(len(mmap
 SHADOWED = "def exec(text):\n    return text\ndef work():\n    print(exec('a'), evaluate())\nevaluate = int\n" + THREADS
 EXEC = PassedOver("exec", "shop.py:3")
 
+KEYS = """
+import enum
+class S(enum.Enum):
+    A = 1
+class E(str, enum.Enum):
+    A = "a"
+class N(int): pass
+class P(tuple): pass
+class O:
+    def seen(self): pass
+lock, table, o = __import__("threading").Lock(), {}, O()
+def work():
+    with lock:
+        for key in ((S.A, "x"), E.A, N(5), P((1,)), o, work, O, (work, O, o, len), o.seen, [].append, S, frozenset((o,))):
+            table[key] = 1
+            table.pop(key)
+"""
+SAME_KEYS = """
+import enum, threading
+class E(str, enum.Enum):
+    A = "a"
+class T(str): pass
+class V:
+    def seen(self): pass
+v = V()
+table = {"a": 1, v.seen: 2, (E.A, 1): 3, "t": 3}
+def first():
+    table[E.A], table[v.seen], table["a", 1], table[T("t")] = 1, 2, 3, 4
+def second():
+    table["a"], table[v.seen], table[E.A, 1], table["t"] = 1, 2, 3, 4
+threads = [threading.Thread(target=one) for one in (first, second)]
+for thread in threads: thread.start()
+for thread in threads: thread.join()
+"""
+OWN_KEYS = """
+class K:
+    def __eq__(self, other): return True
+    def __hash__(self): return 3
+table = {}
+def work():
+    table[K(), 2] = 1
+"""
+
 
 class PassedOverCase(ProgramCase):
     def test_a_text_that_is_executed_is_named_in_the_last_line(self) -> None:
@@ -59,6 +102,28 @@ class PassedOverCase(ProgramCase):
             ran = run_traced(self.program(text.replace("USE", use) + THREADS))
             self.assertEqual(ran.returncode, Verdict.RACES, ran.stderr)
             self.assertEqual("not looked into: __dict__ at program.py:6" in ran.stderr, is_told, ran.stderr)
+
+    def test_keys_that_the_language_compares_by_itself_need_no_name(self) -> None:
+        ran = run_traced(self.program(KEYS + THREADS))
+        self.assertEqual(ran.returncode, Verdict.NO_RACE, ran.stderr)
+        self.assertNotIn("not looked into", ran.stderr)
+
+    def test_equal_keys_of_other_kinds_are_one_key(self) -> None:
+        for form in ("", "1"):
+            ran = run_traced(self.program(SAME_KEYS), ITC_TRACE_PURE=form)
+            self.assertIn("itc_trace: 4 races in this run: ", ran.stderr)
+
+    def test_the_member_of_a_key_that_cannot_be_compared_is_named(self) -> None:
+        ran = run_traced(self.program(OWN_KEYS + THREADS))
+        self.assertIn("; not looked into: keys of type K in a tuple at program.py:", ran.stderr)
+
+    def test_tasks_that_the_package_does_not_know_of_are_named_beside_one_task_too(self) -> None:
+        text = "try:\n    import IMPORTED\nexcept ImportError:\n    pass\n"
+        for imported, is_told in (("greenlet", True), ("twisted.internet.defer", True), ("tornado.gen", True), ("json", False)):
+            ran = run_traced(self.program(text.replace("IMPORTED", imported)))
+            self.assertEqual("not looked into: tasks of " in ran.stderr, is_told, ran.stderr)
+        ran = run_traced(self.program("import ctypes\nctypes.CFUNCTYPE(ctypes.c_int)\n"))
+        self.assertIn("not looked into: tasks of CFUNCTYPE at program.py:2", ran.stderr)
 
 
 class Rows(unittest.TestCase):

@@ -164,8 +164,13 @@ def unwatched(is_child: bool = False) -> list[Unseen]:
 
 
 def not_looked_into() -> list[PassedOver]:
-    """What no hook looks into, if there has been a second task that hooks were there for."""
-    return [] if _finder is None or not hooks.are_put() else list(passed_over.found)
+    """What no hook looks into, if there has been a second task that hooks were there for.
+
+    Tasks that the package does not know of may have been there without.
+    """
+    if _finder is None:
+        return []
+    return [one for one in passed_over.found if hooks.are_put() or one.what.startswith(passed_over.TASKS_OF)]
 
 
 def program_of(command: str | Sequence[str], folder: str) -> str | None:

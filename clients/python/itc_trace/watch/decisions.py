@@ -7,6 +7,7 @@ own means.
 from __future__ import annotations
 
 import _csv
+import decimal
 import functools
 import io
 import itertools
@@ -24,6 +25,7 @@ from typing import Any
 
 from .helper import quick
 from .kinds import DICT, REFERRED, TYPES, WITH_ONE_INSIDE
+from .learned import OF_CLASSES, STORED_FIELDS
 from .places import DELETED, SKIPPED, Access
 
 SKIP, FIELD, OWN_FIELD, OF_CLASS, OF_TYPE, OF_MODULE, AS_KEY, OF_METHOD, OF_SUPER = range(9)
@@ -373,13 +375,15 @@ def _decide(kind: type, name: str, kinds: str) -> int:
     owner = class_with(kind, name)
     if _finds_keys(kind, kinds, owner is None):
         return AS_KEY
+    if owner is not None and _is_plain_field(owner, name):
+        return FIELD
     if _has(kind, "__getattribute__"):
         return OWN_FIELD
     if owner is not None:
-        return _decide_of_class(kind, _vars_of(owner)[name], kinds)
+        return _decide_of_class(kind, owner, name, kinds)
     if _has(kind, "__getattr__") or "w" in kinds and _has(kind, "__setattr__"):
         return OWN_FIELD
-    return FIELD
+    return OF_CLASS if kinds == "r" and is_stored_in_class(name) and is_watched_class(kind) else FIELD
 
 
 def _finds_keys(kind: type, kinds: str, is_missing: bool) -> bool:
@@ -401,16 +405,35 @@ def _is_of_dictionary(kind: type, name: str, methods: tuple[str, ...]) -> bool:
     )
 
 
-def _decide_of_class(kind: type, value: Any, kinds: str) -> int:
+_WITH_PLAIN_FIELDS = ids_of((BaseException, types.FunctionType, decimal.Context))
+"""Types of the language whose own attributes are fields that a program may store."""
+
+
+def _is_plain_field(owner: type, name: str) -> bool:
+    return id(owner) in _WITH_PLAIN_FIELDS and type(_vars_of(owner)[name]) is types.GetSetDescriptorType
+
+
+def is_stored_in_class(name: str) -> bool:
+    """Whether a module stores such a name in a class, where it may come and go."""
+    return OF_CLASSES + name in STORED_FIELDS
+
+
+def _may_be_replaced(owner: type, name: str, kinds: str) -> bool:
+    """Whether a method or a property that is looked up may be another one by then: a module stores such a name."""
+    return kinds == "r" and name in STORED_FIELDS and id(owner) not in BARE and is_watched_class(owner)
+
+
+def _decide_of_class(kind: type, owner: type, name: str, kinds: str) -> int:
     """The class has something of that name: a descriptor is code or a slot,
     anything else a value that objects may hide."""
+    value = _vars_of(owner)[name]
     if type(value) is types.MemberDescriptorType:
         return FIELD
     if type(value) is functools.cached_property:
         return FIELD  # The value stands in the object's own field, which others may drop.
     if _has(type(value), "__get__"):
         is_hidden = kinds == "w" and not _has(type(value), "__set__")
-        return FIELD if is_hidden else SKIP
+        return FIELD if is_hidden else OF_CLASS if _may_be_replaced(owner, name, kinds) else SKIP
     if "w" in kinds and _has(kind, "__setattr__"):
         return OWN_FIELD
     return OF_CLASS

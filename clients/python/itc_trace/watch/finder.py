@@ -80,7 +80,8 @@ class Selection:
     def has_import(self, name: str) -> bool:
         """Whether what is imported by this dotted name may be of a module that is watched."""
         first = name.partition(".")[0]
-        if self.has_package(name) or any(one.partition(".")[0] == first for one in self.packages):
+        is_main = first == "__main__"
+        if is_main or self.has_package(name) or any(one.partition(".")[0] == first for one in self.packages):
             return True
         return any(
             os.path.isfile(os.path.join(folder, first + ".py")) or os.path.isdir(os.path.join(folder, first))

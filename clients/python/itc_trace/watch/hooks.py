@@ -8,12 +8,16 @@ from __future__ import annotations
 
 import builtins
 import gc
+import importlib.util
 import itertools
+import logging
 import os
 import sys
 import types
 from array import array
-from builtins import any, enumerate, getattr, id, issubclass, iter, len, list, map, next, setattr, type, zip
+from builtins import (
+    BaseException, any, enumerate, getattr, id, issubclass, iter, len, list, map, next, setattr, type, zip,
+)
 from _thread import get_ident
 from collections import defaultdict, deque
 from collections.abc import Callable, Iterable, Iterator
@@ -27,6 +31,7 @@ from ..sync.handed_on import HANDED, Calling, is_of_container
 from ..model.lines import state
 from ..record.noting import begin_stretch, lost, touched_all
 from ..model.stretches import STRETCHES
+from . import begun_loops
 from .both_languages import (
     DEEP, IF_OWN, LEFT, LOOKED_THROUGH_AT_ONCE, MOST_BEGUN, NO_TOUCH, OF_DICT, OF_FIELD, OF_LIST, OF_SHAPE, OF_STEPS,
     OTHER, OWN_OR_OF_CLASS,
@@ -35,15 +40,18 @@ from .decisions import (
     AS_KEY, BY_ELEMENTS, COMPOSED, FIELD, FILES, OF_CLASS, OF_METHOD, OF_MODULE, OF_SUPER, OF_TYPE, OWN_FIELD, PLAIN,
     SKIP, STEPPED, VIEWS, WATCHED, class_with, decision, family_of, field_inside, fields_of, has_own_method, has_setter,
     has_watched_method, ids_of,
-    is_bound_by_code, is_watched_class, mro_of, name_of, value_of_element, value_of_field, vars_of, without_own,
+    is_bound_by_code, is_made, is_of, is_watched_class, mro_of, name_of, value_of_element, value_of_field, vars_of,
+    without_own,
 )
 from .as_fields import FIELDS_OF, keep_fields_of, object_of
 from .helper import quick
 from .inside import OWN_STEPS, behind, fields_looked_at, inside_of, is_by_own_method, nested_in
+from .learned import STORED_FIELDS
 from .keys import SIMPLE, UNKNOWN, tell_of_unknown, value_of
 from .kinds import DEEP as DEEP_SITES
 from .kinds import (
-    BUFFER, BY_FIELDS, COMPARED, DEPTHS_OF_METHODS, DEQUE, DICT, IN_PLACE_METHODS, KEYED, LIST, OF_FILE, OF_GENERATOR,
+    BUFFER, BY_FIELDS, COMPARED, DECLARED, DEPTHS_OF_METHODS, DEQUE, DICT, IN_PLACE_METHODS, KEYED, LIST, OF_FILE,
+    OF_GENERATOR,
     ORDERED, SHOWN, TRUTH, VARIABLES, WHOLE, WRITTEN,
 )
 from .late import ADDED, FOUND, LOOKING, NOTHING, READ_ONLY, again, by_kinds, note_shared, saw, share, shorten
@@ -54,12 +62,13 @@ from .late import key as key_late
 from .late import named_field as field_late
 from .late import shape as shape_late
 from .matching import Matching, Touching
-from .places import ACCESSES, CASES, MADE_HERE, OF_BASE, SKIPPED, Access
+from .passed_over import handed_on, keep_site
+from .places import ACCESSES, CASES, LOOPS, MADE_HERE, OF_BASE, SKIPPED, STATE_OF_PROCESS, Access
 from .rewrite import OF_OBJECT, ON, PREFIX
 from .seen import NEVER
 from .templates import Path, field_paths
 from .things import (
-    MADE, OWNERS, Made, Owner, let_go_of_some, made_by, made_here, maker_now, mark_of, owner_of, variable_of,
+    MADE, NO_MODULE, OWNERS, Made, Owner, let_go_of_some, made_by, made_here, maker_now, mark_of, owner_of, variable_of,
 )
 
 INDEXED: tuple[Any, ...] = (list, bytearray, array, deque)
@@ -96,6 +105,7 @@ OF_VARIABLE_IN_USE = OF_VARIABLE + 1
 BEGUN: dict[tuple[int, int], int] = {}
 """How many references there were of an object when a constructor of it began."""
 CONSTRUCTOR = "__init__"
+WRITTEN_FIELD = "w"
 
 
 # Fields
@@ -254,6 +264,8 @@ def _touch_module(one: Any, name: str, kinds: str, mark: Any, site: int) -> None
 def _touch_type(one: Any, name: str, kinds: str, mark: Any, site: int) -> None:
     """A class, or the one of its bases where it finds what it has not itself, or its metaclass."""
     holder = class_with(one, name) if kinds == READ_ONLY else one
+    if holder is not one:
+        _touch_classes_before(one, holder, name, mark, site)
     if holder is None:
         holder = class_with(type(one), name)
         if holder is None or is_bound_by_code(vars_of(holder)[name]):
@@ -261,8 +273,18 @@ def _touch_type(one: Any, name: str, kinds: str, mark: Any, site: int) -> None:
     if kinds == "rw" and name not in vars_of(one):
         _touch_default(class_with(one, name), name, site)
     saw(owner_of(holder, ""), mark, (field_late, mark, name_of(holder), name, kinds, site))
-    if holder is not one:
+    if holder is not one and not is_watched_class(one):
         saw(owner_of(one, ""), mark, NOTHING)
+
+
+def _touch_classes_before(one: Any, holder: Any, name: str, mark: Any, site: int) -> None:
+    """The classes that are looked at before the one that has the attribute, if the program stores such a name."""
+    if name in STORED_FIELDS:
+        for base in mro_of(one):
+            if base is holder:
+                return
+            if is_watched_class(base):
+                saw(owner_of(base, ""), mark, (field_late, mark, name_of(base), name, READ_ONLY, site))
 
 
 def _touch_default(holder: Any, name: str, site: int) -> None:
@@ -286,11 +308,14 @@ _first_of_super: Any = vars(super)["__thisclass__"].__get__
 
 
 def _touch_through_object(one: Any, name: str, mark: Any, site: int) -> None:
-    """The object is looked at first, and has none of its own."""
+    """The object is looked at first, and has none of its own. So are the classes before the one that has it."""
     kind = type(one)
     holder = class_with(kind, name)
-    if holder is not None:
-        saw(owner_of(holder, ""), mark, (field_late, mark, name_of(holder), name, READ_ONLY, site))
+    for base in mro_of(kind):
+        if base is holder or is_watched_class(base):
+            saw(owner_of(base, ""), mark, (field_late, mark, name_of(base), name, READ_ONLY, site))
+        if base is holder:
+            break
     saw(owner_of(one, ""), mark, (field_late, mark, name_of(kind), name, READ_ONLY, site))
 
 
@@ -302,6 +327,72 @@ def _touch_in_place(value: Any, kind: str, site: int) -> None:
 
 
 hook_before_named_attribute_local = hook_before_named_attribute
+
+
+def hook_before_made_constructor(one: Any, site: int) -> Any:
+    """Before the constructor of an object is called by its name. One that `dataclass` made has no hooks itself."""
+    try:
+        if is_made(type(one), CONSTRUCTOR):
+            for name in fields_looked_at(one, DECLARED, False):
+                _touch_by_name(one, name, WRITTEN_FIELD, site)
+    except Exception as fault:
+        lost(fault)
+    return one
+
+
+hook_before_made_constructor_local = hook_before_made_constructor
+
+
+def hook_before_level(one: Any, site: int) -> Any:
+    """Before a method of a logger or a handler that changes its level, or looks at it."""
+    try:
+        if any([is_of(type(one), kind) for kind in (logging.Logger, logging.Handler)]):
+            access = ACCESSES[site]
+            _touch_by_name(one, access.name, access.kinds, site)
+        else:
+            _touch_method_of_object(one, ACCESSES[site], site)
+    except Exception as fault:
+        lost(fault)
+    return one
+
+
+hook_before_level_local = hook_before_level
+
+
+def hook_before_handed(value: Any, one: Any, site: int) -> Any:
+    """A method of a container that is handed to a method of an object. One of the library calls it without a word."""
+    try:
+        kind = type(one)
+        is_kept = family_of(kind) is not None or issubclass(kind, types.ModuleType) or is_watched_class(kind)
+        if type(value) in HANDED and is_of_container(value) and not is_kept and not _is_class_of_program(one):
+            keep_site(handed_on(ACCESSES[site].name), site)
+    except Exception as fault:
+        lost(fault)
+    return value
+
+
+def _is_class_of_program(one: Any) -> bool:
+    return issubclass(type(one), type) and is_watched_class(one)
+
+
+def hook_at_passed_over(site: int) -> None:
+    """Where something runs that no hook looks into, while there are several tasks."""
+    try:
+        keep_site(ACCESSES[site].name, site)
+    except Exception as fault:
+        lost(fault)
+
+
+def hook_after_import(name: str, names: tuple[str, ...], site: int) -> None:
+    """Behind an import of names that another module may store in the one that they are imported from."""
+    try:
+        whole = importlib.util.resolve_name(name, _getframe(1).f_globals.get("__package__"))
+        module = sys.modules.get(whole)
+        if module is not None:
+            for one in names:
+                _touch_field(module, site, Access("named", READ_ONLY, one, "", ""))
+    except Exception as fault:
+        lost(fault)
 
 
 # Variables and cells
@@ -319,7 +410,8 @@ def hook_at_variable(site: int) -> None:
 
 def _touch_variable(site: int) -> None:
     access = ACCESSES[site]
-    touched_all(by_kinds(site, variable_of(access.module, access.name, access.text), access.kinds, site))
+    module = NO_MODULE if access.what == STATE_OF_PROCESS else access.module
+    touched_all(by_kinds(site, variable_of(module, access.name, access.text), access.kinds, site))
 
 
 def hook_after_binding(value: Any, _: None) -> Any:
@@ -742,6 +834,15 @@ def _stepping_on(one: Any, site: int, is_reached: bool) -> Any:
     for inner in iterators:
         steps = _steps(steps, owner_of(inner, f"{text or name_of(kind)}[..]"), site, WRITE)
     return _steps(steps, owner_of(one, text), site, WRITE) if is_reached else steps
+
+
+def hook_at_step(steps: Any, site: int) -> None:
+    """At a step of a loop that began before hooks were there. One that began behind that has said so itself."""
+    try:
+        for container, view in behind(steps).containers:
+            _touch_by_view(container, view, KEYS, site)
+    except Exception as fault:
+        lost(fault)
 
 
 def hook_before_taking_apart(steps: Iterable[Any], paths: tuple[tuple[int, ...], ...], site: int) -> Iterable[Any]:
@@ -1289,7 +1390,9 @@ def _what_of_whole(kind: type, family: int | None, access: Access, site: int) ->
         if not _goes_on_by(kind, access):
             return NOT_TOUCHED
         return LEFT_TO_PYTHON if field_inside(kind) else (OTHER, None, "", "")
-    is_looked_into = is_watched_class(kind) or kind is types.SimpleNamespace or issubclass(kind, (tuple, frozenset))
+    is_looked_into = is_watched_class(kind) or kind is types.SimpleNamespace or issubclass(
+        kind, (tuple, frozenset, BaseException)
+    )
     return LEFT_TO_PYTHON if field_inside(kind) or _depth_of(access) and is_looked_into else NOT_TOUCHED
 
 
@@ -1373,6 +1476,7 @@ QUIET: dict[str, Callable[..., Any]] = {
     **dict.fromkeys(HOOKS, _first),
     **dict.fromkeys(("before_key", "before_key_local", "before_kept_key", "after_call", "before_named_call"), _second),
     **dict.fromkeys(("at_variable", "at_cell", "after_letting_go"), _nothing),
+    **dict.fromkeys(("after_import", "at_passed_over", "at_step"), _nothing),
 }
 
 
@@ -1397,6 +1501,7 @@ def put(is_on: bool) -> None:
     """Puts the hooks where every module finds them: those that note, or those that do nothing."""
     for name, one in (HOOKS if is_on else QUIET).items():
         setattr(builtins, PREFIX + name, one)
+    begun_loops.put(begun_loops.begun() if is_on else frozenset())
     setattr(builtins, ON, is_on)
 
 
@@ -1406,7 +1511,7 @@ def put_for_the_end() -> None:
 
     What the program's finalizers run then has hooks, too. The copy is known by its names, as nothing refers to it.
     """
-    quiet: dict[str, Any] = {ON: False, **{PREFIX + name: one for name, one in AT_THE_END.items()}}
+    quiet: dict[str, Any] = {ON: False, LOOPS: frozenset(), **{PREFIX + name: one for name, one in AT_THE_END.items()}}
     for table in gc.get_objects():
         if type(table) is dict and BUILDS_CLASSES in table and table is not vars(builtins):
             table.update(quiet)

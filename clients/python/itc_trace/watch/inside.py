@@ -7,8 +7,8 @@ import csv
 import io
 import weakref
 from builtins import (
-    any, bool, bytes, dict, enumerate, float, frozenset, getattr, id, int, issubclass, len, list, min, next, range, set,
-    str, tuple, type,
+    BaseException, any, bool, bytes, dict, enumerate, float, frozenset, getattr, id, int, issubclass, len, list, min,
+    next, range, set, str, tuple, type,
 )
 from collections import deque
 from collections.abc import Iterator
@@ -24,7 +24,8 @@ from .decisions import (
     ids_of, is_made, is_watched_class, mro_of, name_of, value_of_field, vars_of,
 )
 from .kinds import (
-    COMPARED, CONTENT, DECLARED, MAPS, OF_ELEMENTS, ORDERED, REFERRED, SHOWN, STATE, WRITER, WRITTEN, WRITTEN_TO,
+    COMPARED, CONTENT, DECLARED, HASHED, MAPS, OF_ELEMENTS, ORDERED, REFERRED, SHOWN, STATE, WRITER, WRITTEN,
+    WRITTEN_TO,
 )
 
 READING = frozenset(("", "r", "c", "get", "keys", "values", "items", "copy", "__getitem__", "__contains__"))
@@ -128,6 +129,7 @@ _TEXT_METHODS = ("__str__", "__format__")
 
 _OWN_METHODS = {
     SHOWN: ("__repr__",), WRITTEN: ("__repr__",), COMPARED: ("__eq__",), ORDERED: ("__eq__", "__lt__"),
+    HASHED: ("__hash__",),
     STATE: _STATE_METHODS,
 }
 """The methods by which what is inside of something else is looked at.
@@ -192,7 +194,7 @@ def _elements_of(one: Any) -> list[Any]:
 
 _MADE_FOR = {
     SHOWN: ("__repr__", "repr"), WRITTEN: ("__repr__", "repr"), COMPARED: ("__eq__", "compare"),
-    ORDERED: ("__lt__", "compare"),
+    ORDERED: ("__lt__", "compare"), HASHED: ("__hash__", "compare"),
 }
 """The method that `dataclass` makes for such a look, and what it asks each field for."""
 
@@ -206,6 +208,8 @@ def fields_looked_at(one: Any, depth: str, is_inside: bool) -> list[str]:
     kind = type(one)
     if kind is SimpleNamespace and depth != CONTENT:
         return [name for name in list(fields_of(one)) if type(name) is str]
+    if depth in (SHOWN, WRITTEN) and issubclass(kind, BaseException):
+        return ["args"]
     if depth == CONTENT or not is_watched_class(kind):
         return []
     fields = _declared_fields(kind)

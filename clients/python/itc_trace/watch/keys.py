@@ -3,18 +3,20 @@ as far as no code of the program has to say so."""
 
 from __future__ import annotations
 
-import os
 import sys
-from builtins import all, frozenset, id, len, map, str, tuple, type, vars, zip
+from builtins import (
+    all, any, bytes, float, frozenset, id, int, len, list, map, object, slice, str, tuple, type, vars, zip,
+)
+from collections.abc import Callable
+from enum import Enum
+from types import BuiltinMethodType, MethodType, ModuleType
 from typing import Any
 
-from ..model.stretches import SITES
-from ..model.verdict import PassedOver
 from . import passed_over
 from .decisions import class_with, ids_of, is_made, is_of, name_of, value_of_field, vars_of
 
 SIMPLE = ids_of((str, int, bytes, float, bool, type(None)))
-MOST_PARTS = 8
+MOST_PARTS = 32
 LIBRARY = {
     "datetime": ("date", "datetime", "time", "timedelta", "timezone"), "decimal": ("Decimal",),
     "fractions": ("Fraction",), "uuid": ("UUID",),
@@ -23,6 +25,21 @@ LIBRARY = {
 }
 """Types of the library whose values are compared by code of the library alone."""
 ZONED = ("datetime", "time")
+
+
+OBJECT = "object"
+"""Stands before the identity of a key that is equal to itself alone."""
+BY_IDENTITY_OF: dict[str, tuple[Any, ...]] = {"__eq__": (object, type), "__hash__": (object, type, Enum)}
+"""The classes whose method compares by identity, or goes with one that does so: `Enum` hashes a member's name."""
+PLAIN_VALUES: tuple[tuple[type, Callable[[Any], Any]], ...] = (
+    (str, str.__str__), (int, int.__int__), (float, float.__float__),
+    (bytes, lambda key: bytes.__getitem__(key, slice(None))),
+    (tuple, lambda key: tuple.__getitem__(key, slice(None))), (frozenset, frozenset.copy),
+)
+"""Types of the library, and what gives the value of a key of a class below without any code of that class."""
+
+
+FIELDS = "__dataclass_fields__"
 
 
 class Unknown:
@@ -37,14 +54,45 @@ def value_of(key: Any) -> Any:
     kind = type(key)
     if id(kind) in SIMPLE or _is_of_library(key, kind):
         return key
+    if kind is MethodType or kind is BuiltinMethodType:
+        return _value_of_method(key)
+    if _is_by_identity(kind):
+        return OBJECT, id(key)
+    plain = _plain_value(key, kind)
+    if plain is not UNKNOWN:
+        return plain
     if kind is frozenset or kind is tuple or _is_named_tuple(kind):
         values = _parts(key, frozenset if kind is frozenset else tuple)
         is_itself = kind is tuple and values is not UNKNOWN and all([one is value for one, value in zip(key, values)])
         return key if is_itself else values
     if is_made(kind, "__eq__") and is_made(kind, "__hash__"):
-        fields = vars_of(class_with(kind, "__dataclass_fields__"))["__dataclass_fields__"]
+        fields = vars_of(class_with(kind, FIELDS))[FIELDS]
         values = _parts([value_of_field(key, name) for name in fields], tuple)
         return values if values is UNKNOWN else (id(kind), values)
+    return UNKNOWN
+
+
+def _value_of_method(key: Any) -> Any:
+    """Two bound methods are equal if they are one function of one object, and functions of modules are themselves."""
+    if type(key) is MethodType:
+        return OBJECT, id(key.__self__), id(key.__func__)
+    return (OBJECT, id(key)) if type(key.__self__) is ModuleType else (OBJECT, id(key.__self__), key.__name__)
+
+
+def _is_by_identity(kind: type) -> bool:
+    """Whether a key is equal to itself alone: the type, or each of its bases, has no method for it.
+
+    So it is of functions, modules, classes, members of an `Enum`, and most objects.
+    """
+    return all([any([class_with(kind, name) is one for one in kinds]) for name, kinds in BY_IDENTITY_OF.items()])
+
+
+def _plain_value(key: Any, kind: type) -> Any:
+    """The text, number or tuple that a key of a class below one of these is equal to, by no code of the program."""
+    for base, plain in PLAIN_VALUES:
+        if is_of(kind, base):
+            is_plain = all([class_with(kind, name) is base for name in ("__eq__", "__hash__")])
+            return value_of(plain(key)) if is_plain and kind is not base else UNKNOWN
     return UNKNOWN
 
 
@@ -75,8 +123,23 @@ def tell_of_unknown(key: Any, site: int) -> None:
 
     The last line says so.
     """
-    kind = type(key)
-    owner = class_with(kind, "__eq__")
-    if owner is not object and owner is not None and not is_of(kind, type):
-        at = SITES[site]
-        passed_over.found[PassedOver(f"keys of type {name_of(kind)}", f"{os.path.basename(at.file)}:{at.line}")] = None
+    member = _unknown_in(key)
+    within = "" if member is key else f" in a {name_of(type(key))}"
+    passed_over.keep_site(f"keys of type {name_of(type(member))}{within}", site)
+
+
+def _unknown_in(key: Any) -> Any:
+    """The member of a key that only code of the program can compare, which may be the key itself."""
+    for one in _members_of(key, type(key)):
+        if value_of(one) is UNKNOWN:
+            return _unknown_in(one)
+    return key
+
+
+def _members_of(key: Any, kind: type) -> list[Any]:
+    if is_of(kind, frozenset):
+        return list(frozenset.__iter__(key))
+    if is_of(kind, tuple):
+        return list(tuple.__iter__(key))
+    owner = class_with(kind, FIELDS) if is_made(kind, "__eq__") else None
+    return [] if owner is None else [value_of_field(key, name) for name in vars_of(owner)[FIELDS]]

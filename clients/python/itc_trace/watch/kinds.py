@@ -53,13 +53,13 @@ A writer of rows has what it writes to.
 
 # How deep something is looked at
 
-SHOWN, WRITTEN, COMPARED, ORDERED = "shown", "written", "compared", "ordered"
+SHOWN, WRITTEN, COMPARED, ORDERED, HASHED = "shown", "written", "compared", "ordered", "hashed"
 DECLARED, STATE, FIELDS, EACH, TRUTH, CONTENT = "declared", "state", "fields", "each", "truth", "content"
 """How deep a function looks at what it is given: at all that its text has, or its text for a programmer, at what is
 compared for being equal or greater, at all fields that its class declares, at all of its state, at its own fields, at
 each element, at whether each has elements, or at all that containers have inside, and at no field of an object."""
 OF_ELEMENTS = frozenset((EACH, TRUTH))
-BY_FIELDS = frozenset((SHOWN, WRITTEN, COMPARED, ORDERED, DECLARED, STATE, FIELDS))
+BY_FIELDS = frozenset((SHOWN, WRITTEN, COMPARED, ORDERED, HASHED, DECLARED, STATE, FIELDS))
 DEEP = (BY_FIELDS - {FIELDS}) | OF_ELEMENTS | {CONTENT}
 
 # What methods do
@@ -186,6 +186,7 @@ _FUNCTIONS = (
     Functions(BUILTINS, "dict bytes bytearray", ITERATION),
     Functions(BUILTINS, "str format print", ITERATION, SHOWN),
     Functions(BUILTINS, "repr ascii", ITERATION, WRITTEN),
+    Functions(BUILTINS, "hash", ITERATION, HASHED),
     Functions(BUILTINS, "list tuple set frozenset sorted sum min max any all next iter reversed", KEYS),
     Functions(BUILTINS, "enumerate zip map filter", KEYS, argument=STEPS),
     Functions("array", "array", ITERATION),

@@ -15,6 +15,8 @@ A module that imports is looked at before what it imports.
 STORED_FIELDS: set[str] = set()
 """Names of fields that some module stores: what is called by such a name may be anything,
 and is no method of a class mostly."""
+OF_CLASSES = "of classes: "
+"""Stands before a name that is stored in what is surely a class: its objects find it there, or no more."""
 
 AccessRow = tuple[str, str, str, str, Any]
 """What is touched at a place, how, by which name and text, and what else is known."""
@@ -56,6 +58,8 @@ class Found(NamedTuple):
     """How the program calls a container, one of whose methods is an argument of a call, by line and method."""
     passed_over: list[tuple[str, int]]
     """What no hook looks into, and its line."""
+    loops: list[tuple[int, int, int]]
+    """Of each loop the number of its place, and its first and its last line."""
     fields: set[str]
     """The names that the module adds to the fields that modules store."""
     elsewhere: set[str]
@@ -76,11 +80,12 @@ class Learned:
         self.passed_over: list[tuple[str, int]] = []
         self.fields: set[str] = set()
         self.elsewhere: set[str] = set()
+        self.loops: list[tuple[int, int, int]] = []
 
     def found(self) -> Found:
         return Found(
             self.first, self.lines, self.functions, self.accesses, self.cases, self.handed, self.passed_over,
-            self.fields, self.elsewhere,
+            self.loops, self.fields, self.elsewhere,
         )
 
     # What is asked

@@ -28,6 +28,7 @@ LOOKED_FOR = "KEPT in hook(one, HERE)"
 GIVEN_FIRST = "function(KEPT, hook(HERE))"
 CALLED = "keep(KEPT, {0}({1}))"
 METHOD, BEHIND_HOOK, WITH_OWNER = "{0}.method", "hook({0}.method)", "hook({0}, one.method)"
+OF_LOOP = "for one in KEPT:\n if not (loops and site in loops and hook(HERE)): pass"
 OF_OWNER = "hook(KEPT, HERE.method)"
 
 _COPY, _LOAD, _MORE = (dis.opmap.get(name) for name in ("COPY", "LOAD_CONST", "EXTENDED_ARG"))
@@ -50,9 +51,9 @@ def depth(form: str) -> int:
     raise ValueError(form)
 
 
-def copy(form: str, node: ast.AST) -> ast.expr:
-    """What stands for the value, at the place of a node."""
-    return ast.copy_location(ast.Constant((MARK, depth(form))), node)
+def copy(form: str, node: ast.AST, further: int = 0) -> ast.expr:
+    """What stands for the value, at the place of a node. So many further values may lie on it than the form says."""
+    return ast.copy_location(ast.Constant((MARK, depth(form) + further)), node)
 
 
 def wanted(node: ast.AST) -> ast.expr:

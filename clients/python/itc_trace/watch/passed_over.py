@@ -6,6 +6,7 @@ import ast
 import os
 from collections.abc import Callable
 
+from ..model.stretches import SITES
 from ..model.verdict import PassedOver
 from .learned import Learned
 
@@ -16,41 +17,119 @@ _CHANGING = frozenset(
 )
 _CALLERS = frozenset("enter enterabs add_signal_handler add_reader add_writer".split())
 """Methods of the library that call what they are given, and are not followed."""
-_FOLLOWED = (
-    "threading.", "concurrent.futures.", "asyncio.", "multiprocessing.", "functools.", "itertools.", "operator.",
-    "contextlib.",
+_FOLLOWED = ("concurrent.futures.", "asyncio.", "multiprocessing.", "itertools.", "operator.")
+_FOLLOWED_ALONE = frozenset((
+    "weakref.finalize", "atexit.register", "_thread.start_new_thread", "threading.Thread", "threading.Timer",
+    "functools.partial", "functools.reduce",
+))
+_WRAPPING = frozenset(("staticmethod", "classmethod", "property"))
+"""Functions of the language that make an attribute of what they are given, which whoever finds it may call."""
+FOLLOWED_METHODS = frozenset(
+    "submit map apply_async map_async starmap_async add_done_callback remove_done_callback call_soon call_later "
+    "call_at call_soon_threadsafe run_in_executor callback push append appendleft add put put_nowait insert setdefault update "
+    "discard remove get pop".split()
 )
-_FOLLOWED_ALONE = frozenset(("weakref.finalize", "atexit.register", "_thread.start_new_thread"))
+"""Methods that call what they are given and say so, or only keep it."""
+REPLACING = ("unittest.mock.patch", "mock.patch", "importlib.reload")
+"""Functions that replace what others use. While there is one task nobody else does."""
 _MODULES = frozenset(("ctypes", "numpy", "pandas", "multiprocessing.shared_memory"))
+_WITH_TASKS = frozenset("greenlet gevent eventlet twisted trio anyio curio stackless cffi".split())
+"""Libraries with tasks of their own, or with threads that no code of Python starts."""
+_MODULES_WITH_TASKS = frozenset(("tornado.gen", "tornado.concurrent", "asyncore", "asynchat"))
+_STARTING = frozenset("CFUNCTYPE PYFUNCTYPE WINFUNCTYPE".split())
+"""Functions of `ctypes` by which code in C calls the program, perhaps in a thread of its own."""
+
+TASKS_OF = "tasks of "
+"""Stands before what has tasks of its own. There may be several where the package knows of one."""
 
 found: dict[PassedOver, None] = {}
 """What was found in the modules that were rewritten, in their order."""
 
 
-def look_at_call(node: ast.Call, learned: Learned, is_builtin: Callable[[str], bool], name: str | None) -> None:
+def look_at_call(
+    node: ast.Call, learned: Learned, is_builtin: Callable[[str], bool], name: str | None, is_in_function: bool,
+) -> None:
     """Keeps a call of what is not looked into. The name is the dotted one of what is imported."""
+    if is_in_function and isinstance(node.func, ast.Name) and node.func.id in _STORING and is_builtin(node.func.id):
+        _look_at_stored(node, learned)
+    called = node.func.attr if isinstance(node.func, ast.Attribute) else getattr(node.func, "id", "")
+    if called in _STARTING:
+        learned.passed_over.append((f"{TASKS_OF}{called}", node.lineno))
     if isinstance(node.func, ast.Name) and node.func.id in BUILT_IN and is_builtin(node.func.id):
         learned.passed_over.append((node.func.id, node.lineno))
     elif name in _FUNCTIONS:
         learned.passed_over.append((str(name).rpartition(".")[2], node.lineno))
 
 
+_STORING = frozenset(("setattr", "delattr"))
+
+
+def _look_at_stored(node: ast.Call, learned: Learned) -> None:
+    """Keeps what is stored by its name, and is looked at by the interpreter itself."""
+    name = node.args[1] if len(node.args) > 1 else None
+    stored = name.value if isinstance(name, ast.Constant) else None
+    if type(stored) is str and (_is_special(stored) or stored == "__dict__"):
+        learned.passed_over.append((stored, node.lineno))
+
+
 def look_at_handed(node: ast.Call, learned: Learned, is_foreign: Callable[[ast.expr], bool], name: str | None) -> None:
     """Keeps a method that changes a container,
     and that is handed to a function of the library which is not followed."""
     is_method = isinstance(node.func, ast.Attribute) and node.func.attr in _CALLERS
+    is_wrapping = isinstance(node.func, ast.Name) and node.func.id in _WRAPPING and is_foreign(node.func)
     is_followed = name is not None and (name.startswith(_FOLLOWED) or name in _FOLLOWED_ALONE)
-    if is_followed or not is_method and (name is None or not is_foreign(node.func)):
+    if is_followed or not (is_method or is_wrapping) and (name is None or not is_foreign(node.func)):
         return
     for one in (*node.args, *(keyword.value for keyword in node.keywords if keyword.arg != "key")):
-        if isinstance(one, ast.Attribute) and one.attr in _CHANGING:
-            learned.passed_over.append((f"{one.attr} as it is handed on", one.lineno))
+        if is_changing(one):
+            learned.passed_over.append((handed_on(one.attr), one.lineno))  # type: ignore[attr-defined]
 
 
-def look_at_attribute(node: ast.Attribute, learned: Learned) -> None:
-    """Keeps where an object is given another dictionary of its fields, which it may share with others."""
-    if node.attr == "__dict__" and not isinstance(node.ctx, ast.Load):
-        learned.passed_over.append((node.attr, node.lineno))
+def is_changing(node: ast.expr) -> bool:
+    """Whether it may be a method that changes a container."""
+    return isinstance(node, ast.Attribute) and node.attr in _CHANGING
+
+
+def handed_on(method: str) -> str:
+    return f"{method} as it is handed on"
+
+
+def is_replacing(name: str | None) -> bool:
+    """Whether a function of this name replaces what others use."""
+    return name is not None and any(name == one or name.startswith(one + ".") for one in REPLACING)
+
+
+STORED_AS_FIELDS = frozenset(
+    "__name__ __qualname__ __doc__ __module__ __annotations__ __notes__ __traceback__ __cause__ __context__ "
+    "__wrapped__ __suppress_context__ __signature__ __text_signature__ __file__ __all__ __version__ __author__ __path__".split()
+)
+"""Attributes of the language that are fields like any other."""
+_BY_CODE = frozenset((
+    "__class__", "__bases__", "__code__", "__defaults__", "__kwdefaults__", "__closure__", "__del__", "__match_args__",
+))
+"""Attributes that the interpreter looks at by itself."""
+_PAST_HOOKS = frozenset((
+    "cell_contents", "__globals__", "f_globals", "f_locals", "f_builtins", "__builtins__", "__set__", "__delete__",
+))
+"""Attributes by which variables and fields are reached past all hooks."""
+
+
+def _is_special(name: str) -> bool:
+    is_of_language = name.startswith("__") and name.endswith("__")
+    return name in _BY_CODE or is_of_language and name not in STORED_AS_FIELDS and name != "__dict__"
+
+
+def look_at_attribute(
+    node: ast.Attribute, learned: Learned, is_in_function: bool, is_of_base: bool, of: str | None,
+) -> None:
+    """Keeps where an object is given another dictionary of its fields, which it may share with others.
+
+    So it is with another method that the language calls by itself, and with what goes past all hooks.
+    """
+    is_stored, name = not isinstance(node.ctx, ast.Load), node.attr
+    is_replaced = is_in_function and (_is_special(name) or of == "builtins")
+    if is_stored and (name == "__dict__" or is_replaced) or name in _PAST_HOOKS and not is_of_base:
+        learned.passed_over.append((name, node.lineno))
 
 
 def look_at_import(node: ast.Import | ast.ImportFrom, learned: Learned) -> None:
@@ -59,10 +138,24 @@ def look_at_import(node: ast.Import | ast.ImportFrom, learned: Learned) -> None:
     for name in names:
         if name in _MODULES:
             learned.passed_over.append((name, node.lineno))
+    with_tasks = {one for one in map(_with_tasks, names) if one}
+    learned.passed_over.extend((f"{TASKS_OF}{one}", node.lineno) for one in sorted(with_tasks))
+
+
+def _with_tasks(name: str) -> str:
+    first = name.partition(".")[0]
+    whole = next((one for one in _MODULES_WITH_TASKS if name == one or name.startswith(one + ".")), "")
+    return first if first in _WITH_TASKS else whole
 
 
 def _parts(node: ast.ImportFrom) -> list[str]:
     return [f"{node.module}.{one.name}" for one in node.names]
+
+
+def keep_site(what: str, site: int) -> None:
+    """The same of what is found while the program runs."""
+    place = SITES[site]
+    keep(what, place.file, place.line)
 
 
 def keep(what: str, file: str, line: int) -> None:

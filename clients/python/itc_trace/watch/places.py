@@ -61,6 +61,14 @@ MADE_HERE = "made here"
 """Of a view or an iterator that nobody has kept: what it looks at was looked at where it was made."""
 OF_BASE = "of the base"
 """Of an attribute by its name that goes past the methods of its class, as `super().__setattr__(name, value)` does."""
+LOOPS = "_itc_loops"
+"""The name by which modules find the places of loops that began before there was a second task."""
+LOOPS_OF: dict[str, list[tuple[int, int, int]]] = {}
+"""Of each file its loops: the place of each, and its first and its last line."""
+OF_OTHERS = -1
+"""In place of that of a loop: something in C may go through what calls the program at each step."""
+STATE_OF_PROCESS = "state"
+"""Of a place that touches what the library keeps once for all threads."""
 DELETED = "deleted"
 """Of a field that is deleted."""
 CASES: dict[int, list[Any]] = {}

@@ -7,8 +7,9 @@ from types import CodeType
 from typing import Any
 
 from . import passed_over
+from .decisions import forget_decisions
 from .learned import STORED_ELSEWHERE, STORED_FIELDS, Found
-from .places import CASES, NAMES_OF_HANDED, new_sites
+from .places import CASES, LOOPS_OF, NAMES_OF_HANDED, OF_OTHERS, new_sites
 
 
 def placed(code: CodeType, found: Found, file: str, module: str) -> CodeType:
@@ -21,7 +22,10 @@ def placed(code: CodeType, found: Found, file: str, module: str) -> CodeType:
         NAMES_OF_HANDED[file, line, name] = text
     for what, line in found.passed_over:
         passed_over.keep(what, file, line)
-    STORED_FIELDS.update(found.fields)
+    LOOPS_OF[file] = [(site + shift if site != OF_OTHERS else site, first, last) for site, first, last in found.loops]
+    if not found.fields <= STORED_FIELDS:
+        STORED_FIELDS.update(found.fields)
+        forget_decisions()
     STORED_ELSEWHERE.update(found.elsewhere)
     return _moved(code, marks.start, marks.stop, shift)
 

@@ -22,12 +22,17 @@ from .kinds import (
 from .patterns import Patterns
 from .learned import Learned
 from .nodes import as_statement, at, call_of, compiled, copied, name_at, new_node, place_of
-from .places import DELETED, MADE_HERE, OF_BASE
+from .places import DELETED, LOOPS, MADE_HERE, OF_BASE, OF_OTHERS, STATE_OF_PROCESS
 from .placing import placed
-from .scopes import CLASS, COMPREHENSION, DELEGATING, FUNCTION, LATE, MODULE, SCOPED, Scope, Scopes, fields_of
+from .process_state import CHANGED_STATE, LEVEL, LEVELS, PRINTED, touched_by
+from .scopes import (
+    CLASS, COMPREHENSION, DELEGATING, FUNCTION, LATE, MODULE, OF_EXCEPTIONS, SCOPED, Scope, Scopes, fields_of,
+)
 from .templates import field_paths
 
 PREFIX = "_itc_"
+READ = "r"
+CONSTRUCTOR = "__init__"
 ON = PREFIX + "on"
 
 WHOLE_OBJECTS = frozenset(("vars", "__dict__", "asdict"))
@@ -170,6 +175,8 @@ class Rewriter:
         self._patterns = Patterns(
             self._learned, self._site, self._text, lambda name: self._scope.owner(name).kind == MODULE,
         )
+        self._iterated_by_loops: set[tuple[int, int]] = set()
+        """Where stands what loops of the program itself go through."""
 
     def module(self, tree: ast.Module) -> ast.Module:
         tree.body = self._statements(tree.body)
@@ -408,7 +415,15 @@ class Rewriter:
             return [node]  # No other statement may stand before the next one of these.
         return [node, *self._stored([one.asname or one.name.partition(".")[0] for one in node.names], node)]
 
-    _do_ImportFrom = _do_Import
+    def _do_ImportFrom(self, node: ast.ImportFrom) -> list[ast.stmt]:
+        """What a name is imported from is looked at, as its variable is."""
+        made = self._do_Import(node)
+        names = tuple([one.name for one in node.names if self._learned.is_stored_elsewhere(one.name)])
+        whole = "." * node.level + (node.module or "")
+        if not names or not (node.level or self._learned.is_watched(whole)):
+            return made
+        hook = self._hook("after_import", node, whole, names, self._site(node, "field", READ))
+        return [*made, *self._only_on([ast.copy_location(ast.Expr(hook), node)], node)]
 
     def _simple_Assign(self, node: ast.Assign) -> ast.stmt:
         pairs = _pairs_of(node)
@@ -616,11 +631,45 @@ class Rewriter:
 
     _do_While = _do_If
 
+    def _asked_if_begun(self, node: Any, place: Any, whole: Any) -> Callable[[int], ast.expr] | None:
+        """Asks whether a loop began before there was a second task, and if so notes a step of it.
+
+        What it goes through is on the stack, below so many other values. None, if it goes through nothing that is
+        shared.
+        """
+        iterated = node.iter
+        self._iterated_by_loops.add((iterated.lineno, iterated.col_offset))
+        is_shared = isinstance(iterated, GIVEN) and not self._is_foreign_container(iterated)
+        if not is_shared or _function_of(iterated) == "range":
+            return None
+        site = self._site(iterated, "whole", KEYS, "", self._text(self._gone_through_by(iterated)))
+        self._learned.loops.append((site, whole.lineno, whole.end_lineno or whole.lineno))
+        loops = name_at(place, LOOPS)
+        is_one = at(place, ast.Compare(at(place, ast.Constant(site)), [ast.In()], [loops]))
+
+        def asked(further: int) -> ast.expr:
+            step = self._hook("at_step", place, on_stack.copy(on_stack.OF_LOOP, place, further), site)
+            return at(place, ast.BoolOp(ast.And(), [loops, is_one, step]))
+
+        return asked
+
+    def _gone_through_by(self, node: Any) -> Any:
+        """The container that a view of it, or one of the language's own iterators, goes through."""
+        if isinstance(node, ast.Call) and isinstance(node.func, ast.Attribute) and node.func.attr in VIEWS:
+            return node.func.value
+        is_iterator = _function_of(node) in ("enumerate", "zip", "iter", "reversed")
+        return node.args[0] if is_iterator and node.args else node
+
     def _do_For(self, node: Any) -> list[ast.stmt]:
         target = node.target
+        is_calling = isinstance(node, ast.For) and any(one.inside & LATE for one in node.body)
+        asked = self._asked_if_begun(node, node.body[-1], node) if is_calling else None
         node.iter = self._gone_through(node.iter, target) if isinstance(node, ast.For) else self._guarded(node.iter)
         node.target = self._visit_target(target)
-        return self._bind_and_go_on(node, [target])
+        made = self._bind_and_go_on(node, [target])
+        if asked is not None:
+            node.body = [*_before_continue(node.body, asked, 0), as_statement(asked(0), node.body[-1])]
+        return made
 
     _do_AsyncFor = _do_For
 
@@ -638,14 +687,22 @@ class Rewriter:
         self._is_guarding = before
         return made
 
+    def _state_of_context(self, item: ast.withitem) -> tuple[str, str] | None:
+        """What the library keeps for all threads, if this changes it for as long as the block lasts."""
+        one = item.context_expr
+        name = self._import_of(one.func) if isinstance(one, ast.Call) else None
+        return touched_by(name, len(one.args)) if name is not None and isinstance(one, ast.Call) else None
+
     def _do_With(self, node: Any) -> list[ast.stmt]:
+        states = [state for state in map(self._state_of_context, node.items) if state is not None]
         for item in node.items:
             item.context_expr = self._guarded(item.context_expr)
         binding = [item for item in node.items if item.optional_vars is not None]
         targets = [item.optional_vars for item in binding]
         for item in binding:
             item.optional_vars = self._visit_target(item.optional_vars)
-        return self._bind_and_go_on(node, targets)
+        left = [ast.copy_location(ast.Expr(self._state(node, thing, kinds)), node) for thing, kinds in states]
+        return [*self._bind_and_go_on(node, targets), *self._only_on([*left], node)]
 
     _do_AsyncWith = _do_With
 
@@ -739,13 +796,14 @@ class Rewriter:
         return at(node, ast.BoolOp(ast.Or(), [self._variable(node, name, kinds), node]))
 
     def _visit_Attribute(self, node: ast.Attribute) -> ast.expr:
-        passed_over.look_at_attribute(node, self._learned)
+        is_in_function, is_of_base = self._scope.kind == FUNCTION, _is_super(node.value)
+        passed_over.look_at_attribute(node, self._learned, is_in_function, is_of_base, self._import_of(node.value))
         if node.attr == "__dict__":
             if isinstance(node.ctx, ast.Load):
                 node.value = self._operand(node.value, "before_fields")
             else:
                 node.value = self._operand(node.value, "before_new_fields", self._site(node, "field", "w"))
-        elif node.attr.startswith("__") and node.attr.endswith("__") or self._is_never_changed(node):
+        elif self._is_of_language(node.attr) or self._is_never_changed(node):
             node.value = self._child(node.value)
         else:
             kinds = "r" if isinstance(node.ctx, ast.Load) else "w"
@@ -753,6 +811,12 @@ class Rewriter:
             site = self._site(node, "field", kinds, self._mangled(node.attr), words=words)
             node.value = self._operand(node.value, "before_attribute", site)
         return node
+
+    def _is_of_language(self, name: str) -> bool:
+        """Whether the language has an attribute of this name, and no module stores one."""
+        return name.startswith("__") and name.endswith("__") and not (
+            name in passed_over.STORED_AS_FIELDS and self._learned.is_field(name)
+        )
 
     def _is_never_changed(self, node: ast.Attribute) -> bool:
         """Whether it is an attribute of what is not watched, which no source of the program stores.
@@ -798,9 +862,18 @@ class Rewriter:
         return self._hook("before_kept_key", key, kept, self._child(key), site)
 
     def _visit_Call(self, node: ast.Call) -> ast.expr:
-        self._name_handed(node)
         name = self._import_of(node.func)
-        passed_over.look_at_call(node, self._learned, self._is_builtin, name)
+        state = self._state_of_call(node, name)
+        hook = None if state is None else self._state(node, *state)
+        if passed_over.is_replacing(name):
+            what = str(name).removeprefix("unittest.")
+            hook = self._hook("at_passed_over", node, self._site(node, "passed over", "", what))
+        made = self._call(node, name)
+        return made if hook is None else ast.copy_location(ast.BoolOp(ast.Or(), [hook, made]), node)
+
+    def _call(self, node: ast.Call, name: str | None) -> ast.expr:
+        self._name_handed(node)
+        passed_over.look_at_call(node, self._learned, self._is_builtin, name, self._scope.kind == FUNCTION)
         passed_over.look_at_handed(node, self._learned, self._is_foreign, name)
         made = None if name is None else self._call_imported(node, name)
         if made is not None:
@@ -840,6 +913,17 @@ class Rewriter:
             return node
         return None
 
+    def _state_of_call(self, node: ast.Call, name: str | None) -> tuple[str, str] | None:
+        """What the library keeps for all threads, if the call changes it, or looks at what the program changes."""
+        is_print = name is None and self._is_print(node) and all(one.arg != "file" for one in node.keywords)
+        words = len(node.args) + len(node.keywords)
+        state = (PRINTED, READ) if is_print else None if name is None else touched_by(name, words)
+        is_told = state is not None and (state[1] != READ or self._learned.is_field(CHANGED_STATE + state[0]))
+        return state if is_told else None
+
+    def _state(self, node: Any, thing: str, kinds: str) -> ast.Call:
+        return self._hook("at_variable", node, self._site(node, STATE_OF_PROCESS, kinds, thing))
+
     def _is_print(self, node: ast.Call) -> bool:
         return isinstance(node.func, ast.Name) and node.func.id == "print" and self._is_builtin("print")
 
@@ -878,6 +962,9 @@ class Rewriter:
             is_handed = isinstance(node, GIVEN)
         return self._operand(node, "before_call") if is_handed else self._child(node)
 
+    def _is_called_by_others(self, node: Any) -> bool:
+        return isinstance(node, ast.Name) and node.id in CALLED_BY_OTHERS and self._is_builtin(node.id)
+
     def _call_known(self, node: ast.Call, kinds: str, depth: str, name: str) -> ast.expr:
         """A function of the library that looks at its arguments, or changes the first one."""
         changed = CHANGED_ARGUMENT.get(name, 0)
@@ -912,7 +999,7 @@ class Rewriter:
         """A function that goes through what it is given as others go through what it gives. It may call some of it."""
         node.args = [*node.args]
         for place, one in enumerate(node.args):
-            if isinstance(one, ast.Attribute) and one.attr in METHODS:
+            if isinstance(one, ast.Attribute) and one.attr in METHODS or self._is_called_by_others(one):
                 node.args[place] = self._handed(one)
             elif isinstance(one, ast.Starred):
                 node.args[place] = self._starred(one, KEYS, EACH)
@@ -936,11 +1023,20 @@ class Rewriter:
             node.args = [self._operand(node.args[0], "before_fields")]
         elif name in READERS or name in STEPPERS:
             is_called = name in ("map", "filter") or name == "iter" and len(node.args) > 1
+            self._keep_loop_of_others(node, is_called)
             depth = TRUTH if name in ("any", "all") else EACH if name == "sum" and len(node.args) > 1 else ""
             called = [self._handed(one) for one in node.args[:is_called]]
             node.args = [*called, *(self._looked_at(one, name, depth) for one in node.args[is_called:])]
         else:
             node.args = [self._child(one) for one in node.args]
+
+    def _keep_loop_of_others(self, node: ast.Call, is_called: bool) -> None:
+        """Keeps where something in C may call the program at each step through a container, as `list(map(f, jobs))`."""
+        function: Any = node.args[0] if node.args else None
+        is_of_program = isinstance(function, (ast.Name, ast.Attribute, ast.Lambda)) and not self._is_foreign(function)
+        is_shared = any(isinstance(one, REACHED) and not self._is_foreign(one) for one in node.args[1:])
+        if is_called and is_shared and is_of_program and (node.lineno, node.col_offset) not in self._iterated_by_loops:
+            self._learned.loops.append((OF_OTHERS, node.lineno, node.end_lineno or node.lineno))
 
     def _attribute_by_name(self, node: ast.Call, kinds: str) -> None:
         """The object and the name of its attribute are the first two arguments.
@@ -985,6 +1081,15 @@ class Rewriter:
             self._call_of_base(node, func)
         elif name in METHODS and has_first and self._is_container_class(owner):
             node.args = self._given_first(node, name)
+        elif self._is_of_logger(name) and not self._is_foreign(owner):
+            func.value = self._operand(owner, "before_level", self._site(node, "field", LEVELS[name], LEVEL))
+            node.args = [self._argument(one, func, owner) for one in node.args]
+        elif name in OF_EXCEPTIONS:
+            func.value = self._operand(owner, "before_attribute", self._site(node, "field", "rw", OF_EXCEPTIONS[name]))
+            node.args = [self._child(one) for one in node.args]
+        elif name == CONSTRUCTOR and not self._is_foreign(owner) and not self._is_super_of_any(owner):
+            func.value = self._operand(owner, "before_made_constructor", self._site(node, "field", "w"))
+            node.args = [self._child(one) for one in node.args]
         elif name in OF_OBJECT and len(node.args) > WORDS_OF_OBJECT[name]:
             self._attribute_by_name(node, OF_OBJECT[name])
         elif name in OF_OBJECT and has_first:
@@ -1011,8 +1116,20 @@ class Rewriter:
             node.args = [self._argument(one, func, owner) for one in node.args]
         if name in METHODS and any(map(self._learned.is_field, DELEGATING)) and not self._is_foreign(owner):
             self._call_delegated(node, func)
-        node.keywords = [self._keyword(one) for one in node.keywords]
+        node.keywords = [self._keyword_of_method(one, func, owner) for one in node.keywords]
         return self._with_owner(node, func)
+
+    def _keyword_of_method(self, node: ast.keyword, func: ast.Attribute, owner: Any) -> ast.keyword:
+        if not passed_over.is_changing(node.value) or node.arg == "key":
+            return self._keyword(node)
+        node = copied(node)
+        node.value = self._argument(node.value, func, owner)
+        return node
+
+    def _is_of_logger(self, name: str) -> bool:
+        """Whether a method of this name changes the level of a logger, or looks at what some module changes."""
+        kinds = LEVELS.get(name)
+        return kinds is not None and (kinds != READ or self._learned.is_field(CHANGED_STATE + LEVEL))
 
     def _call_delegated(self, node: ast.Call, func: ast.Attribute) -> None:
         """A method that an object may have found at another one, by a method of its own for what it has not."""
@@ -1136,6 +1253,9 @@ class Rewriter:
         Some look at all of it, and a class of the program may have a method of such a name.
         """
         name = func.attr
+        if passed_over.is_changing(node) and name not in passed_over.FOLLOWED_METHODS and not self._is_foreign(owner):
+            me = owner if isinstance(owner, ast.Name) else self._owner_wanted(node)
+            return self._hook("before_handed", node, self._child(node), me, self._site(node, "handed", "", node.attr))
         kinds = CONSUMING.get(name)
         if kinds is None:
             return self._child(node)
@@ -1389,6 +1509,7 @@ class Rewriter:
 
     def _visit_comprehension_of(self, node: Any) -> ast.expr:
         node.generators = [*map(copied, node.generators)]
+        begun = [[*self._begun_in(node, part)] for part in node.generators]
         node.generators[0].iter = self._iterated(node.generators[0])
 
         def work() -> None:
@@ -1398,7 +1519,8 @@ class Rewriter:
                 target = part.target
                 if not isinstance(target, ast.Name):
                     part.target = self._visit_target(target)
-                part.ifs = [*self._bound_in(target), *(self._guarded(one, self._truth) for one in part.ifs)]
+                conditions = [self._guarded(one, self._truth) for one in part.ifs]
+                part.ifs = [*begun[place], *self._bound_in(target), *conditions]
             for name in ("elt", "key", "value"):
                 if hasattr(node, name):
                     setattr(node, name, self._guarded(getattr(node, name)))
@@ -1407,6 +1529,14 @@ class Rewriter:
         return node  # type: ignore[no-any-return]
 
     _visit_ListComp = _visit_SetComp = _visit_DictComp = _visit_GeneratorExp = _visit_comprehension_of
+
+    def _begun_in(self, node: Any, part: ast.comprehension) -> Iterator[ast.expr]:
+        """A condition that is always true, and asks whether this loop began before there was a second task."""
+        parts = [getattr(node, name) for name in ("elt", "key", "value") if hasattr(node, name)]
+        is_calling = any(one.inside & LATE for one in (*parts, *part.ifs)) and not part.is_async
+        asked = self._asked_if_begun(part, parts[0], node) if is_calling else None
+        if asked is not None:
+            yield at(parts[0], ast.UnaryOp(ast.Not(), asked(0)))
 
     def _bound_in(self, target: Any) -> Iterator[ast.expr]:
         """Conditions that note which variables a step of a comprehension has bound, and that are always true."""
@@ -1448,6 +1578,44 @@ _COMPOUND: dict[type, Callable[[Rewriter, Any], list[ast.stmt]]] = {
 """What is done to compound ones, and to imports."""
 _VISITS: dict[type, Callable[[Rewriter, Any], Any]] = {}
 """What is done to expressions, as far as it was asked for."""
+
+
+def _function_of(node: Any) -> str:
+    """The name of the function that is called, if it is a name."""
+    return node.func.id if isinstance(node, ast.Call) and isinstance(node.func, ast.Name) else ""
+
+
+_WITH = (ast.With, ast.AsyncWith)
+"""Statements that keep a value of each item on the stack as long as what is inside of them lasts.
+
+A handler so keeps one.
+"""
+_OWN_LOOPS = (ast.For, ast.AsyncFor, ast.While)
+_OWN_CODE = (ast.FunctionDef, ast.AsyncFunctionDef, ast.ClassDef)
+
+
+def _before_continue(body: list[Any], asked: Callable[[int], ast.expr], further: int) -> list[Any]:
+    """The body of a loop, with a statement before each that goes on with the loop."""
+    found: list[Any] = []
+    for one in body:
+        if isinstance(one, ast.Continue):
+            found.append(as_statement(asked(further), one))
+        elif isinstance(one, _OWN_LOOPS):
+            one.orelse = _before_continue(one.orelse, asked, further)
+        elif not isinstance(one, _OWN_CODE):
+            _before_continue_inside(one, asked, further + (len(one.items) if isinstance(one, _WITH) else 0))
+        found.append(one)
+    return found
+
+
+def _before_continue_inside(one: Any, asked: Callable[[int], ast.expr], further: int) -> None:
+    for part in ("body", "orelse"):
+        if isinstance(getattr(one, part, None), list):
+            setattr(one, part, _before_continue(getattr(one, part), asked, further))
+    for handler in one.handlers if isinstance(one, ast.Try) else ():
+        handler.body = _before_continue(handler.body, asked, further + 1)
+    for case in getattr(one, "cases", ()):
+        case.body = _before_continue(case.body, asked, further)
 
 
 def _taken_apart(target: Any, path: tuple[int, ...]) -> Iterator[tuple[int, ...]]:

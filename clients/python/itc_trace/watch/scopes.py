@@ -9,7 +9,8 @@ from collections.abc import Callable, Iterator
 from typing import Any
 
 from .kinds import METHODS
-from .learned import Learned
+from .learned import OF_CLASSES, Learned
+from .process_state import CHANGED_STATE, changed_by
 
 FUNCTIONS = (ast.FunctionDef, ast.AsyncFunctionDef, ast.Lambda)
 COMPREHENSIONS = (ast.ListComp, ast.SetComp, ast.DictComp, ast.GeneratorExp)
@@ -24,6 +25,10 @@ FIRST_BINDING, LATER_BINDING = 1, 2
 SCOPED, LATE = 1, 2
 """What an expression has inside: variables of its own or a slice,
 and what may take its time or run code of the program."""
+OF_EXCEPTIONS = {"add_note": "__notes__", "with_traceback": "__traceback__"}
+"""Methods of an exception, and the field that each changes."""
+STORING = frozenset(("setattr", "delattr"))
+"""Functions that store a field by its name."""
 SCOPED_KINDS = (*COMPREHENSIONS, ast.Lambda, ast.Slice)
 LATE_KINDS = (ast.Call, ast.Await, ast.Yield, ast.YieldFrom)
 WITHOUT_NODES = frozenset(
@@ -279,8 +284,10 @@ class Scopes:
 
     def _import(self, name: str, dotted: str) -> None:
         scope = self._scope.function
-        (self.module if name in scope.globals else scope).imported[name] = dotted
-        self._bind(name)
+        imported = (self.module if name in scope.globals else scope).imported
+        if imported.get(name) != dotted:  # To import the same once more, or a module within it, binds nothing else.
+            imported[name] = dotted
+            self._bind(name)
 
     def _visit_named(self, node: Any) -> int:
         """A handler or a pattern, which may bind a name."""
@@ -297,7 +304,7 @@ class Scopes:
 
     def _visit_Attribute(self, node: ast.Attribute) -> int:
         if type(node.ctx) is not ast.Load:
-            self.learned.add_field(node.attr)
+            self._note_stored(node.attr, node.value)
             whole: ast.expr = node.value
             while isinstance(whole, ast.Attribute):
                 whole = whole.value
@@ -307,10 +314,34 @@ class Scopes:
             self.module.is_open = True
         return self._walk(node.value)
 
+    def _note_stored(self, name: str, owner: ast.expr) -> None:
+        """A name that is stored in an object, and in what may be a class by how it is written."""
+        self.learned.add_field(name)
+        if isinstance(owner, ast.Name):
+            is_class = owner.id == "cls" or owner.id[:1].isupper() or owner.id in self._scope.owner(owner.id).defined
+        elif isinstance(owner, ast.Attribute):
+            is_class = owner.attr == "__class__" or owner.attr[:1].isupper()
+        else:
+            is_class = isinstance(owner, ast.Call) and isinstance(owner.func, ast.Name) and owner.func.id == "type"
+        if is_class:
+            self.learned.add_field(OF_CLASSES + name)
+
+    def _note_stored_by_name(self, node: ast.Call) -> None:
+        """The same of `setattr` and its like, if the name is written there."""
+        words = node.args[:2]
+        if len(words) > 1 and isinstance(words[1], ast.Constant) and type(words[1].value) is str:
+            self._note_stored(words[1].value, words[0])
+
     def _visit_Call(self, node: ast.Call) -> int:
         function = node.func
+        if isinstance(function, ast.Attribute) and function.attr in OF_EXCEPTIONS:
+            self.learned.add_field(OF_EXCEPTIONS[function.attr])
+        if isinstance(function, ast.Name) and function.id in STORING:
+            self._note_stored_by_name(node)
         if isinstance(function, (ast.Name, ast.Attribute)):
             self._note_call(function)
+            for thing in changed_by(function.id if isinstance(function, ast.Name) else function.attr):
+                self.learned.add_field(CHANGED_STATE + thing)
         if isinstance(function, ast.Name) and function.id == "globals":
             self.module.is_open = True
         for keyword in node.keywords:

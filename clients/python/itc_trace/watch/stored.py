@@ -17,6 +17,7 @@ from typing import NamedTuple
 from .kept import Kept
 from .kinds import METHODS
 from .learned import STORED_ELSEWHERE, STORED_FIELDS
+from .process_state import CHANGED_STATE, NAMES_OF_CHANGES, changed_by
 
 MOST_FILES = MOST_FOLDERS = 400
 MOST_BYTES = 1 << 20
@@ -164,13 +165,22 @@ def _text(name: bytes) -> str:
     return name.decode(errors="replace")
 
 
+_CHANGING_STATE = re.compile(rb"\b(" + "|".join(sorted(NAMES_OF_CHANGES)).encode() + rb")[ \t]*\(")
+
+
+def _changed_state(text: bytes) -> set[bytes]:
+    """What the library keeps for all threads, and a source may change."""
+    names = set(_CHANGING_STATE.findall(text))
+    return {(CHANGED_STATE + thing).encode() for name in names for thing in changed_by(_text(name))}
+
+
 def kept_by(text: bytes) -> set[str]:
     """The names of fields that may have methods of containers by this source."""
     return _kept(text, _FIELD.finditer(text))
 
 
 def _kept(text: bytes, stored: Iterable[re.Match[bytes]]) -> set[str]:
-    found = {*(one[1] for one in stored), *_DELEGATING.findall(text)}
+    found = {*(one[1] for one in stored), *_DELEGATING.findall(text), *_changed_state(text)}
     for given in _GIVEN.finditer(text):
         *methods, last = given[1].split(b".")[1:] or [b""]
         if last in _METHODS and given[2] is None or not _METHODS.isdisjoint(methods):

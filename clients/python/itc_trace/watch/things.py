@@ -388,12 +388,14 @@ def _text_of(key: Any) -> str | None:
     return "t" + "".join([f"{len(text)}:{text}" for text in texts if text is not None]) if None not in texts else None
 
 
+NO_MODULE = ""
+"""In place of the module of what the library keeps for all threads."""
 _variables: dict[tuple[str, str], Thing] = {}
 
 
 def variable_of(module: str, name: str, made: str = "") -> Thing:
     thing = _variables.get((module, name))
     if thing is None:
-        whole = name if module in ("__main__", "__mp_main__") else f"{module}.{name}"
+        whole = name if module in (NO_MODULE, "__main__", "__mp_main__") else f"{module}.{name}"
         thing = _variables.setdefault((module, name), Thing(next(_numbers), whole, made))
     return thing

@@ -1,0 +1,54 @@
+"""Loops that began before there was a second task, and that go on beside it: nobody has noted what they go through.
+
+A loop asks at the begin of its body whether it is one of these, by a set that is empty in most programs.
+"""
+
+from __future__ import annotations
+
+import builtins
+import gc
+import sys
+from collections.abc import Iterator
+from types import AsyncGeneratorType, CoroutineType, FrameType, GeneratorType
+
+from . import passed_over
+from .places import LOOPS, LOOPS_OF, OF_OTHERS
+
+SUSPENDED: dict[type, tuple[str, str]] = {
+    GeneratorType: ("gi_frame", "gi_running"), CoroutineType: ("cr_frame", "cr_running"),
+    AsyncGeneratorType: ("ag_frame", "ag_running"),
+}
+"""What may have been left in the middle of a loop, and the names of its frame."""
+HELD_BY_OTHERS = "a loop that began before the first thread"
+
+
+def begun() -> frozenset[int]:
+    """The places of loops that have begun, and are not at their end. What something in C goes through is named."""
+    sites: set[int] = set()
+    for frame in _frames():
+        file, at = frame.f_code.co_filename, frame.f_lineno
+        for site, first, last in LOOPS_OF.get(file, ()):
+            if at is not None and first <= at <= last:
+                if site == OF_OTHERS:
+                    passed_over.keep(HELD_BY_OTHERS, file, first)
+                else:
+                    sites.add(site)
+    return frozenset(sites)
+
+
+def put(sites: frozenset[int]) -> None:
+    setattr(builtins, LOOPS, sites)
+
+
+def _frames() -> Iterator[FrameType]:
+    """All frames that run or that wait to go on."""
+    for top in sys._current_frames().values():
+        frame: FrameType | None = top
+        while frame is not None:
+            yield frame
+            frame = frame.f_back
+    for one in gc.get_objects():
+        names = SUSPENDED.get(type(one))
+        waiting = None if names is None or getattr(one, names[1]) else getattr(one, names[0])
+        if waiting is not None and waiting.f_lasti >= 0:
+            yield waiting
