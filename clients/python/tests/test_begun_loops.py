@@ -28,7 +28,7 @@ def change(one):
         table[2] = 5
 def drop(one):
     if one == 1:
-        jobs.pop(), table.pop(3), rows.discard(3)
+        jobs.pop(), table.pop(3, None), rows.discard(3)
 """
 TAIL = """
 for thread in threads:

@@ -662,7 +662,8 @@ class Rewriter:
 
     def _do_For(self, node: Any) -> list[ast.stmt]:
         target = node.target
-        is_calling = isinstance(node, ast.For) and any(one.inside & LATE for one in node.body)
+        body: list[Any] = node.body
+        is_calling = isinstance(node, ast.For) and any(one.inside & LATE for one in body)
         asked = self._asked_if_begun(node, node.body[-1], node) if is_calling else None
         node.iter = self._gone_through(node.iter, target) if isinstance(node, ast.For) else self._guarded(node.iter)
         node.target = self._visit_target(target)
