@@ -410,7 +410,9 @@ _WITH_PLAIN_FIELDS = ids_of((BaseException, types.FunctionType, decimal.Context)
 
 
 def _is_plain_field(owner: type, name: str) -> bool:
-    return id(owner) in _WITH_PLAIN_FIELDS and type(_vars_of(owner)[name]) is types.GetSetDescriptorType
+    """Whether it is such a field, and some module stores one of this name."""
+    is_stored = id(owner) in _WITH_PLAIN_FIELDS and name in STORED_FIELDS
+    return is_stored and type(_vars_of(owner)[name]) is types.GetSetDescriptorType
 
 
 def is_stored_in_class(name: str) -> bool:

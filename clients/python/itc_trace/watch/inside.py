@@ -27,6 +27,7 @@ from .kinds import (
     COMPARED, CONTENT, DECLARED, HASHED, MAPS, OF_ELEMENTS, ORDERED, REFERRED, SHOWN, STATE, WRITER, WRITTEN,
     WRITTEN_TO,
 )
+from .learned import STORED_FIELDS
 
 READING = frozenset(("", "r", "c", "get", "keys", "values", "items", "copy", "__getitem__", "__contains__"))
 """Ways to touch, and methods, that look at each of several containers. Others change the first one."""
@@ -209,7 +210,7 @@ def fields_looked_at(one: Any, depth: str, is_inside: bool) -> list[str]:
     if kind is SimpleNamespace and depth != CONTENT:
         return [name for name in list(fields_of(one)) if type(name) is str]
     if depth in (SHOWN, WRITTEN) and issubclass(kind, BaseException):
-        return ["args"]
+        return ["args"] if "args" in STORED_FIELDS else []
     if depth == CONTENT or not is_watched_class(kind):
         return []
     fields = _declared_fields(kind)
