@@ -26,7 +26,8 @@ _WRAPPING = frozenset(("staticmethod", "classmethod", "property"))
 """Functions of the language that make an attribute of what they are given, which whoever finds it may call."""
 FOLLOWED_METHODS = frozenset(
     "submit map apply_async map_async starmap_async add_done_callback remove_done_callback call_soon call_later "
-    "call_at call_soon_threadsafe run_in_executor callback push append appendleft add put put_nowait insert setdefault update "
+    "call_at call_soon_threadsafe run_in_executor callback push append appendleft add put put_nowait insert "
+    "setdefault update "
     "discard remove get pop".split()
 )
 """Methods that call what they are given and say so, or only keep it."""
@@ -101,7 +102,8 @@ def is_replacing(name: str | None) -> bool:
 
 STORED_AS_FIELDS = frozenset(
     "__name__ __qualname__ __doc__ __module__ __annotations__ __notes__ __traceback__ __cause__ __context__ "
-    "__wrapped__ __suppress_context__ __signature__ __text_signature__ __file__ __all__ __version__ __author__ __path__".split()
+    "__wrapped__ __suppress_context__ __signature__ __text_signature__ __file__ __all__ __version__ "
+    "__author__ __path__".split()
 )
 """Attributes of the language that are fields like any other."""
 _BY_CODE = frozenset((

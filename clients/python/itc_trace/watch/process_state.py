@@ -27,7 +27,8 @@ _KEPT = (
     Kept("the working directory", "os.path", "", "abspath realpath relpath"),
     Kept("the working directory", "contextlib", "chdir"),
     Kept("the file mode mask", "os", "umask"),
-    Kept("the user of the process", "os", "setuid setgid seteuid setegid setreuid setregid setresuid setresgid setgroups",
+    Kept("the user of the process", "os", "setuid setgid seteuid setegid setreuid setregid setresuid "
+         "setresgid setgroups",
          "getuid getgid geteuid getegid getresuid getresgid getgroups"),
     Kept("the root directory", "os", "chroot"),
     Kept("the priority of the process", "os", "nice setpriority", "getpriority"),
@@ -42,7 +43,8 @@ _KEPT = (
     Kept("the signal handlers", "signal", "signal siginterrupt set_wakeup_fd", "getsignal"),
     Kept("the interval timers", "signal", "alarm setitimer", "getitimer"),
     Kept("the random generator", "random", "seed setstate",
-         "getstate random uniform randint randrange randbytes getrandbits choice choices sample shuffle triangular gauss "
+         "getstate random uniform randint randrange randbytes getrandbits choice choices sample shuffle "
+         "triangular gauss "
          "normalvariate betavariate expovariate gammavariate lognormvariate vonmisesvariate paretovariate "
          "weibullvariate binomialvariate"),
     Kept("the default timeout of sockets", "socket", "setdefaulttimeout",
@@ -64,10 +66,12 @@ _KEPT = (
     Kept("the limit of csv fields", "csv", "field_size_limit"),
     Kept("the types of files", "mimetypes", "add_type init", "guess_type guess_extension guess_all_extensions"),
     Kept("the codecs", "codecs", "register unregister register_error", "lookup lookup_error encode decode"),
-    Kept("the reducers of copyreg", "copyreg", "pickle constructor add_extension remove_extension clear_extension_cache"),
+    Kept("the reducers of copyreg", "copyreg", "pickle constructor add_extension remove_extension "
+         "clear_extension_cache"),
     Kept("the start method of processes", "multiprocessing", "set_start_method set_executable", "get_start_method"),
     Kept("the policy of event loops", "asyncio", "set_event_loop_policy", "get_event_loop_policy new_event_loop"),
-    Kept("the configuration of logging", "logging", "basicConfig disable addLevelName setLoggerClass setLogRecordFactory",
+    Kept("the configuration of logging", "logging", "basicConfig disable addLevelName setLoggerClass "
+         "setLogRecordFactory",
          "getLevelName getLoggerClass getLogRecordFactory"),
     Kept("the configuration of logging", "logging.config", "dictConfig fileConfig"),
     Kept("the opener of urllib", "urllib.request", "install_opener", "urlopen urlretrieve"),
