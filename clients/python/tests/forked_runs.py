@@ -104,7 +104,7 @@ def run_forked(*words: str, **variables: str) -> subprocess.CompletedProcess[str
     """Runs as `run_traced` does, in a fork."""
     environment = {**os.environ, "PYTHONPATH": str(PACKAGE), **variables}
     server = _idle.take(environment)
-    ended = server.run(words)
+    ended = server.run(("--all", *words))
     _idle.put_back(environment, server)
     return ended
 

@@ -196,11 +196,17 @@ def needs(package: str, *modules: str) -> Callable[[Any], Any]:
     return unittest.skipIf(python_with(*modules) is None, f"there is no {modules[-1]} here: apt-get install -y {package}")
 
 
+LISTS = ("run", "races", "system")
+"""The commands that list races."""
+
+
 def run_python(
     *words: str, python: str | None = sys.executable, cwd: str | None = None, **variables: str
 ) -> subprocess.CompletedProcess[str]:
-    """Runs `python3 WORDS..` with the package at hand."""
+    """Runs `python3 WORDS..` with the package at hand. A command that lists races lists each pair, and not one of each cause."""
     environment = {**os.environ, "PYTHONPATH": str(PACKAGE), **variables}
+    if words[:2] == ("-m", "itc_trace") and words[2:3] and words[2] in LISTS:
+        words = (*words[:3], "--all", *words[3:])
     command = [python or sys.executable, *words]
     return subprocess.run(command, capture_output=True, text=True, env=environment, cwd=cwd, timeout=1500, check=False)
 
@@ -216,7 +222,7 @@ sys.exit(__main__.main())
 
 def run_system(*words: str, **variables: str) -> subprocess.CompletedProcess[str]:
     """Runs `python3 -m itc_trace system WORDS..`, which waits for its processes as long as it takes."""
-    return run_python("-c", PATIENT, "system", *words, **variables)
+    return run_python("-c", PATIENT, "system", "--all", *words, **variables)
 
 
 def run_traced(*words: str, python: str | None = sys.executable, **variables: str) -> subprocess.CompletedProcess[str]:

@@ -15,7 +15,7 @@ from collections.abc import Callable, Iterator
 from concurrent.futures import Future
 from dataclasses import dataclass
 from itertools import chain, islice, tee
-from operator import attrgetter, itemgetter
+from operator import attrgetter, itemgetter, methodcaller
 from types import CodeType, FrameType
 from typing import Any
 
@@ -26,7 +26,7 @@ from ..model.lock_identity import LockIdentity
 from ..record import own_threads
 
 _current_frames: Callable[[], dict[int, FrameType]] = vars(sys)["_current_frames"]
-_THREAD, _FRAME, _INSTRUCTION = itemgetter(0), itemgetter(1), attrgetter("f_lasti")
+_ITEMS, _THREAD, _FRAME, _INSTRUCTION = methodcaller("items"), itemgetter(0), itemgetter(1), attrgetter("f_lasti")
 LIBRARY = frozenset({"multiprocessing", "subprocess", "selectors", "socket", "ssl", "contextlib"})
 """Beside what is internal: whoever waits within these was sent there by the program."""
 WAITS = "waits for "
@@ -97,7 +97,7 @@ def _places() -> list[tuple[int, int, int]]:
 
 def _places_once_asked() -> Iterator[tuple[int, int, int]]:
     """The same, with no frame yet. What is made on the way is held by nothing but this iterator."""
-    frames = chain.from_iterable(map(dict.items, islice(iter(_current_frames, None), 1)))
+    frames = chain.from_iterable(map(_ITEMS, islice(iter(_current_frames, None), 1)))
     first, second, third = tee(frames, 3)
     return zip(map(_THREAD, first), map(id, map(_FRAME, second)), map(_INSTRUCTION, map(_FRAME, third)))
 
