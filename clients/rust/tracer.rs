@@ -130,6 +130,8 @@ struct State {
     settled: u64,
     /// Whether the journal has all that it will ever have.
     is_closed: bool,
+    /// Standard error is being told why tracing stops.
+    is_telling: bool,
     last_line: String,
     /// Whether another process of the trace has started this one.
     is_child: bool,
@@ -346,7 +348,7 @@ impl Tracer {
 
     /// Tracing is over: waits until the journal has what was noted by then, and why it is over.
     fn close(&self, state: MutexGuard<'_, State>) {
-        let _ = self.changed.wait_timeout_while(state, CLOSE_WAIT, |state| !state.is_closed);
+        let _ = self.changed.wait_timeout_while(state, CLOSE_WAIT, |state| !state.is_closed || state.is_telling);
     }
 
     /// A signal ends the process. What was noted is reported first, by the thread that sends.
@@ -369,10 +371,13 @@ impl Tracer {
         crate::traced::is_over();
         state.unwritten += &journal::unseen(cause, reason);
         state.forget_all();
+        state.is_telling = true;
         drop(state);
         self.changed.notify_all();
         let _ = self.stream.shutdown(Shutdown::Both);
         eprintln!("itc_trace: tracing stops: {reason}");
+        self.state().is_telling = false;
+        self.changed.notify_all();
     }
 
     // The thread that sends, and writes the journal
@@ -497,6 +502,7 @@ impl State {
             wanted: 0,
             settled: 0,
             is_closed: false,
+            is_telling: false,
             last_line: journal::END.into(),
             is_child: environment.child.is_some(),
             patience: FIRST_PATIENCE,
