@@ -64,7 +64,8 @@ class Files(unittest.TestCase):
     def test_a_journal_that_breaks_off_is_incomplete(self) -> None:
         export, journal, _ = self.kept("clean", CLEAN)
         lines = Path(journal).read_text().splitlines(keepends=True)
-        Path(journal).write_text("".join(lines[:-1]))
+        end = next(number for number, line in enumerate(lines) if line.startswith('{"end"'))
+        Path(journal).write_text("".join(lines[:end]))
         ran = self.races(export, journal)
         self.assertEqual(ran.returncode, Verdict.INCOMPLETE, ran.stdout)
         self.assertIn("breaks off", ran.stdout)

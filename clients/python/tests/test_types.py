@@ -63,7 +63,7 @@ class Trio(ProgramCase):
     def test_trio_runs_and_its_tasks_are_one_line(self) -> None:
         ran = run_traced(self.program(TRIO), python=python_with("trio"))
         self.assertEqual((ran.returncode, ran.stdout), (0, "done\n"), ran.stderr)
-        self.assertRegex(ran.stderr, "no race in this run: .* of 5 things")
+        self.assertRegex(ran.stderr, "no race in this run; not looked into: tasks of trio at .*: .* of 5 things")
 
 
 class Types(TracedCase):

@@ -516,11 +516,10 @@ class TouchTexts:
         """The name of a lock, behind what tells it from others of the same name."""
         text = self._locks.get(lock.serial)
         if text is None:
-            number = f"{self._prefix}{lock.serial}" if isinstance(lock, Asking) or not lock.across else lock.across
-            text = self._locks[lock.serial] = json.dumps(f"#{number} {lock.name}")
             if len(self._locks) >= MOST_NAMED:
                 self._locks.clear()
-            text = self._locks[lock.serial] = json.dumps(f"#{self._prefix}{lock.serial} {lock.name}")
+            number = f"{self._prefix}{lock.serial}" if isinstance(lock, Asking) or not lock.across else lock.across
+            text = self._locks[lock.serial] = json.dumps(f"#{number} {lock.name}")
         return text
 
     def name_of(self, thing: Any) -> str:

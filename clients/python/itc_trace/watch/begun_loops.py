@@ -14,11 +14,11 @@ from types import AsyncGeneratorType, CoroutineType, FrameType, GeneratorType
 from . import passed_over
 from .places import LOOPS, LOOPS_OF, OF_OTHERS
 
-SUSPENDED: dict[type, tuple[str, str]] = {
-    GeneratorType: ("gi_frame", "gi_running"), CoroutineType: ("cr_frame", "cr_running"),
-    AsyncGeneratorType: ("ag_frame", "ag_running"),
+SUSPENDED: dict[int, tuple[str, str]] = {
+    id(GeneratorType): ("gi_frame", "gi_running"), id(CoroutineType): ("cr_frame", "cr_running"),
+    id(AsyncGeneratorType): ("ag_frame", "ag_running"),
 }
-"""What may have been left in the middle of a loop, and the names of its frame."""
+"""What may have been left in the middle of a loop, and the names of its frame. A type of the program may hash by its own code."""
 HELD_BY_OTHERS = "a loop that began before the first thread"
 
 
@@ -48,7 +48,7 @@ def _frames() -> Iterator[FrameType]:
             yield frame
             frame = frame.f_back
     for one in gc.get_objects():
-        names = SUSPENDED.get(type(one))
+        names = SUSPENDED.get(id(type(one)))
         waiting = None if names is None or getattr(one, names[1]) else getattr(one, names[0])
         if waiting is not None and waiting.f_lasti >= 0:
             yield waiting
