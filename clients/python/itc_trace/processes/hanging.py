@@ -19,7 +19,7 @@ from types import CodeType, FrameType
 from ..model.file_names import name_of_file
 from ..model.frames import line_of
 from ..model.lines import state
-from ..record import plain
+from ..record import own_files, plain
 from ..record.own_threads import start_thread
 from .waits import WAITS, Since, Wait, cycle_of, waits
 
@@ -49,7 +49,8 @@ class Hanging:
         self._begun = time.monotonic()
 
     def begin(self) -> None:
-        self._file = open(self._asked, "ab", buffering=0)  # Held open for the handlers.
+        number_of_file = own_files.keep(os.open(self._asked, os.O_WRONLY | os.O_APPEND | os.O_CREAT, 0o600))
+        self._file = open(number_of_file, "ab", buffering=0)  # Held open for the handlers.
         for name in ASKING:
             number = getattr(signal, name, None)
             if number is not None and signal.getsignal(number) == signal.SIG_DFL:
