@@ -113,7 +113,8 @@ one.recv()  # here
 ctypes.CDLL(None).sleep(1000)  # here
 """, r"root is in code of C, or waits there, for .* s at .*# here"),
     "code of C that keeps all threads": ("""
-ctypes.PyDLL(None).sleep(1000)  # here
+while True:  # The signal ends a sleep.
+    ctypes.PyDLL(None).sleep(1000)  # here
 """, r"the program does not answer: code of C keeps all its threads from going on, called at .*program.py:\d+ in <module>"),
 }
 
