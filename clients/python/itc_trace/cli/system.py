@@ -14,11 +14,11 @@ import sys
 import tempfile
 import threading
 import time
-from collections.abc import Iterator
+from collections.abc import Callable, Iterator
 from pathlib import Path
 from queue import Empty, SimpleQueue
 from types import FrameType
-from typing import IO, Any
+from typing import IO, Any, Protocol
 
 from ..analyse.benign import Looking
 from ..analyse.kept_sources import source_rows
@@ -45,7 +45,7 @@ from .process_sources import ProcessSources
 from .reporting import Wanted, deliver, is_at_terminal, next_step
 from .run import draw, draw_parts, environment_of_package
 from .saying import UNWRITTEN, say
-from .statuses import forget_status, keep_status, own_status
+from .statuses import OWN_STATUSES, forget_status, keep_status, own_status
 from .system_file import Described, System
 from ..model.verdict import END_OF_ALL, Cause, Unseen
 
@@ -429,16 +429,43 @@ BORDERS = "borders"
 ENDED_AS_A_SERVICE = Unseen(Cause.KILLED, "the program was ended by SIGTERM").row()
 
 
+class Reports(Protocol):
+    """What runs and reports to a relay."""
+
+    unseen: list[Unseen]
+    status: int
+
+    def run(self) -> None:
+        """Returns once all of it has ended."""
+
+    def lines(self) -> list[str]:
+        """The lines of all journals."""
+
+
 def run_system(
     system: System, looking: Looking, fail_on_possible: bool = False, status_file: str | None = None,
     wanted: Wanted | None = None, timeout: float | None = None,
 ) -> int:
     """The verdict's status, and where that is 0 the first status of a process that was not 0."""
+    return run_reporting(
+        system, lambda port, folder: Running(system, port, folder, timeout), looking, fail_on_possible, status_file, wanted,
+    )
+
+
+def run_reporting(
+    system: System, begin: Callable[[int, str], Reports], looking: Looking, fail_on_possible: bool = False,
+    status_file: str | None = None, wanted: Wanted | None = None, is_quiet: bool = False,
+) -> int:
+    """Runs what reports to a relay of its own, whose port it gets, and keeps its journals in a folder.
+
+    Gives the verdict's status, and where that is 0 the status of what ran. If it is quiet, nothing is told where
+    there is nothing to tell.
+    """
     forget_status(status_file)
     with tempfile.TemporaryDirectory(prefix="itc_trace_") as folder, PartCollectors(system.tenant) as collectors:
         parts = RelayParts(lambda: ask_for_port(collectors.asked_at), os.path.join(folder, BORDERS))
         with Relaying(collectors.port, parts) as relay:
-            running = Running(system, relay.port, folder, timeout)
+            running = begin(relay.port, folder)
             running.run()
         lines = running.lines()
         if parts.number > 1:
@@ -451,7 +478,8 @@ def run_system(
             races.unseen = [*running.unseen, *races.unseen]
             picture = _keep(system, collectors.port, lines, folder, races)
         report, wanted = report_of(races, looking, fail_on_possible, picture), wanted or Wanted()
-        say(text(report, wanted.shown, style_of(sys.stderr)) + own_status(report.verdict, running.status))
+        if report.verdict or report.findings or running.status in OWN_STATUSES or not is_quiet:
+            say(text(report, wanted.shown, style_of(sys.stderr)) + own_status(report.verdict, running.status))
         step = next_step(report, wanted, system.export, False)
         if step and is_at_terminal(sys.stderr):
             say(step)

@@ -19,8 +19,8 @@ final class LockName {
         if (name == null) {
             name = Traced.lockName(made);
             String told = "lock (" + made + ")";
-            luck = new Gives("lock" + made.line(), "release " + told, "acquire " + told, name, true);
-            signal = new Gives("lock" + made.line(), "release " + told, "acquire " + told, name, false);
+            luck = new Gives("lock" + Math.max(0, made.line()), "release " + told, "acquire " + told, name, true);
+            signal = new Gives("lock" + Math.max(0, made.line()), "release " + told, "acquire " + told, name, false);
         }
         return name;
     }

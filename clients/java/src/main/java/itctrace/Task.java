@@ -38,6 +38,9 @@ final class Task {
     Mark end;
 
     Task joinedBy;
+    /** How many stretches between two synchronizations it had. Only the task's own thread changes it. */
+    long stretches;
+
     private int many = MANY;
     private Map<Integer, Long> meant = new HashMap<>();
     private Map<Integer, Long> luck = new HashMap<>();
@@ -74,7 +77,11 @@ final class Task {
         /** Its event, once it is reported. */
         Touches event;
 
+        /** Whether the task has touched something of which no row tells yet, and maybe none ever does. */
+        boolean isWatched;
+
         long time;
+        final Stretch stretch = new Stretch(this);
         List<Row> rows = new ArrayList<>();
         private final Map<Touch, Row> seen = new HashMap<>();
 
@@ -111,9 +118,52 @@ final class Task {
                             add(touch, row);
                         }
                     });
+            next.stretch.into = stretch;
+            next.stretch.segment = null;
+            isWatched |= next.isWatched;
             place = next.place;
             isClosed = next.isClosed;
             time = time == 0 ? next.time : time;
+        }
+    }
+
+    /** What a task does between two synchronizations, to which a row may be added later. */
+    static final class Stretch {
+        /** Null once its event is there, or once it is a part of another one. */
+        private Segment segment;
+        private Touches event;
+        private Stretch into;
+
+        Stretch(Segment segment) {
+            this.segment = segment;
+        }
+
+        /** Its event is reported. */
+        void tell(Touches told) {
+            event = told;
+            segment = null;
+        }
+
+        private Stretch whole() {
+            Stretch whole = this;
+            while (whole.into != null) {
+                whole = whole.into;
+            }
+            if (whole != this) {
+                into = whole;
+            }
+            return whole;
+        }
+
+        /** Adds a row. Gives its event, if that is reported. */
+        Touches add(Row row) {
+            Stretch whole = whole();
+            if (whole.event == null) {
+                whole.segment.rows.add(row);
+            } else {
+                whole.event.fresh.add(row);
+            }
+            return whole.event;
         }
     }
 
@@ -123,6 +173,9 @@ final class Task {
         Row.Event event;
 
         boolean isClosed;
+        /** Whether it is looked at for rows. */
+        boolean isGrowing;
+
         List<Row> fresh = new ArrayList<>();
     }
 
@@ -142,6 +195,7 @@ final class Task {
         if (last().isClosed || last().place.hasMark()) {
             here = new Place(this);
             open.add(new Segment(here));
+            stretches++;
         }
         return last();
     }
