@@ -56,7 +56,7 @@ func (h *hand) acquire(by *task, at *site, hasWaited bool) {
 	if given != nil { // Nobody else can come after it any more.
 		by.drop(given)
 	}
-	if hasWaited && !h.isSignal.Load() {
+	if hasWaited && by.held.count > 0 && !h.isSignal.Load() {
 		by.acquires(acquired, at, false)
 	}
 	by.held = by.held.with(acquired, at, false)
@@ -183,7 +183,7 @@ func (m *RWMutex) reads(by *task, at *site, hasWaited bool) {
 	if own != nil { // What this one has read is told by its next release, or by this one.
 		by.drop(own)
 	}
-	if hasWaited && !m.hand.isSignal.Load() {
+	if hasWaited && by.held.count > 0 && !m.hand.isSignal.Load() {
 		by.acquires(acquired, at, true)
 	}
 	by.held = by.held.with(acquired, at, true)
