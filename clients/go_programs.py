@@ -130,9 +130,9 @@ def check_few(built: Path, name: str) -> None:
 
 
 def check_costs(built: Path, traced: str, plain: str) -> None:
-    """A free lock takes at most ten times as long as untraced, by the best of three runs of each."""
-    own = min(measured(built, traced, TURNS)[0] for _ in range(3))
-    other = min(measured(built, plain, TURNS)[0] for _ in range(3))
+    """A free lock takes at most ten times as long as untraced, by the best of seven runs of each, made by turns."""
+    turns = [(measured(built, traced, TURNS)[0], measured(built, plain, TURNS)[0]) for _ in range(7)]
+    own, other = map(min, zip(*turns))
     if own > MOST_TIMES * other:
         raise Wrong(f"{traced} takes {own:.3f} s, and untraced {other:.3f} s")
 

@@ -174,7 +174,6 @@ func (m *RWMutex) releasing(by *task, at *site) {
 
 func (m *RWMutex) reads(by *task, at *site, hasWaited bool) {
 	m.mutex.Lock()
-	defer m.mutex.Unlock()
 	acquired, own := m.hand.known(at), m.readerOf(by)
 	if given := m.hand.given(); given != nil {
 		by.take(given, at)
@@ -188,6 +187,7 @@ func (m *RWMutex) reads(by *task, at *site, hasWaited bool) {
 	}
 	by.held = by.held.with(acquired, at, true)
 	by.mutex.Unlock()
+	m.mutex.Unlock()
 }
 
 func (m *RWMutex) readerOf(by *task) *token {
