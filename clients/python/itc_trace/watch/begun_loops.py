@@ -18,7 +18,10 @@ SUSPENDED: dict[int, tuple[str, str]] = {
     id(GeneratorType): ("gi_frame", "gi_running"), id(CoroutineType): ("cr_frame", "cr_running"),
     id(AsyncGeneratorType): ("ag_frame", "ag_running"),
 }
-"""What may have been left in the middle of a loop, and the names of its frame. A type of the program may hash by its own code."""
+"""What may have been left in the middle of a loop, by the type's identity, and the names of its frame.
+
+A type of the program may hash by code of its own.
+"""
 HELD_BY_OTHERS = "a loop that began before the first thread"
 
 
