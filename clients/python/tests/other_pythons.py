@@ -56,12 +56,9 @@ def _version_of(program: str) -> tuple[int, int, str]:
     return (int(told[0]), int(told[1]), told[2]) if len(told) == 3 else (0, 0, "")
 
 
-def run(program: str) -> tuple[int, int]:
-    """Runs the tests by a Python. Gives how many passed, and how many failed at least."""
-    began = time.monotonic()
-    asked = subprocess.run([program, "-c", HAS_HOOKS_IN_C], capture_output=True, text=True, cwd=PACKAGE, timeout=LONGEST, check=False).stdout.strip()
-    forms = "hooks in C" if asked == "True" else "hooks in Python alone"
-    words = [program, "-m", "unittest", *(f"tests.{name}" for name in QUICK)]
+def _run_one(program: str, name: str) -> tuple[int, int]:
+    """Runs the tests of this name, in a process of their own. Gives how many passed, and how many failed at least."""
+    words = [program, "-m", "unittest", f"tests.{name}"]
     try:
         ran = subprocess.run(words, stdout=subprocess.PIPE, stderr=subprocess.STDOUT, text=True, cwd=PACKAGE, timeout=LONGEST, check=False)
         said, status = ran.stdout, ran.returncode
@@ -72,8 +69,20 @@ def run(program: str) -> tuple[int, int]:
     failed = 0 if status == 0 and count > 0 else max(1, said.count("\nFAIL: ") + said.count("\nERROR: "))
     if failed:
         print(said)
-    print(f"Python {_version_of(program)[2]}, {forms}: {count - min(count, failed)} passed, {failed} failed, {time.monotonic() - began:.0f} s", flush=True)
     return count - min(count, failed), failed
+
+
+def run(program: str) -> tuple[int, int]:
+    """Runs the tests by a Python. Gives how many passed, and how many failed at least."""
+    began = time.monotonic()
+    asked = subprocess.run([program, "-c", HAS_HOOKS_IN_C], capture_output=True, text=True, cwd=PACKAGE, timeout=LONGEST, check=False).stdout.strip()
+    forms = "hooks in C" if asked == "True" else "hooks in Python alone"
+    count = failed = 0
+    for name in QUICK:
+        passed_of_one, failed_of_one = _run_one(program, name)
+        count, failed = count + passed_of_one, failed + failed_of_one
+    print(f"Python {_version_of(program)[2]}, {forms}: {count} passed, {failed} failed, {time.monotonic() - began:.0f} s", flush=True)
+    return count, failed
 
 
 def main() -> int:
