@@ -60,6 +60,12 @@ fn read_other(line: &[u8]) -> Option<Request>
     if let Some(arguments) = behind(line, b"spawn ") {
         return read_spawn(arguments);
     }
+    if let Some(arguments) = behind(line, b"join ") {
+        return read_join(arguments);
+    }
+    if let Some(arguments) = behind(line, b"end ") {
+        return read_end(arguments);
+    }
     if let Some(arguments) = behind(line, b"event ") {
         return read_event(arguments);
     }
@@ -106,6 +112,8 @@ fn read_rare(line: &[u8]) -> Option<Request>
     requires send { is_same (take 5 line.now) (codes "send ") ≡ false }
     requires recv { is_same (take 5 line.now) (codes "recv ") ≡ false }
     requires spawn { is_same (take 6 line.now) (codes "spawn ") ≡ false }
+    requires join { is_same (take 5 line.now) (codes "join ") ≡ false }
+    requires end { is_same (take 4 line.now) (codes "end ") ≡ false }
     requires event { is_same (take 6 line.now) (codes "event ") ≡ false }
     requires stamp { is_same (take 6 line.now) (codes "stamp ") ≡ false }
     requires task { is_same (take 5 line.now) (codes "task ") ≡ false }
@@ -125,18 +133,14 @@ fn read_arguments(keyword: &[u8], arguments: &[u8]) -> Option<Request>
     requires send { is_same keyword.now (codes "send") ≡ false }
     requires recv { is_same keyword.now (codes "recv") ≡ false }
     requires spawn { is_same keyword.now (codes "spawn") ≡ false }
+    requires join { is_same keyword.now (codes "join") ≡ false }
+    requires end { is_same keyword.now (codes "end") ≡ false }
     requires event { is_same keyword.now (codes "event") ≡ false }
     requires stamp { is_same keyword.now (codes "stamp") ≡ false }
     requires task { is_same keyword.now (codes "task") ≡ false }
     requires message { is_same keyword.now (codes "message") ≡ false }
     ensures { result ≡ request_of_words (keyword.now ∷ words arguments.now) }
 {
-    if is_word(keyword, b"end") {
-        return Some(Request::End(only_name(arguments)?));
-    }
-    if is_word(keyword, b"join") {
-        return read_join(arguments);
-    }
     if is_word(keyword, b"past") {
         return Some(Request::Past(only_number(arguments)?));
     }
@@ -173,6 +177,22 @@ fn read_recv(arguments: &[u8]) -> Option<Request>
     two_names(arguments).map(|(task, message)| Request::Recv(task, message))
 }
 
+/// The arguments of a join.
+#[inline(always)]
+fn read_join(arguments: &[u8]) -> Option<Request>
+    ensures { result ≡ with_names Request.Join (words arguments.now) }
+{
+    two_names(arguments).map(|(task, child)| Request::Join(task, child))
+}
+
+/// The argument of an end.
+#[inline(always)]
+fn read_end(arguments: &[u8]) -> Option<Request>
+    ensures { result ≡ with_name Request.End (words arguments.now) }
+{
+    Some(Request::End(only_name(arguments)?))
+}
+
 /// The argument of a question for an event.
 #[inline(always)]
 fn read_event(arguments: &[u8]) -> Option<Request>
@@ -203,13 +223,6 @@ fn read_message(arguments: &[u8]) -> Option<Request>
     ensures { result ≡ with_name Request.Message (words arguments.now) }
 {
     Some(Request::Message(only_name(arguments)?))
-}
-
-/// The arguments of a join.
-fn read_join(arguments: &[u8]) -> Option<Request>
-    ensures { result ≡ with_names Request.Join (words arguments.now) }
-{
-    two_names(arguments).map(|(task, child)| Request::Join(task, child))
 }
 
 /// The word that the line begins with, and the request that the rest spells, or `None` if it spells none. The word may be
