@@ -209,7 +209,9 @@ impl<S: Keep> Book<S> {
 
     /// Takes a report: adds its event and gives its number, or refuses it.
     ///
-    /// Each kind is taken by a function of its own, which has on the stack what that kind needs.
+    /// Each kind is taken by a function of its own, which has on the stack what that kind needs. In each of them stand the
+    /// calls of [`Book::prepare`] and [`Book::commit`], where the kind is known: one function that all kinds share would be too
+    /// large to be inlined.
     pub(crate) fn take<R>(
         &mut self,
         rt: &R,
@@ -251,7 +253,10 @@ impl<S: Keep> Book<S> {
         ensures { TakesReport result self.old (record report.now { deed = Deed.Local }) self.new }
     {
         let deed = Deed::Local;
-        self.add(rt, stack, &Report { deed, ..*report })
+        let report = &Report { deed, ..*report };
+        self.ready(rt, stack, report)?;
+        let made = self.made(rt, report)?;
+        Ok(self.commit(self.event(report, made)))
     }
 
     /// Takes the report as one that starts this task.
@@ -270,7 +275,10 @@ impl<S: Keep> Book<S> {
         ensures { TakesReport result self.old (record report.now { deed = Deed.Spawn child.now }) self.new }
     {
         let deed = Deed::Spawn(*child);
-        self.add(rt, stack, &Report { deed, ..*report })
+        let report = &Report { deed, ..*report };
+        self.ready(rt, stack, report)?;
+        let made = self.made(rt, report)?;
+        Ok(self.commit(self.event(report, made)))
     }
 
     /// Takes the report as one that sends this message.
@@ -289,7 +297,10 @@ impl<S: Keep> Book<S> {
         ensures { TakesReport result self.old (record report.now { deed = Deed.Send message.now }) self.new }
     {
         let deed = Deed::Send(*message);
-        self.add(rt, stack, &Report { deed, ..*report })
+        let report = &Report { deed, ..*report };
+        self.ready(rt, stack, report)?;
+        let made = self.made(rt, report)?;
+        Ok(self.commit(self.event(report, made)))
     }
 
     /// Takes the report as one that receives this message.
@@ -310,7 +321,10 @@ impl<S: Keep> Book<S> {
         ensures { TakesReport result self.old (record report.now { deed = Deed.Recv message.now place found.now }) self.new }
     {
         let deed = Deed::Recv(*message, place, *found);
-        self.add(rt, stack, &Report { deed, ..*report })
+        let report = &Report { deed, ..*report };
+        self.ready(rt, stack, report)?;
+        let made = self.made(rt, report)?;
+        Ok(self.commit(self.event(report, made)))
     }
 
     /// Takes the report as one of the end of its task.
@@ -323,7 +337,10 @@ impl<S: Keep> Book<S> {
         ensures { TakesReport result self.old (record report.now { deed = Deed.End }) self.new }
     {
         let deed = Deed::End;
-        self.add(rt, stack, &Report { deed, ..*report })
+        let report = &Report { deed, ..*report };
+        self.ready(rt, stack, report)?;
+        let made = self.made(rt, report)?;
+        Ok(self.commit(self.event(report, made)))
     }
 
     /// Takes the report as one that joins this task.
@@ -344,20 +361,7 @@ impl<S: Keep> Book<S> {
         ensures { TakesReport result self.old (record report.now { deed = Deed.Join child.now place found.now }) self.new }
     {
         let deed = Deed::Join(*child, place, *found);
-        self.add(rt, stack, &Report { deed, ..*report })
-    }
-
-    /// Adds the event of the report, and gives its number. It is inlined where the kind is known, so nothing is done for another
-    /// kind.
-    #[inline(always)]
-    fn add<R>(&mut self, rt: &R, stack: &mut Stack, report: &Report) -> Result<u64, Code>
-    where
-        S: Share<R>,
-        requires book { IsKept self.old }
-        requires report { IsReport self.old report.now }
-        ensures { TakesReport result self.old report.now self.new }
-    {
-        // This does not call `prepare`, whose draft would be moved once more.
+        let report = &Report { deed, ..*report };
         self.ready(rt, stack, report)?;
         let made = self.made(rt, report)?;
         Ok(self.commit(self.event(report, made)))

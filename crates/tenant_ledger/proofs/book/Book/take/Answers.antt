@@ -1,6 +1,5 @@
 use Rattle.std.proofs.Common.{subst}
 use Rattle.tenant_ledger.proofs.Words.{Deed, IsReport}
-use Rattle.tenant_ledger.specs.declared.book.report.Deed.TheVariants as deed
 use Rattle.tenant_ledger.proofs.keeping.Drafted.{taken_as}
 use Rattle.tenant_ledger.proofs.book.Book.take.Goals as goal
 
