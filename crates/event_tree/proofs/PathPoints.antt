@@ -1,7 +1,6 @@
 -- The point of a path: its levels from the lowest up as the bits of a number, with the uppermost as the lowest.
-use Rattle.std.proofs.Common.{◌≡◌, ℕ, suc, Bool, true, false, List, [], ◌∷◌, ◌++◌, ◌+◌, ◌*◌, ◌^◌, ◌<◌, ◌≤◌, ◌⊎◌, max, inl, inr, length, slice_index_or, take, take-suc, sym, ap, ◌∙◌, arith}
+use Rattle.std.proofs.Common.{◌≡◌, ℕ, suc, Bool, true, false, List, [], ◌∷◌, ◌++◌, ◌+◌, ◌*◌, ◌^◌, ◌<◌, ◌≤◌, length, slice_index_or, take, take-suc, sym, ap, ◌∙◌, arith}
 use Rattle.std.proofs.Math.Nat.{pow-le-pow_right}
-use Rattle.trace_types.specs.clock.Points.{Left, Right}
 use Rattle.trace_types.specs.clock.EventTree.{EventTree, value}
 use Rattle.event_tree.specs.PathCode.{half_on, point_of}
 use Rattle.event_tree.specs.PointCode.{halves_of}

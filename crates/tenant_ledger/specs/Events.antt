@@ -1,6 +1,5 @@
 -- What is to be kept of an event.
 use Rattle.std.specs.Prelude.{ℕ, suc, ◌+◌, List, length, Option, Some, None}
-use Rattle.trace_types.specs.tenant.Rows.{receipts}
 use Rattle.trace_types.specs.clock.Id.{Id}
 use Rattle.trace_types.specs.clock.EventTree.{EventTree}
 use Rattle.trace_types.specs.declared.row.Row.{Row}
@@ -13,7 +12,6 @@ use Rattle.tenant_ledger.specs.declared.book.task.Task.{Task}
 use Rattle.tenant_ledger.specs.declared.book.report.Report.{Report}
 use Rattle.tenant_ledger.specs.declared.book.report.Deed.{Deed}
 use Rattle.tenant_ledger.specs.declared.book.report.Deed.TheVariants as deed
-use Rattle.tenant_ledger.specs.declared.book.ids.Ids.TheVariants as ids
 use Rattle.tenant_ledger.specs.Contents.{ReceiptKey, Contents, history_in}
 use Rattle.tenant_ledger.specs.Reports.{received_in, row_of_report}
 use Rattle.tenant_ledger.specs.Making.{ids_of_report, tree_of_report}

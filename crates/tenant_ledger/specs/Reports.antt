@@ -6,7 +6,6 @@ use Rattle.trace_types.specs.declared.row.Row.{Row}
 use Rattle.trace_types.specs.declared.row.Kind.{Kind}
 use Rattle.trace_types.specs.declared.row.Kind.TheVariants.{Local, Spawn, Send, Recv, End, Join}
 use Rattle.tenant_ledger.specs.declared.book.message.Message.{Message}
-use Rattle.tenant_ledger.specs.declared.book.task.Task.{Task}
 use Rattle.tenant_ledger.specs.declared.book.report.Report.{Report}
 use Rattle.tenant_ledger.specs.declared.book.report.Deed.{Deed}
 use Rattle.tenant_ledger.specs.declared.book.report.Deed.TheVariants as deed

@@ -1,7 +1,6 @@
 -- For how much more a book has room.
 use Rattle.std.specs.Prelude.{◌+◌, ◌*◌, ◌≤◌, ◌<◌}
 use Rattle.trace_types.specs.tenant.Limits.{Limits}
-use Rattle.trace_types.specs.tenant.Rows.{receipts}
 use Rattle.tenant_ledger.specs.declared.book.room.Room.{Room}
 use Rattle.tenant_ledger.specs.Contents.{Contents}
 

@@ -8,7 +8,6 @@ use Rattle.trace_types.specs.declared.order.Order.TheVariants.{Before, Concurren
 use Rattle.trace_types.specs.clock.EventTree.{EventTree, Leaf}
 use Rattle.event_tree.specs.Comparison.{IsBelow}
 use Rattle.trace_query.specs.Compared.{is_below}
-use Rattle.trace_query.specs.declared.compare.Earlier.{Earlier}
 use Rattle.trace_query.specs.declared.compare.Earlier.TheVariants.{First, Second}
 use Rattle.trace_query.specs.Deciding.{IsDecidedBy, IsToldBy, DecideInOrder, point_in}
 use Rattle.trace_query.specs.Queries.{has_tree, tree_at, StandInOrder, trees_before, ListsExactly}

@@ -1,6 +1,6 @@
 -- What is to be kept of each message after a report is right.
 use Rattle.std.proofs.Common.{◌≡◌, ◌≢◌, ℕ, suc, ◌+◌, ◌≤◌, true, false, cond, eqb, [], ◌∷◌, ◌++◌, length, Option, Some, None, is_some, refl, sym, ap, ◌∙◌, subst, inl, inr, arith}
-use Rattle.tenant_ledger.proofs.Words.{false≢true, cases_Bool, cond_both, cond-true, cond-false, and_right, or_left, eq-eqb, nat_tests, sum_by-append, length-append, is_same-itself, is_same_iff, Text, is_same, History, sends, sends_message, receives, receives_message, names, is_sent, receipts, message_count, row_after, Row, Kind, Send, Recv, AllowsNamed, IsLegal, Contents, IsKept, IsMessage, Message, history_in, message_in, received_in, kind_of, name_of, IsFound, Deed, noted_after, last_in, receipts_in, last_receipt, receipt_before, earlier_of, value_with, value_with_some, count_with_some}
+use Rattle.tenant_ledger.proofs.Words.{false≢true, cases_Bool, cond_both, cond-true, cond-false, and_right, or_left, eq-eqb, nat_tests, sum_by-append, length-append, is_same-itself, is_same_iff, Text, is_same, History, sends, sends_message, receives, receives_message, names, is_sent, receipts, message_count, row_after, Row, Kind, Recv, AllowsNamed, IsLegal, Contents, IsKept, IsMessage, Message, history_in, message_in, received_in, kind_of, name_of, IsFound, Deed, noted_after, last_in, receipts_in, last_receipt, receipt_before, earlier_of, value_with, value_with_some, count_with_some}
 use Rattle.tenant_ledger.specs.declared.book.report.Deed.TheVariants as deed
 use Rattle.tenant_ledger.proofs.keeping.Known.{legal_history}
 

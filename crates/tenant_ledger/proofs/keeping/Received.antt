@@ -1,5 +1,5 @@
 -- The receipts that a book keeps tell which tasks received which messages.
-use Rattle.std.proofs.Common.{◌≡◌, ◌⊎◌, ℕ, suc, ◌<◌, ◌≤◌, ◌||◌, ◌&&◌, Bool, true, false, cond, eqb, List, [], ◌∷◌, length, Option, Some, None, is_some, unwrap_or, refl, sym, ap, ◌∙◌, subst, inl, inr, arith}
+use Rattle.std.proofs.Common.{◌≡◌, ◌⊎◌, ℕ, suc, ◌<◌, ◌≤◌, ◌||◌, ◌&&◌, Bool, true, false, cond, eqb, List, [], ◌∷◌, length, Option, Some, None, unwrap_or, refl, sym, ap, ◌∙◌, subst, inl, inr, arith}
 use Rattle.std.proofs.lemmas.Bool.{and_parts}
 use Rattle.std.specs.List.{list_any}
 use Rattle.std.proofs.lemmas.List.Folds.{list_any-append}
@@ -13,7 +13,7 @@ use Rattle.tenant_ledger.specs.declared.book.report.Deed.TheVariants as deed
 use Rattle.trace_types.proofs.Reachability.{newest-le}
 use Rattle.tenant_ledger.proofs.clock.Tasks.{unknown_has_no_event}
 use Rattle.tenant_ledger.proofs.keeping.Known.{legal_history, task_kept}
-use Rattle.tenant_ledger.proofs.keeping.Messages.{has_message, message_kept, unsent_has_no_receipt}
+use Rattle.tenant_ledger.proofs.keeping.Messages.{message_kept, unsent_has_no_receipt}
 use Rattle.tenant_ledger.proofs.keeping.Starts.{one_start, start_event-other, start_event-started, started_was_unknown}
 use Rattle.tenant_ledger.proofs.keeping.Walks.{IsNarrower, none_narrower}
 

@@ -1,7 +1,7 @@
 -- Which refusal is due, and what a request that is not refused steps to.
 use Rattle.std.proofs.Common.{◌≡◌, ℕ, suc, Bool, true, false, List, [], ◌∷◌, ◌++◌, length, Option, Some, None, Result, Ok, Err, IsTrue, refl, sym, ap, ◌∙◌, subst, inl, inr}
 use Rattle.std.specs.Result.{result_err}
-use Rattle.tenant_ledger.proofs.Words.{AllByRecursion, cases_Bool, cond-false, length-reverse, Limits, History, history_of, first_code, refusals, refusal_of, reported, Steps, step_unless, answer_to, accepted, row_after, with_row, may_lack_memory, Tenant, Answers, reply_to_view, is_report, step, Text, Code, Reply, Reported, Request, Row, Kind, Contents, Decides, IsNamed, refusals_of_report, history_in, tenant_of, fresh, after, AreLegal, Accepted, Refused}
+use Rattle.tenant_ledger.proofs.Words.{AllByRecursion, cases_Bool, cond-false, length-reverse, Limits, History, history_of, first_code, refusals, refusal_of, reported, Steps, step_unless, answer_to, accepted, row_after, with_row, may_lack_memory, Tenant, Answers, reply_to_view, is_report, step, Text, Code, Reply, Reported, Request, Row, Kind, Contents, Decides, IsNamed, refusals_of_report, history_in, tenant_of, fresh, after, AreLegal, Accepted}
 use Rattle.trace_types.specs.declared.request.Request.TheVariants as request
 use Rattle.trace_types.specs.text.Text.{CanBeWritten}
 use Rattle.trace_types.proofs.Interleaving.{after-push, limits-after}

@@ -1,6 +1,6 @@
 -- What is to be kept of each task after a report is right.
 use Rattle.std.proofs.Common.{◌≡◌, ℕ, suc, ◌+◌, true, false, cond, List, [], ◌∷◌, ◌++◌, length, slice_get, Option, Some, None, is_some, refl, sym, ap, ◌∙◌, subst, arith}
-use Rattle.tenant_ledger.proofs.Words.{false≢true, cond-true, cond-false, cond_both, or_left, or_right, and_right, nat_tests, sum_by-append, is_same-itself, is_same_iff, Text, is_same, root, History, start_event, starts, starts_task, ends, ends_task, joins, joins_task, names, is_known, is_ended, is_joined, state_of, task_count, tree_clock, id_of, id_kept, of_named, row_after, Id, Zero, Row, IsLive, AllowsNamed, Contents, IsKept, IsTask, history_in, task_in, ids_made, made_ids, acting_after, id_left, named_after, kind_of, name_of, IsFound, Deed, value_with, count_with, value_with_some, count_with_some, start_of, Task}
+use Rattle.tenant_ledger.proofs.Words.{cond-true, cond-false, cond_both, or_left, or_right, and_right, nat_tests, sum_by-append, is_same-itself, is_same_iff, Text, is_same, root, History, start_event, starts, starts_task, ends, ends_task, joins, joins_task, names, is_known, is_ended, is_joined, state_of, task_count, tree_clock, id_of, id_kept, of_named, row_after, Id, Zero, Row, IsLive, AllowsNamed, Contents, IsKept, IsTask, history_in, task_in, ids_made, made_ids, acting_after, id_left, named_after, kind_of, name_of, IsFound, Deed, value_with, count_with, value_with_some, count_with_some, start_of, Task}
 use Rattle.trace_types.specs.declared.task_state.TaskState.TheVariants.{Live, Joined}
 use Rattle.tenant_ledger.specs.declared.book.report.Deed.TheVariants as deed
 use Rattle.tenant_ledger.proofs.clock.Tasks.{last_event-acting, last_event-bystander, last_event-started, live_is_not_unknown, live_is_not_ended, unknown_has_no_event}

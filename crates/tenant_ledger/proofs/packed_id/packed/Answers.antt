@@ -1,4 +1,4 @@
-use Rattle.std.proofs.Common.{◌≡◌, ◌++◌, ◌∙◌, ap}
+use Rattle.std.proofs.Common.{◌++◌, ◌∙◌, ap}
 use Rattle.tenant_ledger.specs.Packing.{id_of_nodes, packed}
 use Rattle.tenant_ledger.proofs.Packing.{packed_is}
 use Rattle.tenant_ledger.proofs.packed_id.packed.Goals as goal
