@@ -58,6 +58,15 @@ export async function opening(tab) {
   assert.deepEqual(await tab.run(() => [page.isShown, page.verdict]), [true, "yes 9"]);
 }
 
+/** Whether the page asks for no export while it unpacks its own. It stands in the text of the page, for one that carries none. */
+async function isNobodyInvited() {
+  const invitation = document.getElementById("invitation");
+  invitation.hidden = false;
+  const opening = openCarried(1), { hidden } = invitation;
+  await opening;
+  return hidden;
+}
+
 /** Both versions are drawn. A header tells whose trace it is, and under which limits. */
 export async function versions(tab) {
   const whole = exportOf(LOST_UPDATE), behind = whole.indexOf(10) + 1;
@@ -67,6 +76,7 @@ export async function versions(tab) {
   for (const [bytes, told, ...about] of cases) {
     await opened(tab, pictureOf("version.html", bytes));
     assert.equal(await notice(tab), told);
+    assert.ok(await tab.run(isNobodyInvited), "a page that unpacks its export asks for another one");
     assert.deepEqual([await text(tab, "#about h2"), await text(tab, "#limits")], about);
   }
 }

@@ -115,6 +115,7 @@ async function unboundedSkew(tab) {
     return [Math.max(...bars), bars.length, view.width];
   });
   assert.ok(count > 0 && longest < width, `a bar of ${longest} in a picture of ${width}`);
+  assert.equal(await text(tab, "#title"), "Trace of store, seller, audit", "a system is no file of its first process");
   const carried = (await written(tab)).filter(([words]) => ["GET /sell", "200"].includes(words));
   const onLanes = await tab.run((places) => places.filter(([, , y]) => page.view.laneNear(y - 4, 6) >= 0), carried);
   assert.deepEqual([carried.length > 3, onLanes], [true, []], "what a message carries reads as if it stood in a lane");
@@ -238,6 +239,18 @@ export async function parts(tab) {
   assert.deepEqual([...await tab.run(() => [page.part, page.view.chosen]), await text(tab, "#title")], [3, 6, "2 races in shop.py"]);
   await opened(tab, path, "#part=9");
   assert.equal(await tab.run(() => page.part), 1);
+  await firstRaceOfALaterPart(tab, exports);
+}
+
+/** The page of a run in parts opens on its first race, also if the first part has none. An event of the address is of the first part. */
+async function firstRaceOfALaterPart(tab, exports) {
+  const sides = [side(4, "alice", "read", 11), side(7, "bob", "write", 12)].map((one) => ({ ...one, part: 3 }));
+  const list = file("later.races", rows([{ races: 1, possible: 0, unseen: [] }, race("stock", sides)]));
+  const path = pictureOf("later.html", "", ["--parts", file("run", exports.join("")), "--races", list]);
+  await opened(tab, path);
+  assert.deepEqual(await tab.run(() => [page.part, page.view.chosen, page.view.other]), [3, 4, 7]);
+  await opened(tab, path, "#event=2");
+  assert.deepEqual(await tab.run(() => [page.part, page.view.chosen]), [1, 2]);
 }
 
 /** A break is drawn where a task gets the lane of another one, and the line of one that did not end goes only a little on. */

@@ -23,6 +23,7 @@ const idOf = (name, part) => part === 1 ? name : `${name}-${part}`;
 async function openCarried(part, then = () => {}) {
   if (at(idOf("export", part)) === null || at(idOf("export", part)).textContent.trim() === "") return;
   tell("Unpacking the export.", " ");
+  at("invitation").hidden = true;
   const opening = page.opened, [bytes, labels] = [await carried(idOf("export", part)), await carried(idOf("labels", part))];
   const races = await carried("carriedRaces");
   if (opening !== page.opened) return;
@@ -44,9 +45,18 @@ async function openCarried(part, then = () => {}) {
   page.compare();
 }
 
-/** Opens the part that the address names, or the first one. */
+/** The first part in which the first race has a touch. */
+async function partOfFirstRace() {
+  const list = await carried("carriedRaces"), rows = list === null ? [] : new TextDecoder().decode(list).split("\n");
+  const first = rows.map((row) => raceOf(objectIn(row))).find((race) => race !== null);
+  return first === undefined ? 1 : Math.min(...first.sides.map(({ part }) => part));
+}
+
+/** Opens the part that the address names, else the one with the first race. */
 async function openFirst() {
-  const about = await carried("carriedAbout"), asked = wholeNumber(new URLSearchParams(location.hash.slice(1)).get("part") ?? "");
+  const about = await carried("carriedAbout"), words = new URLSearchParams(location.hash.slice(1));
   page.useAbout(about === null ? null : objectIn(new TextDecoder().decode(about)));
-  await openCarried(asked >= 1 && asked <= page.partCount ? asked : 1);
+  const isAsked = words.has("part") || words.has("event") || page.partCount === 1;
+  const part = isAsked ? wholeNumber(words.get("part") ?? "") : await partOfFirstRace();
+  await openCarried(part >= 1 && part <= page.partCount ? part : 1);
 }

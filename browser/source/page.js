@@ -1,7 +1,8 @@
 // The page around the picture
 
-/** The program that a journal is of: the file of its first line that has one. */
-function programOf(labels) {
+/** What a journal is of: its processes if there are several, else the file of its first line that has one. */
+function programOf(labels, processes) {
+  if (processes.length > 1) return processes.join(", ");
   for (const { lines } of labels.values()) for (const { source } of lines) if (source !== "") return fileName(source.slice(0, source.lastIndexOf(":")));
   return "";
 }
@@ -60,7 +61,7 @@ class Page extends Parting(Panes(Reaching(Racing(WithLabels(Search(Panel(Tips(Ch
     if (!this.isShown) return;
     this.useLayout(false);
     this.tellParts();
-    if (this.program === "") this.program = programOf(this.labels) || fileName(this.races[0]?.sides[0].file ?? "");
+    if (this.program === "") this.program = programOf(this.labels, this.processes.begun) || fileName(this.races[0]?.sides[0].file ?? "");
     this.describeRaces();
     this.tellHint();
     const words = new URLSearchParams(location.hash.slice(1)), asked = wholeNumber(words.get("part") ?? "1");
