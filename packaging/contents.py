@@ -5,6 +5,7 @@ from __future__ import annotations
 import hashlib
 import re
 import subprocess
+import sys
 from collections.abc import Iterator
 from pathlib import Path
 from typing import NamedTuple
@@ -61,3 +62,12 @@ def glibc() -> str:
     versions = re.findall(rb"GLIBC_(\d+)\.(\d+)", released_program())
     major, minor = max((int(major), int(minor)) for major, minor in versions)
     return f"{major}.{minor}"
+
+
+def folder_typed(words: list[str], what: str) -> Path:
+    """The folder that is named behind a command of this folder. Any other words end it with its usage."""
+    if len(words) != 2 or words[1].startswith("-"):
+        is_help = words[1:2] in (["--help"], ["-h"])
+        print(f"usage: {words[0]} FOLDER: writes the {what} there", file=sys.stdout if is_help else sys.stderr)
+        sys.exit(0 if is_help else 2)
+    return Path(words[1])

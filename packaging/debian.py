@@ -14,7 +14,7 @@ from pathlib import Path
 
 import completions
 import manual
-from contents import MAINTAINER, SUMMARY, TOP, files, glibc, released_program, version
+from contents import MAINTAINER, SUMMARY, TOP, files, folder_typed, glibc, released_program, version
 from words import of_the_command, of_the_program
 
 MODULES = "usr/lib/python3/dist-packages"
@@ -63,4 +63,4 @@ def write(target: Path) -> Path:
 
 
 if __name__ == "__main__":
-    print(write(Path(sys.argv[1])))
+    print(write(folder_typed(sys.argv, "package of Debian")))

@@ -13,7 +13,7 @@ import sys
 import zipfile
 from pathlib import Path
 
-from contents import ENTRY, MAINTAINER, PACKAGE, SUMMARY, TOP, File, files, glibc, version
+from contents import ENTRY, MAINTAINER, PACKAGE, SUMMARY, TOP, File, files, folder_typed, glibc, version
 
 DATE = (1980, 1, 1, 0, 0, 0)
 MODE, COMMAND_MODE = 0o100644, 0o100755
@@ -70,4 +70,4 @@ def write(target: Path) -> Path:
 
 
 if __name__ == "__main__":
-    print(write(Path(sys.argv[1])))
+    print(write(folder_typed(sys.argv, "wheel")))
