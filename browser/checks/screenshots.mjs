@@ -93,11 +93,18 @@ export async function screenshots(browser, folder) {
   return `in ${folder}`;
 }
 
-/** Five pages with races for somebody who has not seen one: what races, and where, has to be found in them. */
+/** A run in parts that a run left there: a list of its exports, each with its journal beside it, and its races. */
+function storedParts(name, program) {
+  const path = join(STORED, name);
+  return pictureOf(`${name}_shot.html`, "", ["--parts", path, "--races", `${path}.races`, "--program", program]);
+}
+
+/** Five pages with races for somebody who has not seen one: what races, and where, has to be found in them. No picture of the guide is
+ * among them, and all but one are of programs that ran. */
 export function trials(folder) {
   mkdirSync(folder, { recursive: true });
   const pages = { 1: stored("shop", "shop.py"), 2: stored("day", "system.toml"), 3: pictureOfAlike("trial_200.html", alike(200), ["--program", "server.py"]),
-    4: guide(RACES, "trial"), 5: parts() };
+    4: stored("basket", "basket.py"), 5: storedParts("tally", "tally.py") };
   for (const [name, path] of Object.entries(pages)) ran("cp", [path, join(folder, `${name}.html`)]);
   return `in ${folder}`;
 }
