@@ -144,6 +144,7 @@ class Pictures(unittest.TestCase):
             place = told.index(f"start process {process}")
             self.assertEqual(told[place : place + 3], [f"start process {process}", "write ledger", end])
         self.assertEqual(told[-1], {"end": True, "task": None})
+        self.assertEqual(carried(self.page, "carriedAbout"), [{"program": "system.toml"}])
 
 
 if __name__ == "__main__":

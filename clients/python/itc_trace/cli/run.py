@@ -363,7 +363,7 @@ def _keep(asked: Run, port: int, journal: str, work: str, races: Races) -> str |
     try:
         with open(export, "w", encoding="ascii", newline="\n") as output:
             snapshot(asked.tenant, port, output, asked.host)
-        words = ["--labels", journal, *_program(_name_of(asked))]
+        words = ["--labels", journal, *titled(_name_of(asked))]
         return asked.picture if asked.picture is not None and draw(export, words, asked.picture, races) else None
     except (OSError, Refused) as fault:  # The collector is gone, say.
         races.unseen.append(Unseen(Cause.COLLECTOR, f"the trace cannot be kept ({fault})"))
@@ -375,7 +375,8 @@ def _name_of(asked: Run) -> str:
     return asked.words[1] if asked.words[0] == "-m" else os.path.basename(asked.words[0])
 
 
-def _program(name: str) -> list[str]:
+def titled(name: str) -> list[str]:
+    """The words by which a picture is titled, if what ran has a name."""
     return [f"--program={name}"] if name else []
 
 
@@ -383,7 +384,7 @@ def draw_parts(parts: str | None, picture: str | None, races: Races, name: str) 
     """Draws all parts of a run in one page, whose exports are listed there. Gives where the picture is."""
     if parts is None or picture is None:
         return None
-    return picture if draw(os.devnull, ["--parts", parts, *_program(name)], picture, races) else None
+    return picture if draw(os.devnull, ["--parts", parts, *titled(name)], picture, races) else None
 
 
 def draw(export: str, about: list[str], picture: str, races: Races) -> bool:

@@ -43,7 +43,7 @@ from .ending import name_of
 from .launch import REFUSED
 from .process_sources import ProcessSources
 from .reporting import Wanted, deliver, is_at_terminal, next_step
-from .run import draw, draw_parts, environment_of_package
+from .run import draw, draw_parts, environment_of_package, titled
 from .saying import UNWRITTEN, say
 from .statuses import forget_status, keep_status, own_status
 from .system_file import Described, System
@@ -445,7 +445,7 @@ def run_system(
             exports = system.export or (None if system.picture is None else os.path.join(folder, "export"))
             races = _races_in_parts(system, looking, lines, folder, collectors.port_of(parts.number), exports)
             races.unseen = [*running.unseen, *races.unseen]
-            picture = draw_parts(exports, system.picture, races, "")
+            picture = draw_parts(exports, system.picture, races, system.name)
         else:
             races = races_seen(system.tenant, collectors.port, lines, HOST, looking, Bar(sys.stderr))
             races.unseen = [*running.unseen, *races.unseen]
@@ -480,7 +480,8 @@ def _keep(system: System, port: int, lines: list[str], folder: str, races: Races
         with open(export, "w", encoding="ascii", newline="\n") as output:
             snapshot(system.tenant, port, output)
         Path(f"{export}.journal").write_text("".join(lines), encoding="utf-8")
-        is_drawn = system.picture is not None and draw(export, ["--labels", f"{export}.journal"], system.picture, races)
+        about = ["--labels", f"{export}.journal", *titled(system.name)]
+        is_drawn = system.picture is not None and draw(export, about, system.picture, races)
         return system.picture if is_drawn else None
     except (OSError, Refused, NoJournal) as fault:
         races.unseen.append(Unseen(Cause.COLLECTOR, f"the trace cannot be kept ({fault})"))

@@ -43,6 +43,8 @@ class System:
     tenant: str = OWN_TENANT
     export: str | None = None
     picture: str | None = None
+    name: str = ""
+    """The name of the file that describes it, by which its picture is titled."""
 
     def in_order(self) -> Iterator[Described]:
         """The processes, each after those that it has to come after, and else as they stand in the file."""
@@ -70,7 +72,7 @@ def read_system(file: str) -> System:
     system = System(
         [_described(reading, name, one, folder) for name, one in processes.items()],
         reading.text(told, "tenant", "the file") or OWN_TENANT,
-        *(_path(folder, reading.text(told, key, "the file")) for key in ("export", "picture")),
+        *(_path(folder, reading.text(told, key, "the file")) for key in ("export", "picture")), os.path.basename(file),
     )
     reading.nothing_else(told, ("process", "tenant", "export", "picture"), "the file")
     if not TENANT.fullmatch(system.tenant):
