@@ -5,21 +5,25 @@ Usage: lost_update.py [fixed]
 
 import sys
 import threading
-from contextlib import nullcontext
 
 import itc_trace
 
 stock = itc_trace.shared({"left": 2}, "stock")
-lock = threading.Lock() if "fixed" in sys.argv else nullcontext()
+lock = threading.Lock()
 
 
 def sell() -> None:
+    left = stock["left"]
+    stock["left"] = left - 1
+
+
+def sell_in_turn() -> None:
     with lock:
-        left = stock["left"]
-        stock["left"] = left - 1
+        sell()
 
 
-threads = [threading.Thread(target=sell, name=name) for name in ("alice", "bob")]
+target = sell_in_turn if "fixed" in sys.argv else sell
+threads = [threading.Thread(target=target, name=name) for name in ("alice", "bob")]
 for thread in threads:
     thread.start()
 for thread in threads:
