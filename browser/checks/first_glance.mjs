@@ -113,6 +113,30 @@ export async function firstRace(tab) {
 
 const SIZES = [[1280, 800], [900, 600]];
 
+/** The lines of edges that go through the mark of a chosen event and end at another one: each as where it begins and ends. */
+function edgesOverTheRace() {
+  const { view } = page, { layout, context } = view, lines = [];
+  let last = null;
+  context.moveTo = (...place) => {
+    last = place;
+  };
+  context.lineTo = (...place) => {
+    lines.push([last, place]);
+    last = place;
+  };
+  view.findRange();
+  view.drawEdges();
+  delete context.moveTo;
+  delete context.lineTo;
+  const distance = ([x, y], [[fromX, fromY], [toX, toY]]) => {
+    const byX = toX - fromX, byY = toY - fromY, part = ((x - fromX) * byX + (y - fromY) * byY) / (byX * byX + byY * byY || 1);
+    return Math.hypot(x - fromX - byX * Math.max(0, Math.min(1, part)), y - fromY - byY * Math.max(0, Math.min(1, part)));
+  };
+  const places = [view.chosen, view.other].map((event) => [view.x(layout.times[event]), view.y(layout.lane(event))]);
+  const isEnd = ([x, y], line) => line.some(([endX, endY]) => Math.hypot(endX - x, endY - y) < view.radius + 3);
+  return lines.filter((line) => places.some((place) => distance(place, line) < view.radius && !isEnd(place, line)));
+}
+
 /** Neither the map nor the line that tells how to move lies over an event of the race, whatever the size of the window. */
 export async function uncovered(tab, phone) {
   const path = join(TOP, "browser/checks/stored/day"), words = ["--labels", `${path}.journal`, "--races", `${path}.races`];
@@ -122,6 +146,7 @@ export async function uncovered(tab, phone) {
     await opened(tab, drawn);
     assert.deepEqual(await tab.run(inView), { all: true, isNear: true, folds: [], race: true, own: true });
     assert.deepEqual(await tab.run(() => ["map", "hint"].map((id) => document.getElementById(id).hidden)), [false, false]);
+    assert.deepEqual(await tab.run(edgesOverTheRace), [], `an edge goes through a mark of the race at ${width} by ${height}`);
     for (const event of await tab.run(() => [page.view.chosen, page.view.other])) {
       const over = await tab.run((x, y) => document.elementFromPoint(x, y)?.closest("#map, #hint, #legend")?.id ?? "", ...await placeOf(tab, event));
       assert.equal(over, "", `event ${event} at ${width} by ${height}`);

@@ -90,7 +90,7 @@ export function spoiltPictures() {
     ["\n", 1, "1"], [lost.replace(":2}", ":3}"), 1, "2"]];
   for (const [input, line, reason] of cases) {
     const { status, stdout, stderr } = pictureRun(input);
-    const told = `picture: no export: line ${line}, reason ${reason}: ${words.get(reason)}\n`;
+    const told = `picture: standard input is no export: line ${line}, reason ${reason}: ${words.get(reason)}\n`;
     assert.deepEqual([status, stdout.length, stderr.toString()], [2, 0, told]);
   }
   refusals(lost);
@@ -109,7 +109,7 @@ function refusals(lost) {
   const races = [["", "is empty"], [race({}), "line 1 breaks off"], [`${head(1)}\n`, "it has 0 of 1 races"], [`${head(1)}\n${race({})}\n${race({})}\n`, "it has 2 of 1"],
     [`${race({ times: "1" })}\n`, "line 1 is no race"], [`${race({ sides: [side(4)] })}\n`, "line 1"], [`${race({ sides: [side(4), side(12)] })}\n`, "line 1"],
     [`${race({ sides: [side(4), { ...side(7), part: 2 }] })}\n`, "line 1"], [`${head(0)}\n{}\n`, "line 2"], ["null\n", "line 1"]];
-  const cases = [["", [], "standard input is empty"], [`${lost.split("\n")[0]}\n`, [], "the export has no event"],
+  const cases = [["", [], "standard input is empty"], [`${lost.split("\n")[0]}\n`, [], "standard input has no event"],
     ...journals.map(([text, told], place) => [lost, ["--labels", file(`refused_${place}.journal`, text)], told]),
     ...races.map(([text, told], place) => [lost, ["--races", file(`refused_${place}.races`, text)], told]),
     [lost, ["--labels", "/nothing/there"], "cannot be read"], ["", ["--parts", file("no.parts", "")], "it lists no parts"]];

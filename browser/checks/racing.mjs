@@ -78,6 +78,7 @@ export async function deadlocks(tab) {
   assert.equal(await tab.run(() => page.labelInPicture(7)), "holds other, wants one");
   const listed = await tab.run(() => document.querySelector("#races li button .quiet").textContent);
   assert.equal(listed, "possible deadlock; alice, bob; once");
+  assert.match(await text(tab, "#legend"), /chosen ?race or deadlock/);
   await tab.key("n");
   assert.deepEqual([await chosen(tab), await text(tab, "#reason")], ["Race on stock", "Nothing orders them."]);
   await tab.key("p");

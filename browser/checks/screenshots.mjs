@@ -54,16 +54,10 @@ function stored(name, program) {
   return pictureOf(`${name}_shot.html`, readFileSync(`${path}.export`), ["--labels", `${path}.journal`, "--races", `${path}.races`, "--program", program]);
 }
 
-/** A run in three parts, with a race in the first one, and one from there to the last. */
-function parts() {
-  const names = [LOST_UPDATE, WITH_LOCK, LOST_UPDATE].map((reports, place) => {
-    file(`shot.part-${place + 1}`, exportOf(reports));
-    file(`shot.part-${place + 1}.journal`, rows([{ event: 1, task: "root", thing: null, kind: "local", file: EXAMPLE, line: 1, label: "begin" }]));
-    return `shot.part-${place + 1}\n`;
-  });
-  const across = race("stock['left']", [touch(4, "alice", ...READ), { ...touch(6, "alice", ...WRITE), part: 3 }]);
-  const list = file("shot_parts.races", rows([head(2), RACES[0], across]));
-  return pictureOf("parts_shot.html", "", ["--parts", file("shot", names.join("")), "--races", list, "--program", "lost_update.py"]);
+/** A run in parts that a run left there: a list of its exports, each with its journal beside it, and its races. */
+function storedParts(name, program) {
+  const path = join(STORED, name);
+  return pictureOf(`${name}_shot.html`, "", ["--parts", path, "--races", `${path}.races`, "--program", program]);
 }
 
 /** Each trace, what is chosen in it, in which sizes, and what is done first. */
@@ -72,7 +66,7 @@ function traces() {
   return [["race", guide(), "", [...ALL, PHONE, README]], ["no_race", guide([], "none"), "", ALL], ["one_process", stored("shop", "shop.py"), "", ALL],
     ["deadlock", stored("deadlock", "transfer.py"), "", ALL],
     ["three_processes", stored("day", "system.toml"), "", ALL], ["tasks_200", many(200), "", ALL], ["tasks_2000", many(2000), "", ALL],
-    ["events_16384", pictureOf("greatest_shot.html", exportOf(greatest(seeded(3)))), "", ALL], ["parts", parts(), "", ALL],
+    ["events_16384", pictureOf("greatest_shot.html", exportOf(greatest(seeded(3)))), "", ALL], ["parts", storedParts("tally", "tally.py"), "", ALL],
     ["by_clock", stored("day", "system.toml"), "#time=clock", ALL],
     ["search", guide(RACES, "search"), "", ALL, (tab) => tab.run(() => {
       document.getElementById("search").value = "nothing like it";
@@ -91,12 +85,6 @@ export async function screenshots(browser, folder) {
     for (const size of sizes) await shot(browser, path, hash, size, join(folder, `${name}_${size[0]}.png`), before);
   }
   return `in ${folder}`;
-}
-
-/** A run in parts that a run left there: a list of its exports, each with its journal beside it, and its races. */
-function storedParts(name, program) {
-  const path = join(STORED, name);
-  return pictureOf(`${name}_shot.html`, "", ["--parts", path, "--races", `${path}.races`, "--program", program]);
 }
 
 /** Five pages with races for somebody who has not seen one: what races, and where, has to be found in them. No picture of the guide is

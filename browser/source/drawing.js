@@ -1,6 +1,6 @@
 // Drawing what is in view
 
-const OPEN_END = 44, SMALL_MARK = 2.6;
+const OPEN_END = 44, SMALL_MARK = 2.6, ROOM_OF_RING = 14;
 
 /** Draws lanes, edges and marks. */
 const Drawing = (Base) => class extends Base {
@@ -108,7 +108,22 @@ const Drawing = (Base) => class extends Base {
     const { layout, context } = this;
     if (layout.edgeKinds[edge] !== kind || this.edgeStanding(edge) !== standing) return;
     context.moveTo(this.x(layout.edgeFrom[edge]), this.y(layout.edgeFromLane[edge]));
+    const bend = this.isNear ? this.bendOf(edge) : null;
+    if (bend !== null) context.lineTo(...bend);
     context.lineTo(this.x(layout.edgeTo[edge]), this.y(layout.edgeToLane[edge]));
+  }
+
+  /** Where an edge goes around a chosen event that is neither of its own, or null: through its mark, it would look like an edge of it. */
+  bendOf(edge) {
+    const { layout } = this, fromLane = layout.edgeFromLane[edge], toLane = layout.edgeToLane[edge];
+    const fromX = this.x(layout.edgeFrom[edge]), toX = this.x(layout.edgeTo[edge]), aside = this.radius + ROOM_OF_RING;
+    for (const event of [this.chosen, this.other]) {
+      const lane = event === 0 ? -1 : layout.lane(event);
+      if (lane <= Math.min(fromLane, toLane) || lane >= Math.max(fromLane, toLane)) continue;
+      const x = this.x(layout.times[event]), crossing = fromX + (toX - fromX) * (lane - fromLane) / (toLane - fromLane);
+      if (Math.abs(crossing - x) < aside) return [crossing < x ? x - aside : x + aside, this.y(lane)];
+    }
+    return null;
   }
 
   drawHeads(standing, step) {
@@ -125,7 +140,8 @@ const Drawing = (Base) => class extends Base {
   addHead(edge) {
     const { layout, context } = this;
     const x = this.x(layout.edgeTo[edge]), y = this.y(layout.edgeToLane[edge]);
-    const byX = x - this.x(layout.edgeFrom[edge]), byY = y - this.y(layout.edgeFromLane[edge]);
+    const [fromX, fromY] = this.bendOf(edge) ?? [this.x(layout.edgeFrom[edge]), this.y(layout.edgeFromLane[edge])];
+    const byX = x - fromX, byY = y - fromY;
     const length = Math.hypot(byX, byY), aside = this.radius + 2;
     if (length < aside + 8) return;
     const alongX = byX / length, alongY = byY / length, tipX = x - alongX * aside, tipY = y - alongY * aside;

@@ -239,7 +239,7 @@ const Panel = (Base) => class extends Base {
   describeLegend() {
     const { view } = this, items = !this.isShown ? [] : view.chosen === 0 ? KINDS.map((kind, place) => [kindIcon(place), kind])
       : STANDINGS.map(([standing, words]) => [standingIcon(standing), words]);
-    if (this.isShown && this.races.length > 0) items.push([raceIcon(), "race"]);
+    if (this.isShown && this.races.length > 0) items.push([raceIcon(), wordOfRaces(this.races)]);
     if (view.chains?.length > 0) items.push([chainIcon(), view.other > 0 && view.chains.length > 1 ? "last and next with other tasks" : "what orders them"]);
     at("legend").replaceChildren(...items.map(([mark, words]) => element("li", {}, mark, words)));
   }

@@ -16,8 +16,8 @@ const Parting = (Base) => class extends Base {
   tellParts() {
     const { part, partCount, races } = this;
     for (const option of at("part").options) {
-      const own = Number(option.value), count = races.filter(({ sides }) => sides.some((side) => side.part === own)).length;
-      option.textContent = `Part ${own}/${partCount}${count > 0 ? `, ${counted(count, "race")}` : ""}`;
+      const own = Number(option.value), here = races.filter(({ sides }) => sides.some((side) => side.part === own));
+      option.textContent = `Part ${own}/${partCount}${here.length > 0 ? `, ${counted(here.length, wordOfRaces(here))}` : ""}`;
     }
     at("part").value = String(part);
     at("partBefore").disabled = part === 1;

@@ -35,6 +35,9 @@ function raceOf(row) {
 /** What it is, in words. */
 const nameOfRace = ({ isDeadlock, isPossible }) => `${isPossible ? "possible " : ""}${isDeadlock ? "deadlock" : "race"}`;
 
+/** What the marked events are of. */
+const wordOfRaces = (races) => races.every(({ isDeadlock }) => !isDeadlock) ? "race" : races.every(({ isDeadlock }) => isDeadlock) ? "deadlock" : "race or deadlock";
+
 const capital = (words) => `${words.slice(0, 1).toUpperCase()}${words.slice(1)}`;
 
 /** What the first line of a list of races says of all of it, or null: how many there are, and why more may not have been seen. */
