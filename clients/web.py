@@ -9,6 +9,7 @@ Usage: clients/web.py FOLDER LANGUAGE.., with the built programs in FOLDER. The 
 
 from __future__ import annotations
 
+import json
 import os
 import subprocess
 import sys
@@ -20,6 +21,8 @@ from wrappers import CLIENTS, MOST_SECONDS, NO_RACE, RACES, Check, Programs, Wro
 WEB_SOURCES = {
     "java": CLIENTS / "java/examples/WebPrograms.java", "rust": CLIENTS / "rust/web_programs.rs", "go": CLIENTS / "go/wrappers/web.go",
 }
+WITH_WORDS = ("go", "python")
+"""The languages whose journals say what a message of HTTP carries."""
 TRACED, PLAIN, ASYNC = "traced", "plain", "async"
 PYTHON_SERVER = """import itc_trace, os, socket, sys
 from wsgiref.simple_server import WSGIRequestHandler, make_server
@@ -162,6 +165,19 @@ def check_two_requests(web: Web, server: str) -> None:
     check(ran, RACES, web.lines("python", "first_client", "two_requests") | web.lines(server, "web_server", "two_requests"), set())
 
 
+def check_words(web: Web, language: str) -> None:
+    """The journal says of each message what it carries: the request without its query, and the status."""
+    with tempfile.TemporaryDirectory() as name:
+        folder, port = Path(name), str(Path(name) / "port")
+        ran = run_system(
+            folder, ["--export", str(folder / "trace")], server=web.words(language, "web_server", port, "1", TRACED),
+            client=web.words(language, "web_client", port, TRACED))
+        rows = [json.loads(line) for line in (folder / "trace.journal").read_text().splitlines()]
+    told = {row["label"] for row in rows if row.get("kind") in ("send", "recv")}
+    if not told >= {"send GET /", "receive GET /", "send 200", "receive 200"}:
+        raise Wrong(f"the journal says {sorted(told)}\n{ran.stdout}{ran.stderr}")
+
+
 def check_untraced(web: Web, language: str) -> None:
     """Without a trace, client and server work as they do by themselves."""
     with tempfile.TemporaryDirectory() as name:
@@ -180,6 +196,8 @@ def checks_of(web: Web) -> list[Check]:
     checks: list[Check] = []
     for client in web.languages:
         checks.append(Check([f"{client}: untraced"], check_untraced, (web, client)))
+        if client in WITH_WORDS:
+            checks.append(Check([f"{client}: words of messages"], check_words, (web, client)))
         checks.append(Check([f"{client}: odd heads"], check_odd_heads, (web, client)))
         if client != "python":  # Its requests are of the thread that answers them.
             checks.append(Check([f"{client}: two requests"], check_two_requests, (web, client)))

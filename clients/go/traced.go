@@ -139,12 +139,12 @@ func Outgoing() string {
 	if !isOn() {
 		return ""
 	}
-	return outgoing(own(goroutine), siteAt(counter))
+	return outgoing(own(goroutine), "to another process", siteAt(counter))
 }
 
-func outgoing(of *task, at *site) string {
+func outgoing(of *task, carried string, at *site) string {
 	named := tracing.outside()
-	if !tracing.outgoing(of, named, at) {
+	if !tracing.outgoing(of, named, carried, at) {
 		return ""
 	}
 	return named
@@ -155,7 +155,7 @@ func outgoing(of *task, at *site) string {
 //go:noinline
 func Incoming(message string) {
 	if goroutine, counter := here(); isOn() && isName(message) {
-		tracing.incoming(own(goroutine), message, siteAt(counter))
+		tracing.incoming(own(goroutine), message, "receive from another process", siteAt(counter))
 	}
 }
 

@@ -413,11 +413,11 @@ func (t *tracer) join(by, child *task, at *site) {
 }
 
 // outgoing sends a message to another process, of a name that was reserved. It returns once the collector has it, so that no receipt can
-// come before. It tells whether the collector has it.
-func (t *tracer) outgoing(of *task, named string, at *site) bool {
+// come before. The journal says what it carries. It tells whether the collector has it.
+func (t *tracer) outgoing(of *task, named, carried string, at *site) bool {
 	answered := make(chan struct{})
 	of.mutex.Lock()
-	of.report(&report{kind: "send", name: named, site: at, label: "send to another process", answered: answered})
+	of.report(&report{kind: "send", name: named, site: at, label: "send " + carried, answered: answered})
 	of.mutex.Unlock()
 	return t.isAnswered(answered) && !t.isOver.Load()
 }
@@ -441,10 +441,10 @@ func (t *tracer) outside() string {
 	return t.prefix + "out_"[:min(len("out_"), mostName-len(t.prefix)-len(number))] + number
 }
 
-func (t *tracer) incoming(of *task, named string, at *site) {
+func (t *tracer) incoming(of *task, named, label string, at *site) {
 	of.mutex.Lock()
 	defer of.mutex.Unlock()
-	of.report(&report{kind: "recv", name: named, site: at, label: "receive from another process", mayBeRefused: true})
+	of.report(&report{kind: "recv", name: named, site: at, label: label, mayBeRefused: true})
 }
 
 // holdBack has the program wait if it notes faster than the collector takes.

@@ -5,6 +5,7 @@ import (
 	"io"
 	"net"
 	"net/http"
+	"strconv"
 )
 
 const (
@@ -12,6 +13,10 @@ const (
 	Header = "Itc-Trace"
 	// BodyHeader names the message that is sent behind the body of a response, if its head has gone out before.
 	BodyHeader = "Itc-Trace-Body"
+	// ofBody is what the journal says of the message behind a body.
+	ofBody = "the body"
+	// mostWords is how many bytes of a request the journal has at most.
+	mostWords = 80
 	// mostHeld is how many bytes of a body net/http keeps at least before the head of the response goes out.
 	mostHeld = 2048
 )
@@ -42,10 +47,24 @@ func serve(handler http.Handler, response http.ResponseWriter, request *http.Req
 		return
 	}
 	by := own(numberNow())
-	tracing.incoming(by, message, nowhere)
-	answering := &answering{ResponseWriter: response, by: by}
+	tracing.incoming(by, message, "receive "+inWords(request), nowhere)
+	answering := &answering{ResponseWriter: response, by: by, status: http.StatusOK}
 	handler.ServeHTTP(answering.asGiven(), request)
 	answering.end()
+}
+
+// inWords is what a request asks, without its query, which may have what nobody else is to read.
+func inWords(request *http.Request) string {
+	method := request.Method
+	if method == "" {
+		method = http.MethodGet
+	}
+	path := request.URL.EscapedPath()
+	if path == "" {
+		path = "/"
+	}
+	words := method + " " + path
+	return words[:min(len(words), mostWords)]
 }
 
 // answering sends a message right before the head of the response goes out, or once the handler is done if it has not gone out. In the
@@ -57,6 +76,7 @@ type answering struct {
 	isBegun, isSent  bool
 	isTaken, hasBody bool
 	written          int
+	status           int
 }
 
 // begin names the message in the head, which is not changed any more.
@@ -78,7 +98,7 @@ func (a *answering) send() {
 	a.begin()
 	if !a.isSent && !a.isTaken {
 		a.isSent = true
-		tracing.outgoing(a.by, a.head, nowhere)
+		tracing.outgoing(a.by, a.head, strconv.Itoa(a.status), nowhere)
 	}
 }
 
@@ -89,7 +109,7 @@ func (a *answering) end() {
 	case !a.isSent:
 		a.send()
 	default:
-		tracing.outgoing(a.by, a.body, nowhere)
+		tracing.outgoing(a.by, a.body, ofBody, nowhere)
 		if !a.hasBody {
 			a.Header().Set(http.TrailerPrefix+BodyHeader, a.body)
 		}
@@ -99,6 +119,7 @@ func (a *answering) end() {
 // WriteHeader writes the head of the response. One before the last has none of the messages.
 func (a *answering) WriteHeader(status int) {
 	if status >= http.StatusOK || status == http.StatusSwitchingProtocols {
+		a.status = status
 		a.begin()
 	}
 	a.ResponseWriter.WriteHeader(status)
@@ -287,13 +308,13 @@ func (t Transport) RoundTrip(request *http.Request) (*http.Response, error) {
 	if !isOn() {
 		return inner.RoundTrip(request)
 	}
-	if message := outgoing(own(numberNow()), siteAbove()); message != "" {
+	if message := outgoing(own(numberNow()), inWords(request), siteAbove()); message != "" {
 		request = request.Clone(request.Context())
 		request.Header.Set(Header, message)
 	}
 	response, err := inner.RoundTrip(request)
 	if err == nil {
-		Incoming(response.Header.Get(Header))
+		receive(response.Header.Get(Header), strconv.Itoa(response.StatusCode))
 		if response.Body != nil && response.StatusCode != http.StatusSwitchingProtocols {
 			response.Body = &reader{ReadCloser: response.Body, response: response}
 		}
@@ -316,7 +337,14 @@ func (r *reader) Read(into []byte) (int, error) {
 		if message == "" {
 			message = r.response.Header.Get(BodyHeader)
 		}
-		Incoming(message)
+		receive(message, ofBody)
 	}
 	return count, err
+}
+
+// receive takes a message of a response, which carries this.
+func receive(message, carried string) {
+	if isOn() && isName(message) {
+		tracing.incoming(own(numberNow()), message, "receive "+carried, siteAbove())
+	}
 }
