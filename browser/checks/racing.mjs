@@ -83,6 +83,8 @@ export async function deadlocks(tab) {
   assert.deepEqual([await chosen(tab), await text(tab, "#reason")], ["Race on stock", "Nothing orders them."]);
   await tab.key("p");
   assert.equal(await chosen(tab), "Possible deadlock on one and other");
+  await tab.run((list) => page.openRaces(list), rows([{ ...DEADLOCKS[0], kind: "deadlock", possible: false, confirmed: true }, RACES[0]]));
+  assert.equal(await text(tab, "#races h2"), "1 race, 1 confirmed deadlock");
   const spoilt = [{ ...DEADLOCKS[0], sides: DEADLOCKS[0].sides.slice(1) }, { ...DEADLOCKS[0], sides: [] }, { ...RACES[0], sides: DEADLOCKS[0].sides },
     { ...DEADLOCKS[0], sides: Array(17).fill(DEADLOCKS[0].sides).flat() }];
   for (const one of spoilt) {

@@ -29,11 +29,14 @@ function raceOf(row) {
   const sides = row.sides.map(sideOf), areTexts = [row.thing, row.made, row.why].every((text) => typeof text === "string");
   if (sides.includes(null) || !areTexts || !Number.isInteger(row.times)) return null;
   const [thing, made, why] = [row.thing, row.made, row.why].map(named), { times } = row, pair = [sides[0], sides.at(-1)];
-  return { thing, made, why, times, isPossible: row.possible === true, isDeadlock, sides, pair };
+  return { thing, made, why, times, isPossible: row.possible === true, isConfirmed: row.confirmed === true, isDeadlock, sides, pair };
 }
 
+/** How sure it is, in words: whether it was possible only, and whether a further run has met it then. */
+const stateOfRace = ({ isPossible, isConfirmed }) => isPossible ? "possible" : isConfirmed ? "confirmed" : "";
+
 /** What it is, in words. */
-const nameOfRace = ({ isDeadlock, isPossible }) => `${isPossible ? "possible " : ""}${isDeadlock ? "deadlock" : "race"}`;
+const nameOfRace = (race) => `${stateOfRace(race)} ${race.isDeadlock ? "deadlock" : "race"}`.trim();
 
 /** What the marked events are of. */
 const wordOfRaces = (races) => races.every(({ isDeadlock }) => !isDeadlock) ? "race" : races.every(({ isDeadlock }) => isDeadlock) ? "deadlock" : "race or deadlock";

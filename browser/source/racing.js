@@ -71,11 +71,11 @@ const Racing = (Base) => class extends Base {
 
   /** How many races there are, in words: nothing is said of a trace of which nobody has looked for races. */
   racesInWords() {
-    const { races, headOfRaces: head } = this, names = ["race", "deadlock", "possible race", "possible deadlock"];
-    const counts = names.flatMap((name) => {
-      const count = races.filter((race) => nameOfRace(race) === name).length;
+    const { races, headOfRaces: head } = this, states = ["", "confirmed", "possible"];
+    const counts = states.flatMap((state) => ["race", "deadlock"].flatMap((kind) => {
+      const name = `${state} ${kind}`.trim(), count = races.filter((race) => nameOfRace(race) === name).length;
       return count > 0 ? [counted(count, name)] : [];
-    }).join(", ");
+    })).join(", ");
     if (counts !== "" || head === null) return counts;
     return head.unseen.length > 0 ? "Incomplete, no race seen" : "No race in this run";
   }
@@ -103,7 +103,7 @@ const Racing = (Base) => class extends Base {
     const where = this.partCount > 1 ? `; part ${[...parts].join(" and ")}` : "";
     const line = !race.isDeadlock && isOneLine(sides) ? `${one.kind}, ${other.kind} ${placeIn(one)}` : sides.map((side) => `${side.kind} ${placeIn({ ...side, function: "" })}`).join(", ");
     const button = element("button", { type: "button" }, element("strong", {}, race.thing), element("span", {}, line),
-      element("span", { className: "quiet" }, `${race.isDeadlock ? `${nameOfRace(race)}; ` : race.isPossible ? "possible; " : ""}${tasks.join(", ")}; ${timesOf(race)}${where}`));
+      element("span", { className: "quiet" }, `${race.isDeadlock ? `${nameOfRace(race)}; ` : stateOfRace(race) ? `${stateOfRace(race)}; ` : ""}${tasks.join(", ")}; ${timesOf(race)}${where}`));
     button.dataset.race = place;
     button.setAttribute("aria-pressed", "false");
     return button;

@@ -24,7 +24,7 @@ NEEDED: dict[str, tuple[dict[str, type], tuple[str, ...]]] = {
     "result": (
         {
             "ruleId": str, "ruleIndex": int, "level": str, "message": dict, "locations": list, "relatedLocations": list,
-            "partialFingerprints": dict, "occurrenceCount": int, "suppressions": list,
+            "partialFingerprints": dict, "occurrenceCount": int, "suppressions": list, "properties": dict,
         },
         ("message",),
     ),

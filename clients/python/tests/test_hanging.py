@@ -2,6 +2,7 @@
 
 from __future__ import annotations
 
+import json
 import os
 import re
 import signal
@@ -230,9 +231,33 @@ class Confirmed(ProgramCase):
         for _ in range(PROGRAM_RUNS):
             ran = run_traced("--confirm", self.program(LUCKY))
             self.assertEqual(ran.returncode, Verdict.RACES, ran.stderr)
-            self.assertIn("itc_trace: deadlock on one_lock and other_lock", ran.stderr)
+            self.assertIn("itc_trace: confirmed deadlock on one_lock and other_lock", ran.stderr)
             self.assertIn("each waits for the next one", ran.stderr)
             self.assertRegex(ran.stderr.splitlines()[-1], "no race in this run; 1 deadlock: ")
+
+    def test_several_runs_are_followed_by_one_that_tries(self) -> None:
+        ran = run_traced("--confirm", "--runs", "2", "--no-shake", self.program(LUCKY))
+        self.assertEqual(ran.returncode, Verdict.RACES, ran.stderr)
+        self.assertEqual(ran.stderr.count("itc_trace: --confirm runs the program again"), 1, ran.stderr)
+        self.assertIn("itc_trace: confirmed deadlock on one_lock and other_lock", ran.stderr)
+        self.assertEqual(ran.stderr.splitlines()[-1], "itc_trace: no race in 2 runs; 1 deadlock")
+
+    def test_each_format_says_that_it_is_confirmed(self) -> None:
+        program = self.program(LUCKY)
+        drawing, *files = (os.path.join(os.path.dirname(program), name) for name in ("draw", "found.json", "found.sarif", "rows"))
+        Path(drawing).write_text('#!/bin/sh\nfor word; do last=$word; done\ncat "$last"\n')  # The rows are its last word.
+        os.chmod(drawing, 0o700)
+        ran = run_traced(
+            "--confirm", "--json", files[0], "--sarif", files[1], "--picture", files[2], "--github", program, ITC_PICTURE=drawing,
+        )
+        self.assertEqual(ran.returncode, Verdict.RACES, ran.stderr)
+        told, log, rows = (Path(file).read_text(encoding="utf-8") for file in files)
+        finding, = json.loads(told)["findings"]
+        self.assertEqual((finding["kind"], finding["possible"], finding["confirmed"]), ("deadlock", False, True))
+        result, = json.loads(log)["runs"][0]["results"]
+        self.assertEqual((result["ruleId"], result["level"], result["properties"]), ("deadlock", "error", {"confirmed": True}))
+        self.assertRegex(ran.stdout, r"\A::error file=[^,]+,line=5,title=itc-trace \w+::confirmed deadlock on one_lock")
+        self.assertEqual([json.loads(row).get("confirmed") for row in rows.splitlines()], [None, True])
 
     def test_without_it_the_deadlock_is_possible(self) -> None:
         ran = run_traced(self.program(LUCKY))

@@ -206,10 +206,10 @@ class Shares(unittest.TestCase):
     def test_at_most_so_many_entries_are_shown_and_all_are_counted(self) -> None:
         report = stored()
         told = text(report, Shown(most=1))
-        self.assertIn("itc_trace: and 2 more, which --max 1 leaves out\n", told)
+        self.assertIn("itc_trace: and 3 more, which --max 1 leaves out\n", told)
         self.assertEqual(told.count("race on "), 1)
         self.assertTrue(told.endswith(report.summary))
-        self.assertNotIn("leaves out", text(report, Shown(most=3)))
+        self.assertNotIn("leaves out", text(report, Shown(most=4)))
 
 
 if __name__ == "__main__":

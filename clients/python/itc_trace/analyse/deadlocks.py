@@ -81,6 +81,8 @@ class Deadlock:
     times: int = 1
     is_possible: bool = True
     """Whether it was found by the order of locks, and has not been."""
+    is_confirmed: bool = False
+    """Whether it was possible only, and a further run has met it."""
 
     @property
     def key(self) -> object:
@@ -104,7 +106,12 @@ class Deadlock:
             POSSIBLE_DEADLOCK if self.is_possible else DEADLOCK, self.thing,
             tuple(_found_side(one, kind, at, kept) for one in self.steps for kind, at in one.lines),
             UNORDERED if self.is_possible else CLOSED, self.times, f"made at {made}" if made else "", self.is_possible,
+            self.is_confirmed,
         )
+
+    def confirm(self) -> None:
+        """A further run has met it."""
+        self.is_possible, self.is_confirmed = False, True
 
     def __str__(self) -> str:
         return "\n    ".join(self.finding().lines())

@@ -9,7 +9,7 @@ from __future__ import annotations
 
 from bisect import bisect_left, bisect_right
 from collections import defaultdict
-from collections.abc import Iterable, Iterator
+from collections.abc import Collection, Iterable, Iterator
 from dataclasses import dataclass, field
 from functools import cached_property
 from itertools import islice
@@ -133,6 +133,19 @@ class Races:
     def found_ones(self) -> list[Race | Deadlock]:
         """Those that count, and behind them those that are possible only."""
         return [*self.races, *self.deadlocks, *self.possible, *self.possible_deadlocks]
+
+    @property
+    def tried(self) -> list[Deadlock]:
+        """The deadlocks that a further run may bring about."""
+        return self.possible_deadlocks
+
+    def confirm(self, keys: Collection[object]) -> None:
+        """A further run has met the possible deadlocks of these keys."""
+        met = [one for one in self.possible_deadlocks if one.key in keys]
+        for deadlock in met:
+            deadlock.confirm()
+        self.deadlocks += met
+        self.possible_deadlocks = [one for one in self.possible_deadlocks if one not in met]
 
     def found(self) -> str:
         """How many races there are, in few words."""

@@ -12,12 +12,13 @@ import random
 import subprocess
 import sys
 import tempfile
-from collections.abc import Iterable, Iterator
+from collections.abc import Collection, Iterable, Iterator
 from dataclasses import dataclass, field, replace
 from pathlib import Path
-from typing import IO
+from typing import IO, Protocol
 
 from ..analyse.benign import Looking
+from ..analyse.deadlocks import Deadlock
 from ..analyse.kept_sources import add_sources
 from ..record.collector import HOST, find_in_repository
 from ..record.dividing import LEAVE
@@ -180,8 +181,6 @@ def _run_once(asked: Run, seed: int | None) -> int:
     outcome = _outcome(asked, seed)
     if outcome is None:
         return WORDS_REFUSED
-    if asked.is_confirmed and outcome.races.possible_deadlocks:
-        _confirm(asked, outcome.races)
     report = report_of(outcome.races, asked.looking, asked.fail_on_possible, outcome.picture)
     is_delivered = _tell(asked, report, outcome.status)
     is_untouched = asked.watched is None and _is_untouched(outcome.races) and not outcome.has_raised
@@ -190,23 +189,33 @@ def _run_once(asked: Run, seed: int | None) -> int:
     return _kept(asked, report, outcome.status, is_delivered)
 
 
-def _confirm(asked: Run, found: Races) -> None:
-    """Runs the program again, and has each task wait before its inner lock. What came of it is told."""
-    cycles = [[one.places for one in deadlock.steps] for deadlock in found.possible_deadlocks]
+class _Tried(Protocol):
+    """What was found, of which deadlocks may be possible only."""
+
+    @property
+    def tried(self) -> list[Deadlock]:
+        """Those that are possible only."""
+
+    def confirm(self, keys: Collection[object]) -> None:
+        """Those of these keys have been."""
+
+
+def _confirm(asked: Run, found: _Tried) -> None:
+    """Runs the program again if a deadlock is possible, and has each task wait before its inner lock. What came of it
+    is told."""
+    cycles = [[one.places for one in deadlock.steps] for deadlock in found.tried]
+    if not cycles or is_asked_to_end():
+        return
     if not asked.quiet:
         say("itc_trace: --confirm runs the program again, and holds its tasks before their inner locks")
     tried = replace(
-        asked, export=None, journal=None, picture=None, status_file=None, cycles=cycles, timeout=asked.timeout,
-        looking=Looking(asked.looking.strict),
+        asked, port=None, host=HOST, export=None, journal=None, picture=None, status_file=None, cycles=cycles,
+        is_confirmed=False, looking=Looking(asked.looking.strict),
     )
     outcome = _outcome(tried, None)
-    keys = set() if outcome is None else {deadlock.key for deadlock in outcome.races.deadlocks}
-    for deadlock in [one for one in found.possible_deadlocks if one.key in keys]:
-        found.possible_deadlocks.remove(deadlock)
-        deadlock.is_possible = False
-        found.deadlocks.append(deadlock)
-    if found.possible_deadlocks and not asked.quiet:
-        count = len(found.possible_deadlocks)
+    found.confirm(() if outcome is None else {deadlock.key for deadlock in outcome.races.deadlocks})
+    count = len(found.tried)
+    if count and not asked.quiet:
         say(f"itc_trace: --confirm: {count} possible deadlock{'' if count == 1 else 's'} did not come about")
 
 
@@ -248,6 +257,8 @@ def _run_often(asked: Run) -> int:
             say(f"itc_trace: run {number} of {asked.runs}{_by_seed(seed)}: {outcome.races.found()}")
         if is_asked_to_end():
             break
+    if asked.is_confirmed:
+        _confirm(asked, merged)
     report = merged.report(asked.looking, asked.fail_on_possible)
     return _kept(asked, report, merged.status, _tell(asked, report, merged.status))
 
@@ -285,6 +296,8 @@ def _outcome(asked: Run, seed: int | None) -> Outcome | None:
         elif child.signal_name and not _is_killed(races):
             killed = Unseen(Cause.KILLED, f"the program was ended by {child.signal_name}")
             races.unseen = [killed, *(one for one in races.unseen if one != BREAKS_OFF)]
+        if asked.is_confirmed and asked.runs == 1:
+            _confirm(asked, races)
         if is_divided:
             picture = draw_parts(parts, asked.picture, races, _name_of(asked))
         else:

@@ -131,6 +131,8 @@ class Finding:
     """What made the thing, and where."""
     is_possible: bool = False
     """Whether it did not happen in this run, by luck alone. It fails a run only if it is asked to."""
+    is_confirmed: bool = False
+    """Whether it was possible only, and a further run that was to bring it about met it."""
     seen: Seen | None = None
     """Of several runs."""
     tests: tuple[str, ...] = field(default=(), compare=False)
@@ -147,8 +149,13 @@ class Finding:
         return self.known_as.identity
 
     @property
+    def told_kind(self) -> str:
+        """The kind, with how sure it is."""
+        return f"confirmed {self.kind}" if self.is_confirmed else self.kind
+
+    @property
     def title(self) -> str:
-        return f"{self.kind} on {self.thing}{f' ({self.made})' if self.made else ''}"
+        return f"{self.told_kind} on {self.thing}{f' ({self.made})' if self.made else ''}"
 
     @property
     def told_sides(self) -> list[str]:

@@ -43,7 +43,7 @@ def finding_as_object(finding: Finding) -> dict[str, Any]:
     seen = finding.seen
     return {
         "id": finding.identity, "kind": finding.kind, "thing": finding.thing, "made": finding.made,
-        "possible": finding.is_possible, "why": finding.why, "times": finding.times,
+        "possible": finding.is_possible, "confirmed": finding.is_confirmed, "why": finding.why, "times": finding.times,
         "sides": [
             {**_side_as_object(side), "before": _steps(_of(finding.story.before, number)),
              "after": _steps(_of(finding.story.after, number))}
@@ -102,7 +102,8 @@ def finding_of_object(told: dict[str, Any]) -> Finding:
     )
     return Finding(
         told["kind"], told["thing"], tuple(map(_side_of_object, told["sides"])), told["why"], told["times"],
-        told["made"], told["possible"], seen, tuple(told["tests"]), Story(before, after, tuple(told["orders"])),
+        told["made"], told["possible"], bool(told.get("confirmed")), seen, tuple(told["tests"]),
+        Story(before, after, tuple(told["orders"])),
     )
 
 

@@ -2,7 +2,7 @@
 
 from __future__ import annotations
 
-from collections.abc import Iterable, Sequence
+from collections.abc import Collection, Iterable, Sequence
 from dataclasses import dataclass, field, replace
 
 from ..analyse.benign import Looking
@@ -74,6 +74,19 @@ class Merged:
     def _only_possible_deadlocks(self) -> dict[Key, Often]:
         """The same of deadlocks."""
         return {key: often for key, often in self._possible_deadlocks.items() if key not in self._deadlocks}
+
+    @property
+    def tried(self) -> list[Deadlock]:
+        """The deadlocks that a further run may bring about."""
+        examples = (often.example for often in self._only_possible_deadlocks.values())
+        return [one for one in examples if isinstance(one, Deadlock)]
+
+    def confirm(self, keys: Collection[object]) -> None:
+        """A further run has met the possible deadlocks of these keys."""
+        for deadlock in self.tried:
+            if deadlock.key in keys:
+                deadlock.confirm()
+                self._deadlocks[deadlock.key] = self._possible_deadlocks.pop(deadlock.key)
 
     def verdict(self, fail_on_possible: bool = False) -> Verdict:
         possible = len(self._only_possible) + len(self._only_possible_deadlocks) if fail_on_possible else 0

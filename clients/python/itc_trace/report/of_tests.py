@@ -78,7 +78,7 @@ class OfTests:
     def by_test(self) -> Iterator[str]:
         """How many races each test met, a line for each that met some."""
         for test, report in self.reports.items():
-            kinds = Counter(finding.kind for finding in report.findings)
+            kinds = Counter(finding.told_kind for finding in report.findings)
             if kinds:
                 told = ", ".join(f"{count} {kind}{'' if count == 1 else 's'}" for kind, count in kinds.items())
                 yield f"{told}: {test}"
@@ -89,7 +89,7 @@ def short(findings: Iterable[Finding]) -> Iterator[str]:
     for finding in findings:
         places = " and ".join(dict.fromkeys(side.place for side in finding.sides))
         tests = "1 test" if len(finding.tests) == 1 else f"{len(finding.tests)} tests"
-        yield f"{finding.kind} on {finding.thing} at {places}, in {tests}; id {finding.identity}"
+        yield f"{finding.told_kind} on {finding.thing} at {places}, in {tests}; id {finding.identity}"
 
 
 def not_traced(why: str) -> Report:

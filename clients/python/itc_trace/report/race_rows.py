@@ -26,6 +26,7 @@ def _told(finding: Finding) -> dict[str, Any]:
         "thing": finding.thing, "made": finding.made, "possible": finding.is_possible, "why": finding.why,
         "times": finding.times, "sides": [_side(side) for side in finding.sides],
         **({"kind": finding.kind} if finding.kind in (DEADLOCK, POSSIBLE_DEADLOCK) else {}),
+        **({"confirmed": True} if finding.is_confirmed else {}),
     }
 
 

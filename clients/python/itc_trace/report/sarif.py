@@ -18,6 +18,8 @@ FINGERPRINT = "itcTrace/v1"
 RULES = {
     "race": "Two tasks touch one thing, a touch changes it, and nothing puts them in order.",
     "possible race": "Only luck kept two conflicting touches apart: they have no lock in common.",
+    "deadlock": "Each of several tasks waits for a lock that the next one of them holds.",
+    "possible deadlock": "Several tasks acquire the same locks in orders by which each may wait for the next one.",
 }
 """What each kind says. One that is not here is a rule by its name alone."""
 
@@ -73,6 +75,7 @@ def _result(finding: Finding, report: Report, kinds: list[str], suppressed: str 
         "locations": [_location(sides[0], report)], "relatedLocations": related,
         "partialFingerprints": {FINGERPRINT: finding.identity}, "occurrenceCount": max(1, finding.times),
         **({"suppressions": [{"kind": suppressed}]} if suppressed else {}),
+        **({"properties": {"confirmed": True}} if finding.is_confirmed else {}),
     }
 
 

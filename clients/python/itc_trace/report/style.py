@@ -38,7 +38,7 @@ class TerminalStyle(Style):
             rest[number] = rest[number].replace(f" at {side.place}", f" at {self._linked(side, folder)}", 1)
         shown = rest[: len(finding.sides)]
         faint = [f"{FAINT}{line}{END}" for line in rest[len(finding.sides) :]]
-        return [title.replace(finding.kind, f"{colour}{finding.kind}{END}", 1), *shown, *faint]
+        return [title.replace(finding.told_kind, f"{colour}{finding.told_kind}{END}", 1), *shown, *faint]
 
     def _linked(self, side: FoundSide, folder: str) -> str:
         if not self._has_links or not side.file or side.file.startswith("<"):
