@@ -53,6 +53,24 @@ for thread in threads:
     thread.join()
 os.unlink("sold")
 """
+CYCLE = """import threading, time
+one_lock = threading.Lock()
+other_lock = threading.Lock()
+def forth():
+    with one_lock:
+        with other_lock:
+            pass
+def back():
+    with other_lock:
+        with one_lock:
+            pass
+threads = [threading.Thread(target=work) for work in (forth, back)]
+for thread in threads:
+    thread.start()
+    time.sleep(0.3)
+for thread in threads:
+    thread.join()
+"""
 
 
 class Tables(unittest.TestCase):
@@ -68,10 +86,11 @@ class Tables(unittest.TestCase):
         here = os.path.relpath(self.folder)
         found = self.read(
             'watch = ["requests"]\nexclude = ["vendor/*"]\nbenign = "meant"\nbaseline = "known.json"\nfail_on = "possible"\nruns = 3\n'
+            'confirm = true\n'
             '[tool.itc_trace.formats]\njson = "-"\nsarif = "out/r.sarif"\ngithub = true\n',
         )
         self.assertEqual(found, Settings(
-            ["requests"], ["vendor/*"], [f"{here}/meant"], f"{here}/known.json", "possible", 3,
+            ["requests"], ["vendor/*"], [f"{here}/meant"], f"{here}/known.json", "possible", 3, True,
             {"json": "-", "sarif": f"{here}/out/r.sarif", "github": "-"},
         ))
 
@@ -84,13 +103,13 @@ class Tables(unittest.TestCase):
     def test_what_is_set_wrongly_is_one_clear_line(self) -> None:
         for text, said in (
             ("wach = []", r"\[tool.itc_trace\]: there is no key wach: did you mean watch\?"),
-            ("x = 1", r"there is no key x: the keys are watch, exclude, benign, baseline, fail_on, runs, formats"),
+            ("x = 1", r"there is no key x: the keys are watch, exclude, benign, baseline, fail_on, runs, confirm, formats"),
             ("watch = 'requests'", "watch is a list of texts that are not empty"),
             ("watch = [1]", "watch is a list of texts"), ("exclude = ['']", "exclude is a list of texts that are not empty"),
             ("benign = 7", "benign is a list of texts"), ("baseline = ''", "baseline is a text that is not empty"),
             ("fail_on = 'posible'", "fail_on is 'posible', which is none of 'race', 'possible'"), ("fail_on = []", "fail_on is"),
             ("runs = 0", "runs is a number from 1 to 10000"), ("runs = true", "runs is a number"), ("runs = 1.5", "runs is a number"),
-            ("formats = 'json'", "formats is a table, as"), ("formats = { xml = 'x' }", "formats has no xml: the formats are json, sarif, github"),
+            ("confirm = 1", "confirm is true or false"), ("formats = 'json'", "formats is a table, as"), ("formats = { xml = 'x' }", "formats has no xml: the formats are json, sarif, github"),
             ("formats = { github = 'x' }", "formats.github is true or false"), ("formats = { json = true }", "formats.json is a text"),
             ("runs = ", "is no TOML: "),
         ):
@@ -107,15 +126,21 @@ class Tables(unittest.TestCase):
         self.assertEqual(settings_here(str(within)).runs, 1)
 
     def test_typed_words_win(self) -> None:
-        settings = Settings(["a"], ["x"], ["meant"], "known", "possible", 5)
-        typed = Namespace(watch=["b"], exclude=["y"], benign=["own"], baseline="other", fail_on="race", runs=1, watch_nothing=False)
+        settings = Settings(["a"], ["x"], ["meant"], "known", "possible", 5, True)
+        typed = Namespace(
+            watch=["b"], exclude=["y"], benign=["own"], baseline="other", fail_on="race", runs=1, confirm=False, watch_nothing=False,
+        )
         before = dict(vars(typed))
         settings.fill(typed)
         self.assertEqual(vars(typed), before)
-        untyped = Namespace(watch=None, exclude=None, benign=[], baseline=None, fail_on=None, runs=None, watch_nothing=False)
+        untyped = Namespace(
+            watch=None, exclude=None, benign=[], baseline=None, fail_on=None, runs=None, confirm=None, watch_nothing=False,
+        )
         settings.fill(untyped)
-        self.assertEqual((untyped.watch, untyped.exclude, untyped.benign, untyped.baseline, untyped.fail_on, untyped.runs),
-                         (["a"], ["x"], ["meant"], "known", "possible", 5))
+        self.assertEqual(vars(untyped), {
+            "watch": ["a"], "exclude": ["x"], "benign": ["meant"], "baseline": "known", "fail_on": "possible", "runs": 5, "confirm": True,
+            "watch_nothing": False,
+        })
         few = Namespace(fail_on=None)
         settings.fill(few)
         self.assertEqual(vars(few), {"fail_on": "possible"})
@@ -171,6 +196,16 @@ class Runs(unittest.TestCase):
         self.set("runs = 2")
         self.assertIn(" in 2 runs", self.run_here("run", "--no-shake", "shop.py").stderr)
         self.assertIn(" in this run", self.run_here("run", "--runs", "1", "shop.py").stderr)
+
+    def test_confirming_is_taken_from_the_settings(self) -> None:
+        (self.folder / "cycle.py").write_text(CYCLE)
+        self.set("confirm = true")
+        ran = self.run_here("run", "cycle.py")
+        self.assertEqual(ran.returncode, 66, ran.stderr)
+        self.assertIn("itc_trace: confirmed deadlock on one_lock and other_lock ", ran.stderr)
+        ran = self.run_here("run", "--no-confirm", "cycle.py")
+        self.assertEqual(ran.returncode, 0, ran.stderr)
+        self.assertIn("itc_trace: possible deadlock on one_lock and other_lock ", ran.stderr)
 
     def test_a_wrong_key_ends_the_command_before_the_program_runs(self) -> None:
         self.set("wach = []")

@@ -140,8 +140,11 @@ def _add_run(parser: Parser) -> None:
     shaking.add_argument("--no-shake", action="store_true", help="leave the schedule of each run as it is")
     parser.add_argument("--part-events", type=_part_events, default=LEAVE.events, metavar="N",
                         help=f"begin a new part of the trace after N events ({LEAVE.events})")
-    parser.add_argument("--confirm", action="store_true",
-                        help="try possible deadlocks in a further run, which a deadlock ends")
+    confirming = parser.add_mutually_exclusive_group()
+    confirming.add_argument("--confirm", action="store_true", default=None,
+                            help="try possible deadlocks in a further run, which a deadlock ends")
+    confirming.add_argument("--no-confirm", action="store_false", dest="confirm",
+                            help="try none, also where the settings say so")
     _add_timeout(parser, "the program")
     parser.add_argument("--quiet", action="store_true", help="write nothing where there is no race")
     watching = parser.add_mutually_exclusive_group()

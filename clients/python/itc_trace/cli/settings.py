@@ -30,6 +30,7 @@ class Settings:
     baseline: str | None = None
     fail_on: str = "race"
     runs: int = 1
+    confirm: bool = False
     formats: dict[str, str] = field(default_factory=dict)
 
     def fill(self, words: argparse.Namespace) -> None:
@@ -78,7 +79,7 @@ class _Reading:
     def values(self, table: dict[str, Any]) -> Iterator[tuple[str, Any]]:
         readers: dict[str, Callable[[str, Any], Any]] = {
             "watch": self._texts, "exclude": self._texts, "benign": self._files, "baseline": self._file,
-            "fail_on": self._fail_on, "runs": self._runs, "formats": self._formats,
+            "fail_on": self._fail_on, "runs": self._runs, "confirm": self._switch, "formats": self._formats,
         }
         for key, value in table.items():
             if key not in readers:
@@ -117,6 +118,11 @@ class _Reading:
             raise self.fault(f"{key} is a number from 1 to {MOST_RUNS}")
         return value
 
+    def _switch(self, key: str, value: Any) -> bool:
+        if not isinstance(value, bool):
+            raise self.fault(f"{key} is true or false")
+        return value
+
     def _formats(self, key: str, value: Any) -> dict[str, str]:
         if not isinstance(value, dict):
             raise self.fault(f'{key} is a table, as {{ sarif = "races.sarif", github = true }}')
@@ -125,9 +131,7 @@ class _Reading:
             if name not in FORMATS:
                 raise self.fault(f"{key} has no {name}: the formats are {', '.join(FORMATS)}")
             if name == "github":
-                if not isinstance(file, bool):
-                    raise self.fault(f"{key}.{name} is true or false")
-                found |= {name: "-"} if file else {}
+                found |= {name: "-"} if self._switch(f"{key}.{name}", file) else {}
             else:
                 found[name] = file if file == "-" else self._file(f"{key}.{name}", file)
         return found
