@@ -1,10 +1,11 @@
 """Runs programs that work on services over the loopback interface: plain, traced, and with their client watched. Compares what they print.
 
-Usage: python3 clients/python/loads.py [--install] [LOAD..]
+Usage: python3 clients/python/loads.py [--install] [--lists FOLDER] [LOAD..]
 
-The loads are redis, postgres and mosquitto. Each starts its service in a folder of its own, at a port that is free, and ends it. With
---install it installs from Debian what it wants. A row of the table tells of the lines that were the same, and of the verdict. The status
-is 1 if a line is another one.
+The loads are redis, postgres and mosquitto. Each starts its service in a folder of its own, at a port that is free, and ends it. Those of
+django and waitress serve themselves. With --install it installs from Debian what it wants. A row of the table tells of the lines that were
+the same, and of the verdict. With --lists each load keeps the list of its watched run, and the same run's with each pair of lines. The
+status is 1 if a line is another one.
 """
 
 from __future__ import annotations
@@ -128,6 +129,77 @@ listener.loop_stop()
 listener.disconnect()
 print(len(heard), all([one for one in heard if one[0] == str(of)] == [f"{of} {turn}" for turn in range(10)] for of in range(8)))
 """
+OF_DJANGO = IN_THREADS + """
+import io
+import django
+from django.conf import settings
+settings.configure(
+    DEBUG=False, SECRET_KEY="load", ALLOWED_HOSTS=["*"], ROOT_URLCONF=__name__, USE_TZ=True, USE_I18N=True,
+    MIDDLEWARE=["django.middleware.common.CommonMiddleware", "django.contrib.sessions.middleware.SessionMiddleware",
+                "django.middleware.locale.LocaleMiddleware", "django.middleware.csrf.CsrfViewMiddleware"],
+    SESSION_ENGINE="django.contrib.sessions.backends.cache",
+    CACHES={"default": {"BACKEND": "django.core.cache.backends.locmem.LocMemCache"}},
+    TEMPLATES=[{"BACKEND": "django.template.backends.django.DjangoTemplates", "OPTIONS": {"loaders": [
+        ("django.template.loaders.cached.Loader", [("django.template.loaders.locmem.Loader", {
+            "base.html": "<h1>{% block title %}{% endblock %}</h1>",
+            "shop.html": "{% extends 'base.html' %}{% load i18n %}{% block title %}{% trans 'Delete' %} {{ left|add:1 }} {{ when|date }}{% endblock %}",
+        })])]}}],
+)
+django.setup()
+from django import forms
+from django.core.cache import cache
+from django.core.handlers.wsgi import WSGIHandler
+from django.dispatch import Signal
+from django.http import HttpResponse
+from django.template import loader
+from django.urls import path, reverse
+from django.utils import timezone, translation
+sold = Signal()
+class Order(forms.Form):
+    name = forms.CharField(max_length=10)
+    count = forms.IntegerField(min_value=1)
+def shop(request, number):
+    request.session["seen"] = request.session.get("seen", 0) + 1
+    cache.set(f"n{number}", number)
+    cache.get_or_set("all", lambda: number)
+    form = Order({"name": "a", "count": number})
+    form.is_valid()
+    sold.send(sender=Order, number=number)
+    with translation.override("de" if number % 2 else "fr"):
+        text = loader.render_to_string("shop.html", {"left": number, "when": timezone.now()}, request)
+    return HttpResponse(text + str(form.errors) + reverse("shop", args=[number]))
+urlpatterns = [path("shop/<int:number>/", shop, name="shop")]
+handler = WSGIHandler()
+def ask(number):
+    for turn in range(3):
+        environ = {"REQUEST_METHOD": "GET", "PATH_INFO": f"/shop/{number}/", "SERVER_NAME": "h", "SERVER_PORT": "80",
+                   "HTTP_ACCEPT_LANGUAGE": "de", "wsgi.input": io.BytesIO(), "wsgi.url_scheme": "http"}
+        answer = handler(environ, lambda status, headers, info=None: None)
+        b"".join(answer)
+        answer.close()
+in_threads(ask)
+print(sorted(cache.get(f"n{number}") for number in range(8)))
+"""
+OF_WAITRESS = IN_THREADS + """
+import http.client
+import waitress.server
+def application(environ, start):
+    body = environ["wsgi.input"].read()
+    start("200 OK", [("Content-Length", str(len(body) + 3))])
+    return [b"ok ", body]
+server = waitress.server.create_server(application, host="127.0.0.1", port=0, threads=4)
+threading.Thread(target=server.run, daemon=True).start()
+answers = [0] * 8
+def ask(number):
+    connection = http.client.HTTPConnection("127.0.0.1", server.effective_port)
+    for turn in range(5):
+        connection.request("POST", f"/{number}", b"x" * 100 * number)
+        answers[number] += len(connection.getresponse().read())
+    connection.close()
+in_threads(ask, 4)
+print(answers)
+server.close()
+"""
 
 
 @contextlib.contextmanager
@@ -167,10 +239,10 @@ def postgres(folder: Path, port: int) -> contextlib.AbstractContextManager[None]
 
 
 class Load(NamedTuple):
-    """A program, its service, and the client that is watched."""
+    """A program, its service if it has one, and the package that is watched."""
 
     program: str
-    service: Callable[[Path, int], contextlib.AbstractContextManager[None]]
+    service: Callable[[Path, int], contextlib.AbstractContextManager[None]] | None
     client: str
     packages: tuple[str, ...]
 
@@ -179,6 +251,8 @@ LOADS = {
     "redis": Load(OF_REDIS, redis, "redis", ("redis-server", "python3-redis")),
     "postgres": Load(OF_POSTGRES, postgres, "psycopg2", ("postgresql", "python3-psycopg2")),
     "mosquitto": Load(OF_MOSQUITTO, mosquitto, "paho", ("mosquitto", "python3-paho-mqtt")),
+    "django": Load(OF_DJANGO, None, "django", ("python3-django",)),
+    "waitress": Load(OF_WAITRESS, None, "waitress", ("python3-waitress",)),
 }
 
 
@@ -202,13 +276,31 @@ def ran(load: Load, *options: str) -> subprocess.CompletedProcess[str]:
     with tempfile.TemporaryDirectory() as name:
         program, port = Path(name, "program.py"), free_port()
         program.write_text(load.program)
-        with load.service(Path(name), port):
-            wait_for(port)
-            time.sleep(1)  # Postgres listens before it takes anybody in.
+        with contextlib.ExitStack() as stack:
+            if load.service is not None:
+                stack.enter_context(load.service(Path(name), port))
+                wait_for(port)
+                time.sleep(1)  # Postgres listens before it takes anybody in.
             before = ["-m", "itc_trace", "run", *options] if options else []
             environment = {**os.environ, "PYTHONPATH": str(PACKAGE)}
             words = [PYTHON, *before, str(program), str(port)]
             return subprocess.run(words, capture_output=True, text=True, env=environment, timeout=LONGEST, check=False)
+
+
+def keep_lists(name: str, folder: Path) -> str:
+    """Keeps the list of a watched run, and the one with each pair of lines. Gives how many lines they have, as a row."""
+    load, export = LOADS[name], folder / f"{name}.export"
+    ran(load, "--watch", load.client, "--export", str(export))
+    counts = []
+    for kind, options in (("list", []), ("all", ["--all"])):
+        words = [PYTHON, "-m", "itc_trace", "races", *options, str(export)]
+        environment = {**os.environ, "PYTHONPATH": str(PACKAGE)}
+        listed = subprocess.run(words, capture_output=True, text=True, env=environment, timeout=LONGEST, check=False).stdout
+        (folder / f"{name}.{kind}").write_text(listed)
+        counts.append(len(listed.splitlines()))
+    found = listed.splitlines()[-1].removeprefix("itc_trace: ").partition(" in this run")
+    more = found[2].partition("; not")[0].partition(":")[0]
+    return f"| `{load.client}` | {found[0]}{more} | {counts[1]} | {counts[0]} |"
 
 
 def told(name: str) -> tuple[str, bool]:
@@ -230,13 +322,14 @@ def told(name: str) -> tuple[str, bool]:
 def main() -> int:
     parser = argparse.ArgumentParser(description=__doc__, formatter_class=argparse.RawDescriptionHelpFormatter)
     parser.add_argument("--install", action="store_true")
+    parser.add_argument("--lists", type=Path, metavar="FOLDER")
     parser.add_argument("loads", nargs="*", metavar="LOAD", choices=[*LOADS, []], default=[])
     asked = parser.parse_args()
     are_same = True
     for name in asked.loads or LOADS:
         if asked.install and shutil.which("apt-get"):
             subprocess.run(["apt-get", "install", "-y", *LOADS[name].packages], check=True, stdout=subprocess.DEVNULL)
-        row, is_same = told(name)
+        row, is_same = told(name) if asked.lists is None else (keep_lists(name, asked.lists), True)
         are_same = are_same and is_same
         print(row, flush=True)
     return 0 if are_same else 1
