@@ -29,6 +29,7 @@ from .analyse.benign import Looking, read_patterns
 from .cli.reporting import STANDARD_OUTPUT, Wanted, deliver
 from .cli.saying import say
 from .cli.settings import FILE, Settings, read_settings
+from .model.finding import named
 from .processes.hanging import limited
 from .record.collector import Collector
 from .record.faults import Fault
@@ -388,7 +389,7 @@ def _section(met: OfTests, report: Report, is_quiet: bool, is_verbose: bool) -> 
         yield from (f"id {one.identity} in {test}" for one in report.findings for test in one.tests[1:])
     yield from met.by_test()
     if report.gone:
-        yield f"itc_trace: of the baseline did not occur: {', '.join(map(str, report.gone))}"
+        yield f"itc_trace: {named(report.gone)}"
     yield told[-1]
 
 

@@ -4,7 +4,7 @@ from __future__ import annotations
 
 import unittest
 
-from itc_trace.model.finding import POSSIBLE_RACE, RACE, Finding, FoundSide
+from itc_trace.model.finding import POSSIBLE_RACE, RACE, Finding, FoundSide, named
 from itc_trace.model.verdict import Verdict
 from itc_trace.report.grouping import entries
 from itc_trace.report.report import Report
@@ -76,6 +76,44 @@ class Texts(unittest.TestCase):
         self.assertTrue(text(self.report(*things[:5])).startswith("itc_trace: race on t0\n"))
         told = text(self.report(*things, found("t5", 60)))
         self.assertTrue(told.startswith("itc_trace: pairs by their things: t5 (2), t0 (1), t1 (1), t2 (1), t3 (1), t4 (1)\n"), told)
+
+    def test_more_than_ten_things_are_counted_together_in_the_summary(self) -> None:
+        things = [found(f"t{number}", number + 1) for number in range(13)]
+        (summary, *_) = text(self.report(*things, found("t12", 60))).splitlines()
+        self.assertTrue(summary.endswith(", t7 (1), t8 (1) and 3 more (3)"), summary)
+
+    def test_a_list_fits_on_a_screen_and_leaves_no_cause_out_if_it_can(self) -> None:
+        for count in (6, 8, 15, 19, 20, 500, 10_000):
+            with self.subTest(count):
+                things = [found(f"t{number}", number + 1, kind=POSSIBLE_RACE if number % 3 else RACE) for number in range(count)]
+                report = self.report(*things, found("t1", 70_000, kind=POSSIBLE_RACE))
+                lines = text(report).splitlines()
+                self.assertLessEqual(len(lines), 24)
+                shown = [line for line in lines if "race on t" in line]
+                left = [int(line.split()[1]) for line in lines if line.startswith("    and ") and line.endswith(" more")]
+                self.assertEqual(len(shown) + sum(left), count)
+                self.assertEqual(bool(left), count > 16)
+                self.assertEqual(lines[-1], f"itc_trace: {count + 1} races in this run")
+                self.assertEqual(lines[1:5], ["itc_trace: race on t0", *(f"    {line}" for line in things[0].lines()[1:])])
+                self.assertEqual(text(report, Shown(is_all=True)).count("race on t"), count + 1)
+
+    def test_an_entry_of_one_line_has_its_places_its_count_and_its_identity(self) -> None:
+        things = [found(f"t{number}", number + 1, file="/opt/a b/shop.py") for number in range(8)]
+        told = text(self.report(*things, found("t7", 60)))
+        self.assertIn(f"\n    race on t6: write at shop.py:7, read at shop.py:1; id {things[6].identity}\n", told)
+        self.assertIn(f"\n    race on t7: write at shop.py:8, read at shop.py:1, and 1 more pair; id {things[7].identity}\n", told)
+        self.assertEqual(told.count("itc_trace: the others in a line each: --all\n"), 1)
+
+    def test_who_asks_for_so_many_entries_gets_them_whole(self) -> None:
+        told = text(self.report(*(found(f"t{number}", number + 1) for number in range(30))), Shown(most=20))
+        self.assertEqual(told.count("nothing orders them"), 20)
+        self.assertIn("itc_trace: and 10 more, which --max 20 leaves out\n", told)
+
+    def test_few_of_what_is_gone_from_the_baseline_are_named(self) -> None:
+        gone = [one.known_as for one in (found(f"t{number}", number + 1) for number in range(5000))]
+        told = named(gone)
+        self.assertTrue(told.endswith(" and 4990 more"), told)
+        self.assertEqual(told.count(" (t"), 10)
 
 
 if __name__ == "__main__":

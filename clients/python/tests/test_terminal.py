@@ -9,10 +9,12 @@ import subprocess
 import sys
 import tempfile
 import unittest
+from dataclasses import replace
 from io import StringIO
 from pathlib import Path
 
 from itc_trace.cli.reporting import Wanted, next_step
+from itc_trace.model.finding import Finding, FoundSide
 from itc_trace.model.verdict import Verdict
 from itc_trace.report.report import Report
 from itc_trace.report.style import Style, TerminalStyle, style_of
@@ -55,6 +57,16 @@ class Styles(unittest.TestCase):
         coloured = text(stored(), style=TerminalStyle(True))
         self.assertNotEqual(coloured, text(stored()))
         self.assertEqual(ESCAPES.sub("", coloured), text(stored()))
+
+    def test_entries_of_one_line_have_colours_and_links_too(self) -> None:
+        side = FoundSide("write", "a b/shop.py", 7, "f", "one", 1, is_write=True)
+        sides = [(replace(side, line=number), replace(side, line=100 + number, task="two")) for number in range(20, 29)]
+        findings = [Finding("race", f"t{number}", pair, "nothing orders them") for number, pair in enumerate(sides)]
+        report = Report(Verdict.RACES, "9 races in this run", findings, folder="/shop")
+        coloured = text(report, style=TerminalStyle(True))
+        self.assertEqual(ESCAPES.sub("", coloured), text(report))
+        place = "\033]8;;file:///shop/a%20b/shop.py\033\\shop.py:28\033]8;;\033\\"
+        self.assertIn(f"\n    \033[1;31mrace\033[0m on t8: write at {place}, write at ", coloured)
 
     def test_links_lead_to_whole_paths(self) -> None:
         coloured = text(stored(), style=TerminalStyle(True))

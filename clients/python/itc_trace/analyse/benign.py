@@ -16,7 +16,7 @@ from pathlib import Path, PurePath
 from typing import TypeVar
 
 from ..record.faults import Fault
-from ..model.finding import Finding, FoundSide, Known
+from ..model.finding import Finding, FoundSide, Known, named
 from .deadlocks import Deadlock, LockSide
 from .races import Race, Races, Side
 
@@ -102,7 +102,7 @@ class Looking:
             yield f"no race is silenced by {', '.join(lines)}"
         gone = self.gone()
         if gone:
-            yield f"of the baseline did not occur: {', '.join(map(str, gone))}"
+            yield named(gone)
 
     def gone(self) -> list[Known]:
         """The races of the baseline that did not occur."""

@@ -4,6 +4,7 @@ from __future__ import annotations
 
 import hashlib
 import json
+from collections.abc import Sequence
 from dataclasses import dataclass, field
 from pathlib import PurePath
 from typing import NamedTuple
@@ -57,6 +58,11 @@ class FoundSide:
         return f"{self.file}:{self.line}" if self.file else "?"
 
     @property
+    def short_place(self) -> str:
+        """The place without the folders of its file."""
+        return f"{PurePath(self.file).name}:{self.line}" if self.file else "?"
+
+    @property
     def source(self) -> str:
         """The line of the place."""
         number = self.line - self.begin
@@ -96,6 +102,15 @@ class Known:
 
     def __str__(self) -> str:
         return f"{self.identity} ({self.thing})"
+
+
+MOST_NAMED = 10
+
+
+def named(gone: Sequence[Known]) -> str:
+    """Those of the baseline that did not occur, in words for a person."""
+    more = f" and {len(gone) - MOST_NAMED} more" if len(gone) > MOST_NAMED else ""
+    return f"of the baseline did not occur: {', '.join(map(str, gone[:MOST_NAMED]))}{more}"
 
 
 @dataclass(frozen=True)
@@ -179,6 +194,12 @@ class Finding:
         """Which tests met it."""
         first = self.tests[0]
         return f"in {first}" if len(self.tests) == 1 else f"in {len(self.tests)} tests, first in {first}"
+
+    def short(self, more: int = 0) -> str:
+        """In one line for a person, with how many pairs of the same cause there are."""
+        sides = ", ".join(dict.fromkeys(f"{side.kind} at {side.short_place}" for side in self.sides))
+        further = f", and {more} more {'pair' if more == 1 else 'pairs'}" if more else ""
+        return f"{self.told_kind} on {self.thing}: {sides}{further}; id {self.identity}"
 
     def lines(self) -> list[str]:
         """In words for a person. All but the first are to be indented."""

@@ -21,6 +21,10 @@ class Style:
         """The lines of a finding, of which the first is its title."""
         return finding.lines()
 
+    def short(self, finding: Finding, more: int, folder: str) -> str:
+        """A finding in one line, with how many pairs of its cause are left out."""
+        return finding.short(more)
+
     def summary(self, text: str, is_good: bool) -> str:
         return text
 
@@ -33,17 +37,28 @@ class TerminalStyle(Style):
 
     def lines(self, finding: Finding, folder: str) -> list[str]:
         title, *rest = finding.lines()
-        colour = YELLOW if finding.is_possible else RED
         for number, side in enumerate(finding.sides):
-            rest[number] = rest[number].replace(f" at {side.place}", f" at {self._linked(side, folder)}", 1)
+            rest[number] = self._with_link(rest[number], side, side.place, folder)
         shown = rest[: len(finding.sides)]
         faint = [f"{FAINT}{line}{END}" for line in rest[len(finding.sides) :]]
-        return [title.replace(finding.told_kind, f"{colour}{finding.told_kind}{END}", 1), *shown, *faint]
+        return [self._with_colour(title, finding), *shown, *faint]
 
-    def _linked(self, side: FoundSide, folder: str) -> str:
+    def short(self, finding: Finding, more: int, folder: str) -> str:
+        line = finding.short(more)
+        for side in {side.short_place: side for side in finding.sides}.values():
+            line = self._with_link(line, side, side.short_place, folder)
+        return self._with_colour(line, finding)
+
+    def _with_colour(self, line: str, finding: Finding) -> str:
+        colour = YELLOW if finding.is_possible else RED
+        return line.replace(finding.told_kind, f"{colour}{finding.told_kind}{END}", 1)
+
+    def _with_link(self, line: str, side: FoundSide, place: str, folder: str) -> str:
+        """The line, in which the place leads to its file."""
         if not self._has_links or not side.file or side.file.startswith("<"):
-            return side.place
-        return f"\033]8;;file://{quote(os.path.join(folder, side.file))}\033\\{side.place}\033]8;;\033\\"
+            return line
+        file = quote(os.path.join(folder, side.file))
+        return line.replace(f" at {place}", f" at \033]8;;file://{file}\033\\{place}\033]8;;\033\\", 1)
 
     def summary(self, text: str, is_good: bool) -> str:
         return f"{GREEN if is_good else RED}{text}{END}"
