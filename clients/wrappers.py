@@ -107,18 +107,22 @@ def marked(source: Path, word: str, name: str) -> set[str]:
     return {f"{source.name}:{number}" for number, found in enumerate(names, 1) if found and name in found[1].split()}
 
 
+PLACE = r"(?:\S+ \()?(.+?):(\d+)"
+"""A file and a line, as they are told. Those of Java stand in parentheses behind the method."""
+
+
 def listed(told: str, word: str, process: str | None = None) -> set[str]:
     """The lines of the races, or of the possible races, that were listed; of those on the things of a process, if one is named."""
     races = re.findall(rf"^itc_trace: {word} on (.*)\n((?: .*\n)+)", told, re.M)
     lines = "".join(lines for thing, lines in races if process is None or thing.endswith(f" of {process}"))
-    return {f"{Path(file).name}:{line}" for file, line in re.findall(r" at (.+?):(\d+)", lines)}
+    return {f"{Path(file).name}:{line}" for file, line in re.findall(rf" at {PLACE}", lines)}
 
 
 def listed_deadlocks(told: str, process: str) -> set[str]:
     """The lines of the possible deadlocks of tasks of the process."""
     found = re.findall(r"^itc_trace: possible deadlock on .*\n((?: .*\n)+)", told, re.M)
     lines = "".join(one for one in found if one.lstrip().startswith(f"{process}_"))
-    return {f"{Path(file).name}:{line}" for file, line in re.findall(r" (?:holds|wants) .*? at (.+?):(\d+)", lines)}
+    return {f"{Path(file).name}:{line}" for file, line in re.findall(rf" (?:holds|wants) .*? at {PLACE}", lines)}
 
 
 class Programs:

@@ -3,6 +3,7 @@
 from __future__ import annotations
 
 import unittest
+from dataclasses import replace
 
 from itc_trace.model.finding import POSSIBLE_RACE, RACE, Finding, FoundSide, named
 from itc_trace.model.verdict import Verdict
@@ -51,6 +52,29 @@ class Grouping(unittest.TestCase):
         (entry,) = entries([long, short])
         self.assertIs(entry.shown, short)
         self.assertEqual(entry.findings, [short, long])
+
+
+class Sides(unittest.TestCase):
+    def test_java_has_class_and_method_before_the_line(self) -> None:
+        side = FoundSide("write", "shop/b/Store.java", 5, "shop.b.Store.put", begin=5, text=("left--;",))
+        self.assertEqual(side.told(5), "write at shop.b.Store.put (Store.java:5):  left--;")
+        self.assertEqual(replace(side, function="").told(5), "write at shop/b/Store.java:5:  left--;")
+        self.assertEqual(replace(side, file="store.rs", function="shop::put").told(5), "write at store.rs:5 in shop::put:  left--;")
+
+    def test_two_files_of_one_name_are_two_places(self) -> None:
+        one, other = found("x", 5, file="shop/a/Store.java"), found("y", 5, file="shop/b/Store.java")
+        self.assertEqual(grouped(one, other), [[one], [other]])
+
+    def test_the_numbers_of_functions_without_a_name_are_no_part_of_the_identity(self) -> None:
+        for file, one, other, is_same in (
+            ("a/Shop.java", "a.Shop.lambda$main$0", "a.Shop.lambda$main$12", True), ("Shop.java", "Shop$1.run", "Shop$2.run", True),
+            ("Shop.java", "Shop1.run", "Shop2.run", False), ("main.go", "main.main.func1", "main.main.func2.1", True),
+            ("main.go", "main.sell1", "main.sell2", False),
+            ("shop.py", "Shop.func1", "Shop.func2", False), ("main.rs", "a::func1", "a::func2", False),
+        ):
+            with self.subTest(file=file, one=one):
+                known = [FoundSide("write", file, 1, name).known_as for name in (one, other)]
+                self.assertEqual(known[0] == known[1], is_same)
 
 
 class Texts(unittest.TestCase):

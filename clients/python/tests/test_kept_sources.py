@@ -107,10 +107,26 @@ class Files(unittest.TestCase):
             ("py", "python3", "shop.py", of_python), ("py", "python3", of_python, of_python), ("py", "python3", "/no/such.py", None),
             ("elsewhere", str(self.folder / "rs/target/debug/app"), "src/main.rs", of_rust), ("rs", "target/debug/app", "src/main.rs", of_rust),
             ("java", "java", "Store.java", of_java), ("java", "java", "Twice.java", None), ("java", "java", "Made.java", None),
-            ("java", "java", "None.java", None),
+            ("java", "java", "None.java", None), ("java", "java", "two/Twice.java", self.write("java/two/Twice.java")),
+            ("java", "java", "shop/b/Store.java", of_java), ("java", "java", "other/Store.java", None),
         ):
             with self.subTest(file=file, folder=folder):
                 self.assertEqual(ProcessSources(described(self.folder / folder, command)).find(file), due)
+
+    def test_the_file_that_describes_the_system_may_lie_elsewhere(self) -> None:
+        of_java, other = self.write("app/src/main/java/shop/b/Store.java"), self.write("app/src/main/java/shop/a/Store.java")
+        of_kotlin, of_rust = self.write("app/src/main/kotlin/Till.kt"), self.write("rs/crates/shop/src/main.rs")
+        self.write("app/out/shop/b/Store.class"), self.write("rs/target/debug/app"), (self.folder / "elsewhere").mkdir()
+        java = ["java", "-cp", f"/no/such.jar:{self.folder}/app/out", "shop.Main", "x" * 5000, ""]
+        for command, file, due in (
+            (java, "shop/b/Store.java", of_java), (java, "shop/a/Store.java", other), (java, "Store.java", None),
+            (java, "shop/till/Till.kt", of_kotlin), ([str(self.folder / "rs/target/debug/app")], "crates/shop/src/main.rs", of_rust),
+            (["cargo", "run", "--manifest-path", of_rust], "src/main.rs", of_rust), (["cargo", "run"], "src/main.rs", None),
+        ):
+            with self.subTest(file=file, command=command[:2]):
+                told = described(self.folder / "elsewhere", command[0])
+                told.command = command
+                self.assertEqual(ProcessSources(told).find(file), due)
 
 
 class Lists(unittest.TestCase):

@@ -3,7 +3,6 @@
 from __future__ import annotations
 
 import os
-from collections.abc import Iterator
 from pathlib import Path
 
 from .system_file import Described
@@ -14,41 +13,53 @@ PASSED_OVER = frozenset((".git", "node_modules", "target", "build", "__pycache__
 
 
 class ProcessSources:
-    """The files that the journal of a process names."""
+    """The files that the journal of a process names.
+
+    They are looked for in the process's folder, in those of the files that its command names, in the current one, and
+    in those above. The file that describes the system may lie elsewhere.
+    """
 
     def __init__(self, described: Described) -> None:
-        self._folder = Path(described.directory)
-        self._program = Path(described.directory, described.command[0])
-        self._by_name: dict[str, list[str]] | None = None
+        folder = Path(described.directory)
+        words = [folder / word for part in described.command for word in part.split(os.pathsep)]
+        named = [word for word in words if os.path.exists(word)]
+        folders = [one.resolve() for one in (folder, *(word if word.is_dir() else word.parent for word in named))]
+        self._roots = list(dict.fromkeys([*folders, Path.cwd()]))
+        self._above = list(dict.fromkeys(one for root in folders[1:] for one in (root, root.parent) if one != one.parent))
+        self._below: dict[Path, dict[str, list[str]]] = {}
 
     def find(self, file: str) -> str | None:
-        """The path of a file: from the process's folder, else from one above its program, as Cargo names files.
+        """The path of a file: from one of the folders or from one above it, as Cargo names files, else below one.
 
-        Java names files without their folders. One that is there once below the process's folder is meant.
+        Java names files by their package, so the folder of the sources is not known. It may lie beside that of the
+        classes. A file that is there once is meant.
         """
         if os.path.isabs(file):
             return file if os.path.isfile(file) else None
-        for folder in self._folders():
+        for folder in dict.fromkeys(one for root in self._roots for one in (root, *root.parents)):
             if (folder / file).is_file():
                 return str(folder / file)
-        named = self._below().get(file, [])
-        return named[0] if len(named) == 1 else None
+        for folder in (self._roots[0], *self._above):
+            named = self._named(folder, file)
+            if named:
+                return named[0] if len(named) == 1 else None
+        return None
 
-    def _folders(self) -> Iterator[Path]:
-        yield self._folder
-        yield from self._program.resolve().parents
-        yield from self._folder.resolve().parents
+    def _named(self, folder: Path, file: str) -> list[str]:
+        """The files below a folder whose paths end so. Kotlin does not ask for the folders of a package."""
+        found = self._files_of(folder).get(os.path.basename(file), [])
+        return [one for one in found if one.endswith(f"/{file}")] or ([] if file.endswith(".java") else found)
 
-    def _below(self) -> dict[str, list[str]]:
-        """The files below the process's folder, by their names."""
-        if self._by_name is None:
-            self._by_name = {}
+    def _files_of(self, folder: Path) -> dict[str, list[str]]:
+        """The files below a folder, by their names."""
+        if folder not in self._below:
+            by_name = self._below.setdefault(folder, {})
             left = MOST_LOOKED_AT
-            for folder, folders, files in os.walk(self._folder):
+            for within, folders, files in os.walk(folder):
                 folders[:] = sorted(one for one in folders if one not in PASSED_OVER)
                 left -= len(files)
                 if left < 0:
                     break
                 for name in files:
-                    self._by_name.setdefault(name, []).append(os.path.join(folder, name))
-        return self._by_name
+                    by_name.setdefault(name, []).append(os.path.join(within, name))
+        return self._below[folder]

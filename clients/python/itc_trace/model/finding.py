@@ -4,6 +4,7 @@ from __future__ import annotations
 
 import hashlib
 import json
+import re
 from collections.abc import Sequence
 from dataclasses import dataclass, field
 from pathlib import PurePath
@@ -14,6 +15,9 @@ DEADLOCK, POSSIBLE_DEADLOCK = "deadlock", "possible deadlock"
 """Their sides are two of each task: the lock that it holds, and the one that it wants."""
 DIGITS = 12
 SPACES = " ".join
+JAVA = ".java"
+NUMBERED = {JAVA: re.compile(r"(?<=\$)\d+"), ".go": re.compile(r"(?<=\.func)\d+(\.\d+)*\b")}
+"""The numbers that a compiler gives to functions without a name, in the order of their lines."""
 
 
 class Step(NamedTuple):
@@ -71,11 +75,23 @@ class FoundSide:
     @property
     def known_as(self) -> KnownSide:
         """If there is no source here, the name of the file stands for it."""
-        return KnownSide(self.kind, self.function, SPACES(self.source.split()) or PurePath(self.file).name)
+        numbered = NUMBERED.get(PurePath(self.file).suffix)
+        function = self.function if numbered is None else numbered.sub("", self.function)
+        return KnownSide(self.kind, function, SPACES(self.source.split()) or PurePath(self.file).name)
+
+    @property
+    def is_java(self) -> bool:
+        return self.file.endswith(JAVA) and bool(self.function)
+
+    @property
+    def told_place(self) -> str:
+        """The place with its function, as people of the language write it."""
+        if self.is_java:
+            return f"{self.function} ({self.short_place})"
+        return f"{self.place}{f' in {self.function}' if self.function and self.function != '<module>' else ''}"
 
     def told(self, width: int) -> str:
-        where = f" in {self.function}" if self.function and self.function != "<module>" else ""
-        return f"{self.kind:{width}} at {self.place}{where}{':  ' if self.source else ''}{self.source}"
+        return f"{self.kind:{width}} at {self.told_place}{':  ' if self.source else ''}{self.source}"
 
 
 @dataclass(frozen=True, order=True)
@@ -155,6 +171,10 @@ class Finding:
     story: Story = field(default=Story(), compare=False)
 
     @property
+    def is_deadlock(self) -> bool:
+        return self.kind in (DEADLOCK, POSSIBLE_DEADLOCK)
+
+    @property
     def known_as(self) -> Known:
         return Known(self.thing, tuple(sorted(side.known_as for side in self.sides)))
 
@@ -175,7 +195,7 @@ class Finding:
     @property
     def told_sides(self) -> list[str]:
         width = max((len(side.kind) for side in self.sides), default=0)
-        if self.kind in (DEADLOCK, POSSIBLE_DEADLOCK):
+        if self.is_deadlock:
             names = max((len(side.task) for side in self.sides), default=0)
             return [f"{side.task:{names}} {side.told(width)}" for side in self.sides]
         return [side.told(width) for side in self.sides]

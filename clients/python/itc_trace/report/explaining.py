@@ -5,7 +5,7 @@ from __future__ import annotations
 import os
 from collections.abc import Iterator
 
-from ..analyse.benign import Pattern
+from ..analyse.benign import MOST_PLACES, Pattern
 from ..model.finding import Finding, FoundSide, Step
 from ..model.verdict import reasons
 from .report import Report
@@ -67,8 +67,7 @@ def _lines(finding: Finding, report: Report) -> Iterator[str]:
 
 def _side(side: FoundSide, before: tuple[Step, ...], after: tuple[Step, ...]) -> Iterator[str]:
     locks = ", ".join(lock.partition(" ")[2] or lock for lock in side.held)
-    where = f" in {side.function}" if side.function and side.function != "<module>" else ""
-    yield f"{side.task}: {side.kind} at {side.place}{where}, holding {locks or 'no lock'}"
+    yield f"{side.task}: {side.kind} at {side.told_place}, holding {locks or 'no lock'}"
     yield from (f"    before  {one}" for one in _steps(before))
     yield from _source(side)
     yield from (f"    after   {one}" for one in _steps(after))
@@ -89,8 +88,12 @@ def _steps(steps: tuple[Step, ...]) -> Iterator[str]:
 
 
 def benign_line(finding: Finding) -> str:
-    """The line of a file of --benign by which this finding is meant, and no other that is at other places."""
-    places = [side.place if side.file else ANY for side in finding.sides]
+    """The line of a file of --benign by which this finding is meant, and no other that is at other places.
+
+    A line has two places at most. Those of a deadlock are where its first two tasks want a lock.
+    """
+    sides = finding.sides[1::2] if finding.is_deadlock else finding.sides
+    places = [side.place if side.file else ANY for side in sides[:MOST_PLACES]]
     words = [_word(one) for one in (finding.thing, *places)]
     return f"{' '.join(words)}  # {finding.identity}"
 

@@ -5,7 +5,7 @@ from __future__ import annotations
 import json
 from typing import Any
 
-from ..model.finding import DEADLOCK, POSSIBLE_DEADLOCK, Finding, FoundSide
+from ..model.finding import Finding, FoundSide
 from ..model.sources import MOST_LETTERS
 from .report import Report
 
@@ -25,7 +25,7 @@ def _told(finding: Finding) -> dict[str, Any]:
     return {
         "thing": finding.thing, "made": finding.made, "possible": finding.is_possible, "why": finding.why,
         "times": finding.times, "sides": [_side(side) for side in finding.sides],
-        **({"kind": finding.kind} if finding.kind in (DEADLOCK, POSSIBLE_DEADLOCK) else {}),
+        **({"kind": finding.kind} if finding.is_deadlock else {}),
         **({"confirmed": True} if finding.is_confirmed else {}),
     }
 

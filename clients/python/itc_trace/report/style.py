@@ -3,6 +3,7 @@
 from __future__ import annotations
 
 import os
+import re
 from collections.abc import Mapping
 from typing import TextIO
 from urllib.parse import quote
@@ -38,7 +39,7 @@ class TerminalStyle(Style):
     def lines(self, finding: Finding, folder: str) -> list[str]:
         title, *rest = finding.lines()
         for number, side in enumerate(finding.sides):
-            rest[number] = self._with_link(rest[number], side, side.place, folder)
+            rest[number] = self._with_link(rest[number], side, side.short_place if side.is_java else side.place, folder)
         shown = rest[: len(finding.sides)]
         faint = [f"{FAINT}{line}{END}" for line in rest[len(finding.sides) :]]
         return [self._with_colour(title, finding), *shown, *faint]
@@ -58,7 +59,9 @@ class TerminalStyle(Style):
         if not self._has_links or not side.file or side.file.startswith("<"):
             return line
         file = quote(os.path.join(folder, side.file))
-        return line.replace(f" at {place}", f" at \033]8;;file://{file}\033\\{place}\033]8;;\033\\", 1)
+        before, at, behind = line.partition(" at ")
+        linked = f"\033]8;;file://{file}\033\\{place}\033]8;;\033\\"
+        return before + at + re.sub(rf"{re.escape(place)}(?!\d)", lambda _: linked, behind, count=1)
 
     def summary(self, text: str, is_good: bool) -> str:
         return f"{GREEN if is_good else RED}{text}{END}"
