@@ -105,6 +105,13 @@ func unseenRow(cause, reason string) string {
 	return string(append(text, "}\n"...))
 }
 
+// processRow is the whole name of a process, and what the names of its tasks begin with.
+func processRow(name, tag string) string {
+	text := appendText([]byte(`{"process":`), name)
+	text = appendText(append(text, `,"tag":`...), tag)
+	return string(append(text, "}\n"...))
+}
+
 // childRow says that a child process adds to this journal.
 func childRow(child, how string) string {
 	text := appendText([]byte(`{"child":`), child)

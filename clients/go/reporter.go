@@ -54,7 +54,8 @@ func (r *Reporter) begin(name string) error {
 			return err
 		}
 		r.Task, r.process = tried, processOf(name, number)
-		return r.write(row{event: event, time: now(), task: "root", kind: "spawn", label: "start process " + tried})
+		begun := row{event: event, time: now(), task: "root", kind: "spawn", label: "start process " + tried}.appendTo(nil)
+		return r.writeRows(append(begun, processRow(r.process, tagOf(r.Task))...))
 	}
 }
 
@@ -138,13 +139,15 @@ func (r *Reporter) at(event int, err error, told row) (int, error) {
 	return event, r.write(told)
 }
 
-func (r *Reporter) write(told row) error {
+func (r *Reporter) write(told row) error { return r.writeRows(told.appendTo(nil)) }
+
+func (r *Reporter) writeRows(rows []byte) error {
 	if r.journal == nil {
 		return nil
 	}
 	r.mutex.Lock()
 	defer r.mutex.Unlock()
-	_, err := r.journal.Write(told.appendTo(nil))
+	_, err := r.journal.Write(rows)
 	return err
 }
 

@@ -175,6 +175,9 @@ func (t *tracer) spawnOthers() error {
 			return err
 		}
 		if !isTaken {
+			if t.parent == nil {
+				t.unwritten = append(t.unwritten, processRow(t.process, tagNumbered(t.tag, number))...)
+			}
 			t.names["others"] = 1
 			t.main.events++
 			t.others = newTask(t.prefix + "others")

@@ -152,6 +152,11 @@ pub(crate) fn child_ended(tag: &str) -> String {
     format!("{{\"child\":{},\"ended\":true}}\n", quoted(tag))
 }
 
+/// The whole name of a process, and what the names of its tasks begin with.
+pub(crate) fn process(name: &str, tag: &str) -> String {
+    format!("{{\"process\":{},\"tag\":{}}}\n", quoted(name), quoted(tag))
+}
+
 fn quoted(text: &str) -> String {
     let mut quoted = String::from("\"");
     for next in text.chars() {

@@ -46,6 +46,9 @@ impl Reporter {
             if number > 1 {
                 self.process += &format!(" {number}"); // What is its own is not that of the first one.
             }
+            if let Some(journal) = self.journal.get_mut().unwrap() {
+                journal.write_all(journal::process(&self.process, &tried).as_bytes())?;
+            }
             self.task = tried;
             break;
         }

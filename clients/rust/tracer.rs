@@ -549,6 +549,9 @@ impl State {
         let tagged = |number| if number == 1 { tag.clone() } else { format!("{tag}{number}") };
         let (others, number, row) = fresh(&main, "start ", &|number| format!("{}_others", tagged(number)))?;
         state.unwritten += &row;
+        if !state.is_child {
+            state.unwritten += &journal::process(&state.process, &tagged(number));
+        }
         state.names = Names::new(format!("{}_", tagged(number)), "others");
         state.lines.add(others.into(), Known::default());
         Ok(state)

@@ -4,6 +4,7 @@ from __future__ import annotations
 
 import json
 import os
+import re
 import shutil
 import signal
 import socket
@@ -44,6 +45,25 @@ public final class Seller {
             reporter.end(child);
             reporter.join(reporter.task, child);
         }
+    }
+}
+"""
+JAVA_MAIN = """package shop;
+
+public final class Main {
+    public static void main(String[] words) throws InterruptedException {
+        itctrace.TracedThread left = itctrace.Traced.start("left", () -> { shop.a.Store.put(); shop.b.Store.put(); });
+        itctrace.TracedThread right = itctrace.Traced.start("right", () -> { shop.a.Store.put(); shop.b.Store.put(); });
+        left.join();
+        right.join();
+    }
+}
+"""
+JAVA_STORE = """package shop.PACKAGE;
+import itctrace.Traced;
+public final class Store {
+    public static void put() {
+        Traced.touch("stock of PACKAGE", true);
     }
 }
 """
@@ -150,12 +170,39 @@ for thread in threads: thread.join()
     def assert_lost_update(self, command: list[str], lines: set[str]) -> None:
         """The two lines of another language race with those of a Python program, and nothing else does."""
         python = self.python("store", 'import itc_trace\nitc_trace.touch("stock row", across=True)\nitc_trace.touch("stock row", True, across=True)\n')
-        ran = self.run_system("--all", store={"command": python}, seller={"command": command})
+        ran = self.run_system("--all", storekeeper={"command": python}, sellerkeeper={"command": command})
         self.assertEqual(ran.returncode, Verdict.RACES, ran.stderr)
         told = {line.split(":  ")[0].split("/")[-1].split()[-1].removesuffix(":") for line in ran.stderr.splitlines() if " at " in line}
         self.assertEqual(told, {"store.py:2", "store.py:3", *lines})
+        self.assertRegex(ran.stderr, "threads (storekeeper and sellerkeeper|sellerkeeper and storekeeper): nothing orders them")
         self.assertEqual(ran.stderr.count("in this run"), 1)
         self.assertNotIn("own", ran.stderr)
+
+    @unittest.skipUnless(shutil.which("javac") and shutil.which("java"), "no Java")
+    def test_places_of_java_and_whole_names_of_processes(self) -> None:
+        """The file of the system lies elsewhere, two processes begin alike, and two classes of two packages have one name."""
+        out, app = str(self.folder / "app" / "out"), self.folder / "app" / "src"
+        written = [app / "shop" / "Main.java"]
+        (app / "shop").mkdir(parents=True)
+        written[0].write_text(JAVA_MAIN)
+        for package in ("a", "b"):
+            (app / "shop" / package).mkdir()
+            written.append(app / "shop" / package / "Store.java")
+            written[-1].write_text(JAVA_STORE.replace("PACKAGE", package))
+        sources = CLIENTS / "java" / "src" / "main" / "java" / "itctrace"
+        quick = ("-J-XX:TieredStopAtLevel=1", "-J-XX:+UseSerialGC")
+        subprocess.run(["javac", *quick, "-d", out, *map(str, [*sorted(sources.glob("*.java")), *written])], check=True)
+        (self.folder / "conf").mkdir()
+        described = {"command": ["java", "-cp", out, "shop.Main"], "directory": "."}
+        ran = run_system("--all", self.written("conf/system.toml", "".join(
+            f"[process.{name}]\n" + "".join(f"{key} = {json.dumps(value)}\n" for key, value in described.items())
+            for name in ("warehouse_one", "warehouse_two")
+        )))
+        self.assertEqual(ran.returncode, Verdict.RACES, ran.stderr)
+        for package, process in (("a", "one"), ("b", "one"), ("a", "two"), ("b", "two")):
+            place = f'write at shop.{package}.Store.put (Store.java:5):  Traced.touch("stock of {package}", true);'
+            tasks = rf"threads warehouse_{process}_(left|right) and warehouse_{process}_(left|right): nothing orders them"
+            self.assertRegex(ran.stderr, rf"race on stock of {package} of warehouse_{process}\n    {re.escape(place)}\n    {re.escape(place)}\n    {tasks}")
 
     # Starting and ending
 

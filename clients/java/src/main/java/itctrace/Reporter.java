@@ -39,6 +39,7 @@ public final class Reporter implements AutoCloseable {
             try {
                 write(session.spawn("root", tried), Row.of("root", "spawn", Row.Site.NONE, "start process " + tried, null));
                 process += number == 1 ? "" : " " + number; // What is its own is not that of the first one.
+                journal.write(Row.process(process, tried).getBytes(StandardCharsets.UTF_8));
                 return tried;
             } catch (Session.Refused refused) {
                 if (refused.code != TASK_EXISTS) {

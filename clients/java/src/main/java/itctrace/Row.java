@@ -92,8 +92,13 @@ record Row(String task, String thing, String kind, Site site, String label, List
 
         private static Site of(StackWalker.StackFrame frame) {
             String type = frame.getClassName();
-            String function = type.substring(type.lastIndexOf('.') + 1) + "." + frame.getMethodName();
-            return new Site(frame.getFileName(), frame.getLineNumber(), function);
+            return new Site(fileOf(type, frame.getFileName()), frame.getLineNumber(), type + "." + frame.getMethodName());
+        }
+
+        /** The file of a class by its package, as files of two packages may have one name. Null if the class does not say its file. */
+        static String fileOf(String type, String name) {
+            int length = type.lastIndexOf('.') + 1;
+            return name == null ? null : type.substring(0, length).replace('.', '/') + name;
         }
 
         private static boolean isOfProgram(String name) {
@@ -166,6 +171,11 @@ record Row(String task, String thing, String kind, Site site, String label, List
     /** The last line of a child process that reported all that it noted. */
     static String childEnded(String tag) {
         return "{\"child\":" + quoted(tag) + ",\"ended\":true}\n";
+    }
+
+    /** The whole name of a process, and what the names of its tasks begin with. */
+    static String process(String name, String tag) {
+        return "{\"process\":" + quoted(name) + ",\"tag\":" + quoted(tag) + "}\n";
     }
 
     /** The line that says what was not seen, and why. */

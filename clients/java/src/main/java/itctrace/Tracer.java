@@ -156,6 +156,9 @@ final class Tracer {
         live.add(main);
         live.add(others);
         names = new Names(others.name.substring(0, others.name.length() - "others".length()), "others");
+        if (!isChild) {
+            unwritten.append(Row.process(process, names.prefix.substring(0, names.prefix.length() - "_".length())));
+        }
         lastLine = environment.child().map(child -> Row.childEnded(child.tag())).orElse(Row.END);
         journal = environment.openJournal();
         start(this::sendAll, "itctrace sender");
