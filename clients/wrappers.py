@@ -34,8 +34,12 @@ PRIMITIVES = {"java": CLIENTS / "java/examples/Primitives.java", "rust": CLIENTS
 WEB = {"java": CLIENTS / "java/examples/WebPrograms.java", "rust": CLIENTS / "rust/web_programs.rs"}
 REQUESTS = os.environ.get("ITC_REQUESTS", "4000")
 """So many requests the long run answers."""
-DEADLOCKS = ("two_orders", "two_orders_gate", "read_orders", "read_orders_both", "tried_order")
-"""Programs of Rust, of which two acquire locks in orders that make a cycle."""
+DEADLOCKS = {
+    "rust": ("two_orders", "two_orders_gate", "read_orders", "read_orders_both", "tried_order"),
+    "java": ("two_orders", "two_orders_gate", "read_orders", "read_orders_both", "tried_order", "monitor_orders", "hand_over_hand",
+             "late_orders"),
+}
+"""Programs of which some acquire locks in orders that make a cycle."""
 LUCKY = ("read_lock", "stamped_lock", "stamped_trust", "stamped_turn")
 """Those that a lock keeps in order by luck alone."""
 ENDS = {"java": ("exit", "halt", "panic", "goes_on"), "rust": ("dropped", "exit", "finish", "panic", "goes_on", "abort")}
@@ -215,8 +219,9 @@ def primitives_of(programs: Programs) -> list[str]:
 def check_deadlocks(programs: Programs) -> None:
     """Locks that are acquired in orders that make a cycle are told with all their places. No others are."""
     with tempfile.TemporaryDirectory() as folder:
-        ran = run_system(Path(folder), **{f"p{number}": programs.words(name) for number, name in enumerate(DEADLOCKS)})
-    for number, name in enumerate(DEADLOCKS):
+        names = DEADLOCKS[programs.language]
+        ran = run_system(Path(folder), **{f"p{number}": programs.words(name) for number, name in enumerate(names)})
+    for number, name in enumerate(names):
         found, due = listed_deadlocks(ran.stderr, f"p{number}"), marked(programs.source, "deadlock", name)
         if found != due or f"p{number} | done\n" not in ran.stdout:
             raise Wrong(f"{name}: {sorted(found)} in place of {sorted(due)}\n{ran.stdout}{ran.stderr}")
@@ -525,8 +530,8 @@ def main() -> int:
         checks += [
             Check([f"{language}: {name}" for name in statuses], check_orders, (programs, statuses)) for statuses in systems_of(own)
         ]
-        if language == "rust":
-            checks.append(Check([f"{language}: {name}" for name in DEADLOCKS], check_deadlocks, (programs,)))
+        if language in DEADLOCKS:
+            checks.append(Check([f"{language}: {name}" for name in DEADLOCKS[language]], check_deadlocks, (programs,)))
         checks += [
             Check([f"{language}: {name}"], call, (programs,)) for name, call in (
                 ("across", check_across), ("no collector", check_without_collector), ("gone collector", check_gone_collector),

@@ -1,6 +1,7 @@
 import itctrace.Reporter;
 import itctrace.Traced;
 import itctrace.TracedFuture;
+import itctrace.TracedMonitor;
 import itctrace.TracedRequest;
 import itctrace.TracedThread;
 import java.nio.file.Files;
@@ -109,6 +110,168 @@ public final class Wrappers {
         lockTurns(TURNS); // A lock that nobody else acquires leaves nothing in the trace.
         crossedLocks();
         releasedLate();
+    }
+
+    /** The second thread begins once the first one is done, and nothing that is reported says so. */
+    private static void oneAfterAnother(Runnable first, Runnable second) throws InterruptedException {
+        Traced.start("first", first).thread().join();
+        Traced.start("second", second).thread().join();
+    }
+
+    /** Two locks are acquired in both orders. With a gate around both, only one thread is there at once. */
+    private static void twoOrders(boolean hasGate) throws InterruptedException {
+        Lock gate = Traced.lock(new ReentrantLock());
+        Lock one = Traced.lock(new ReentrantLock());
+        Lock other = Traced.lock(new ReentrantLock());
+        oneAfterAnother(
+                () -> {
+                    if (hasGate) {
+                        gate.lock();
+                    }
+                    one.lock(); // deadlock: two_orders
+                    other.lock(); // deadlock: two_orders
+                    other.unlock();
+                    one.unlock();
+                    if (hasGate) {
+                        gate.unlock();
+                    }
+                },
+                () -> {
+                    if (hasGate) {
+                        gate.lock();
+                    }
+                    other.lock(); // deadlock: two_orders
+                    one.lock(); // deadlock: two_orders
+                    one.lock(); // Whoever has it does not wait.
+                    one.unlock();
+                    one.unlock();
+                    other.unlock();
+                    if (hasGate) {
+                        gate.unlock();
+                    }
+                });
+    }
+
+    /** One thread writes under the lock that the other one reads under, or both read. */
+    private static void readOrders(boolean bothRead) throws InterruptedException {
+        ReadWriteLock table = Traced.lock(new ReentrantReadWriteLock());
+        StampedLock stamped = Traced.stampedLock();
+        oneAfterAnother(
+                () -> {
+                    table.readLock().lock(); // deadlock: read_orders
+                    long stamp = stamped.writeLock(); // deadlock: read_orders
+                    stamped.unlockWrite(stamp);
+                    table.readLock().unlock();
+                },
+                () -> {
+                    long stamp = stamped.writeLock(); // deadlock: read_orders
+                    if (bothRead) {
+                        table.readLock().lock();
+                        table.readLock().unlock();
+                    } else {
+                        table.writeLock().lock(); // deadlock: read_orders
+                        table.writeLock().unlock();
+                    }
+                    stamped.unlockWrite(stamp);
+                });
+    }
+
+    /** A thread gives back what it holds, if it does not get the other lock at once or in time. */
+    private static void triedOrder() throws InterruptedException {
+        Lock one = Traced.lock(new ReentrantLock());
+        Lock other = Traced.lock(new ReentrantLock());
+        oneAfterAnother(
+                () -> {
+                    one.lock();
+                    other.lock();
+                    other.unlock();
+                    one.unlock();
+                },
+                () -> {
+                    other.lock();
+                    if (one.tryLock()) {
+                        one.unlock();
+                    }
+                    if (triedFor(one)) {
+                        one.unlock();
+                    }
+                    other.unlock();
+                });
+    }
+
+    private static boolean triedFor(Lock lock) {
+        try {
+            return lock.tryLock(1, TimeUnit.SECONDS);
+        } catch (InterruptedException interrupted) {
+            throw new IllegalStateException(interrupted);
+        }
+    }
+
+    /** A monitor, and a lock at whose condition others wait. */
+    private static void monitorOrders() throws InterruptedException {
+        Object stock = new Object();
+        Lock lock = Traced.lock(new ReentrantLock());
+        Condition changed = lock.newCondition();
+        oneAfterAnother(
+                () -> {
+                    synchronized (stock) {
+                        try (TracedMonitor monitor = Traced.monitor(stock)) { // deadlock: monitor_orders
+                            lock.lock(); // deadlock: monitor_orders
+                            changed.signalAll();
+                            lock.unlock();
+                        }
+                    }
+                },
+                () -> {
+                    lock.lock(); // deadlock: monitor_orders
+                    synchronized (stock) {
+                        try (TracedMonitor monitor = Traced.monitor(stock)) { // deadlock: monitor_orders
+                            Traced.touch("stock", true);
+                        }
+                    }
+                    lock.unlock();
+                });
+    }
+
+    /** Each lock is released once the next one is held. So they hand over more than what they enclose, and are passed over. */
+    private static void handOverHand() throws InterruptedException {
+        Lock one = Traced.lock(new ReentrantLock());
+        Lock other = Traced.lock(new ReentrantLock());
+        Runnable forth =
+                () -> {
+                    one.lock();
+                    other.lock();
+                    one.unlock();
+                    one.lock();
+                    other.unlock();
+                    one.unlock();
+                };
+        oneAfterAnother(forth, forth);
+    }
+
+    /** Of each turn but the first ones nobody looks where the lock is acquired, until another one is acquired with it. */
+    private static void lateOrders() throws InterruptedException {
+        Lock one = Traced.lock(new ReentrantLock());
+        Lock other = Traced.lock(new ReentrantLock());
+        oneAfterAnother(
+                () -> {
+                    for (int turn = 0; turn < SOME; turn++) {
+                        one.lock();
+                        one.unlock();
+                    }
+                    for (int turn = 0; turn < 2; turn++) {
+                        one.lock(); // deadlock: late_orders
+                        other.lock(); // deadlock: late_orders
+                        other.unlock();
+                        one.unlock();
+                    }
+                },
+                () -> {
+                    other.lock(); // deadlock: late_orders
+                    one.lock(); // deadlock: late_orders
+                    one.unlock();
+                    other.unlock();
+                });
     }
 
     /** A lock that is released before one that was acquired later is meant to hand something over. */
@@ -917,6 +1080,14 @@ public final class Wrappers {
             case "lost_update" -> lostUpdate();
             case "plain_threads" -> plainThreads();
             case "locked" -> locked();
+            case "two_orders" -> twoOrders(false);
+            case "two_orders_gate" -> twoOrders(true);
+            case "read_orders" -> readOrders(false);
+            case "read_orders_both" -> readOrders(true);
+            case "tried_order" -> triedOrder();
+            case "monitor_orders" -> monitorOrders();
+            case "hand_over_hand" -> handOverHand();
+            case "late_orders" -> lateOrders();
             case "lucky_lock" -> luckyLock();
             case "contended" -> contended();
             case "tried_lock" -> triedLock();

@@ -3,6 +3,7 @@ package itctrace;
 import itctrace.Place.Gives;
 import itctrace.Place.Noted;
 import itctrace.Row.Site;
+import itctrace.Task.HeldLock;
 
 /** What a lock is called, in labels and as one of those that a task holds. It is looked at with the lock held. */
 final class LockName {
@@ -12,15 +13,22 @@ final class LockName {
     private final Site made = Traced.site();
     private String name;
     private Gives luck;
+    private Gives guard;
     private Gives signal;
+    /** Whether others wait for more than the lock, as for a condition. */
+    private volatile boolean isGuard;
+    /** Whether it keeps nobody out: it was released while one was held that was acquired later. */
     private volatile boolean isSignal;
+    /** Whether another one was acquired while it was held. Then it is looked where each task acquires it. */
+    private volatile boolean isNested;
 
     private String name() {
         if (name == null) {
             name = Traced.lockName(made);
             String told = "lock (" + made + ")";
             luck = new Gives("lock" + made.line(), "release " + told, "acquire " + told, name, true);
-            signal = new Gives("lock" + made.line(), "release " + told, "acquire " + told, name, false);
+            guard = new Gives("lock" + made.line(), "release " + told, "acquire " + told, name, false);
+            signal = Gives.order("lock" + made.line(), "release " + told, "acquire " + told);
         }
         return name;
     }
@@ -32,23 +40,38 @@ final class LockName {
 
     /** Whether a release would give this now. */
     boolean gives(Noted noted) {
-        return noted.gives() == (isSignal ? signal : luck);
+        return noted.gives() == gives();
+    }
+
+    private Gives gives() {
+        return isSignal ? signal : isGuard ? guard : luck;
     }
 
     /** Others wait for more than the lock, as for a condition. Then its hand-over is meant, and no luck. */
-    void becomeSignal() {
-        isSignal = true;
+    void becomeGuard() {
+        isGuard = true;
     }
 
-    /** This thread's task holds it from now on. */
-    void hold(Traced.Own own) {
-        own.hold(name());
+    /** Where this thread acquires it. Nobody looks if its task alone acquires it again and again, and no other one with it. */
+    Site acquiredAt(Traced.Own own, int turns) {
+        return turns < FEW_TURNS || isNested || own.holdsAny() ? Traced.site() : Site.NONE;
+    }
+
+    /** This thread's task holds it from now on. It has waited for it, if it would have. */
+    void hold(Traced.Own own, Site at, boolean isShared, boolean hasWaited) {
+        own.hold(this, new HeldLock(name(), at, isShared), hasWaited && !isSignal);
+    }
+
+    /** Another one was acquired while it was held. */
+    void becomeNested() {
+        isNested = true;
     }
 
     /** This thread's task no longer holds it. */
     void letGo(Traced.Own own) {
-        if (own.letGo(name())) {
+        if (own.letGo(name()) && !isSignal) {
             isSignal = true; // One that was acquired later stays, as in a lock made of two.
+            Traced.tellSignal(name());
         }
     }
 
@@ -58,7 +81,7 @@ final class LockName {
      */
     Noted release(Place here, Noted last, int turns) {
         name();
-        Gives gives = isSignal ? signal : luck;
+        Gives gives = gives();
         Place.Slot slot = here.slot(gives.isLuck());
         if (turns < FEW_TURNS || last == null) {
             slot.noted = new Noted(gives, Traced.site(), Row.now());

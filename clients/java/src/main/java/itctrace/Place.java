@@ -1,5 +1,6 @@
 package itctrace;
 
+import itctrace.Row.Handed;
 import itctrace.Row.Site;
 import java.util.concurrent.atomic.AtomicIntegerFieldUpdater;
 
@@ -11,9 +12,9 @@ final class Place {
             return new Gives(hint, giving, taking, null, false);
         }
 
-        /** The lock that a row names. */
-        String luck() {
-            return isLuck ? lock : null;
+        /** What a row names of it. */
+        Handed handed() {
+            return lock == null ? null : new Handed(lock, isLuck);
         }
     }
 

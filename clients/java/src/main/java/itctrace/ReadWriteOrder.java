@@ -30,7 +30,7 @@ final class ReadWriteOrder {
     private int turns;
 
     /** This thread holds it from now on. */
-    void acquired(boolean isWriter) {
+    void acquired(boolean isWriter, boolean hasWaited) {
         if (!Traced.isOn()) {
             return;
         }
@@ -42,7 +42,8 @@ final class ReadWriteOrder {
         } else {
             read(Traced.own());
         }
-        name.hold(Traced.own());
+        Traced.Own own = Traced.own();
+        name.hold(own, name.acquiredAt(own, turns), !isWriter, hasWaited);
     }
 
     private synchronized void nameIt() {
@@ -145,7 +146,7 @@ final class ReadWriteOrder {
         }
     }
 
-    void becomeSignal() {
-        name.becomeSignal();
+    void becomeGuard() {
+        name.becomeGuard();
     }
 }

@@ -12,14 +12,14 @@ abstract class ReportingLock implements Lock {
         this.lock = lock;
     }
 
-    /** This thread holds it from now on. */
-    abstract void acquired();
+    /** This thread holds it from now on. It would have waited for it for ever, or had a way back. */
+    abstract void acquired(boolean hasWaited);
 
     /** This thread is about to release it. Reports nothing if the thread does not hold it: the lock itself says what is wrong. */
     abstract void releasing();
 
     /** Others wait for more than the lock, as for a condition. Then its hand-over is meant, and no luck. */
-    abstract void becomeSignal();
+    abstract void becomeGuard();
 
     /** Reports that the lock is released, however often it is held. Gives what reports that it is acquired again. */
     abstract Runnable lend();
@@ -27,13 +27,13 @@ abstract class ReportingLock implements Lock {
     @Override
     public final void lock() {
         lock.lock();
-        acquired();
+        acquired(true);
     }
 
     @Override
     public final void lockInterruptibly() throws InterruptedException {
         lock.lockInterruptibly();
-        acquired();
+        acquired(true);
     }
 
     @Override
@@ -48,7 +48,7 @@ abstract class ReportingLock implements Lock {
 
     private boolean acquiredIf(boolean isAcquired) {
         if (isAcquired) {
-            acquired();
+            acquired(false);
         }
         return isAcquired;
     }
@@ -62,7 +62,7 @@ abstract class ReportingLock implements Lock {
     @Override
     public final Condition newCondition() {
         Condition condition = lock.newCondition();
-        becomeSignal();
+        becomeGuard();
         return new TracedCondition(condition, this::lend);
     }
 }

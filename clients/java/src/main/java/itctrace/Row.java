@@ -1,5 +1,6 @@
 package itctrace;
 
+import itctrace.Task.HeldLock;
 import java.lang.reflect.Method;
 import java.math.BigDecimal;
 import java.time.Instant;
@@ -9,12 +10,23 @@ import java.util.Map;
 import java.util.Set;
 import java.util.concurrent.ConcurrentHashMap;
 import java.util.stream.Collectors;
+import java.util.stream.IntStream;
 
 /**
  * What a journal says of one event, or of one of the touches that an event stands for. A thing is what was touched, else null. The time
- * is that of the event, in microseconds since 1970. It is 0 if another row tells it.
+ * is that of the event, in microseconds since 1970. It is 0 if another row tells it. Of a lock that was waited for with others held,
+ * {@code acquired} has all of them, and that one last.
  */
-record Row(String task, String thing, String kind, Site site, String label, List<String> held, String lock, long time) {
+record Row(
+        String task,
+        String thing,
+        String kind,
+        Site site,
+        String label,
+        List<String> held,
+        Handed handed,
+        List<HeldLock> acquired,
+        long time) {
     /** The last line of a journal whose process reported all that it noted. */
     static final String END = "{\"end\":true}\n";
 
@@ -31,6 +43,9 @@ record Row(String task, String thing, String kind, Site site, String label, List
             return isTaken ? new Event(Integer.parseInt(words[1]), words.length > 2 ? Integer.parseInt(words[2]) : 1) : null;
         }
     }
+
+    /** The lock that a message hands over. It is meant where others wait for more than the lock, as for a condition, and luck else. */
+    record Handed(String lock, boolean isLuck) {}
 
     /** A line of the program. */
     record Site(String file, int line, String function) {
@@ -117,18 +132,18 @@ record Row(String task, String thing, String kind, Site site, String label, List
     }
 
     /** The row of an event that touches nothing, and is now. */
-    static Row of(String task, String kind, Site site, String label, String lock) {
-        return at(now(), task, kind, site, label, lock);
+    static Row of(String task, String kind, Site site, String label, Handed handed) {
+        return at(now(), task, kind, site, label, handed);
     }
 
     /** The row of an event that touched nothing, and was then. */
-    static Row at(long time, String task, String kind, Site site, String label, String lock) {
-        return new Row(task, null, kind, site, label, List.of(), lock, time);
+    static Row at(long time, String task, String kind, Site site, String label, Handed handed) {
+        return new Row(task, null, kind, site, label, List.of(), handed, List.of(), time);
     }
 
     /** The same row, at this time. */
     Row withTime(long then) {
-        return new Row(task, thing, kind, site, label, held, lock, then);
+        return new Row(task, thing, kind, site, label, held, handed, acquired, then);
     }
 
     /** By the clock of this process. */
@@ -148,19 +163,43 @@ record Row(String task, String thing, String kind, Site site, String label, List
         }
         text.append(",\"task\":").append(quoted(task)).append(",\"thing\":").append(quoted(thing)).append(",\"kind\":").append(quoted(kind));
         text.append(",\"file\":").append(quoted(site.file)).append(",\"line\":").append(site.line).append(",\"label\":").append(quoted(label));
-        if (thing != null && !site.function.isEmpty()) {
+        if ((thing != null || !acquired.isEmpty()) && !site.function.isEmpty()) {
             text.append(",\"function\":").append(quoted(site.function));
         }
         if (!held.isEmpty()) {
             text.append(held.stream().map(Row::quoted).collect(Collectors.joining(",", ",\"held\":[", "]")));
         }
-        if (lock != null) {
-            text.append(",\"lock\":").append(quoted(lock));
+        appendAcquired(text);
+        if (handed != null) {
+            text.append(handed.isLuck ? ",\"lock\":" : ",\"guard\":").append(quoted(handed.lock));
         }
         if (of != null) {
             text.append(",\"of\":").append(quoted(of));
         }
         return text.append("}\n").toString();
+    }
+
+    private void appendAcquired(StringBuilder text) {
+        if (acquired.isEmpty()) {
+            return;
+        }
+        int last = acquired.size() - 1;
+        text.append(",\"wants\":").append(quoted(acquired.get(last).lock()));
+        text.append(acquired.stream().limit(last).map(one -> three(one.site())).collect(Collectors.joining(",", ",\"at\":[", "]")));
+        text.append(
+                IntStream.rangeClosed(0, last)
+                        .filter(number -> acquired.get(number).isShared())
+                        .mapToObj(Integer::toString)
+                        .collect(Collectors.joining(",", ",\"shared\":[", "]")));
+    }
+
+    private static String three(Site site) {
+        return "[" + quoted(site.file) + "," + site.line + "," + quoted(site.function) + "]";
+    }
+
+    /** The line that says that a lock keeps nobody out. */
+    static String signal(String lock) {
+        return "{\"signal\":" + quoted(lock) + "}\n";
     }
 
     /** The line that says that a child process adds to the journal. */

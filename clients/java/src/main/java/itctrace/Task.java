@@ -51,8 +51,17 @@ final class Task {
         open.add(new Segment(here));
     }
 
-    /** What tells one touch of a task from the others. */
-    record Touch(String thing, boolean writes, boolean isAcross, Row.Site site, Held held) {}
+    /** What tells one of the things that a task did from the others. */
+    sealed interface Deed permits Touch, Acquisition {}
+
+    /** A read or a write. */
+    record Touch(String thing, boolean writes, boolean isAcross, Row.Site site, Held held) implements Deed {}
+
+    /** The task has waited for the last of these locks while it held the others. */
+    record Acquisition(List<HeldLock> locks) implements Deed {}
+
+    /** A lock, where it was acquired, and whether others may read under it meanwhile. */
+    record HeldLock(String lock, Row.Site site, boolean isShared) {}
 
     /** The locks that a task holds, the last one first. */
     record Held(String lock, Held others) {
@@ -76,7 +85,7 @@ final class Task {
 
         long time;
         List<Row> rows = new ArrayList<>();
-        private final Map<Touch, Row> seen = new HashMap<>();
+        private final Map<Deed, Row> seen = new HashMap<>();
 
         Segment(Place place) {
             this.place = place;
@@ -86,13 +95,13 @@ final class Task {
             return seen.isEmpty();
         }
 
-        boolean has(Touch touch) {
-            return seen.containsKey(touch);
+        boolean has(Deed deed) {
+            return seen.containsKey(deed);
         }
 
-        /** Adds the row of a touch that is new. */
-        void add(Touch touch, Row row) {
-            seen.put(touch, row);
+        /** Adds the row of what is new. */
+        void add(Deed deed, Row row) {
+            seen.put(deed, row);
             if (event != null) {
                 event.fresh.add(row);
             } else {
@@ -106,9 +115,9 @@ final class Task {
 
         private void absorb(Segment next) {
             next.seen.forEach(
-                    (touch, row) -> {
-                        if (!has(touch)) {
-                            add(touch, row);
+                    (deed, row) -> {
+                        if (!has(deed)) {
+                            add(deed, row);
                         }
                     });
             place = next.place;

@@ -5,7 +5,7 @@ import itctrace.Place.Gives;
 import itctrace.Place.Mark;
 import itctrace.Place.Noted;
 import itctrace.Row.Site;
-import itctrace.Task.Held;
+import itctrace.Task.HeldLock;
 import java.io.IOException;
 import java.util.List;
 import java.util.Optional;
@@ -43,7 +43,7 @@ public final class Traced {
     /** What a thread knows of itself: its task, and the locks that it holds. */
     static final class Own {
         private Task task;
-        private Held held;
+        private Holding holding;
         /** The last place of another task that the task has come after, to be read under a lock, and whether by luck. */
         private Place taken;
 
@@ -58,20 +58,29 @@ public final class Traced {
             isTakenByLuck = mark.noted.gives().isLuck();
         }
 
-        /** This thread holds the lock from now on. */
-        void hold(String lock) {
-            held = new Held(lock, held);
+        boolean holdsAny() {
+            return holding != null;
+        }
+
+        /** This thread holds the lock from now on. If it has waited for it with others held, that is told. */
+        void hold(LockName name, HeldLock lock, boolean hasWaited) {
+            boolean isInner = holdsAny();
+            holding = new Holding(name, lock, holding);
+            if (isInner && hasWaited) {
+                holding.tellNested();
+                TRACER.acquire(task(), holding.inOrder());
+            }
         }
 
         /** This thread no longer holds the lock. Gives whether it still holds one that it acquired later. */
         boolean letGo(String lock) {
-            if (held != null && held.lock().equals(lock)) {
-                held = held.others();
+            if (holding != null && holding.isOf(lock)) {
+                holding = holding.others();
                 return false;
             }
-            Held without = without(held, lock);
-            boolean isCrossed = without != held;
-            held = without;
+            Holding without = Holding.without(holding, lock);
+            boolean isCrossed = without != holding;
+            holding = without;
             return isCrossed;
         }
 
@@ -117,7 +126,7 @@ public final class Traced {
     private static void touched(String thing, boolean writes, boolean isAcross) {
         if (isOn()) {
             Own own = OWN.get();
-            TRACER.touch(own.task(), thing, writes, isAcross, Site.ofCaller(), own.held);
+            TRACER.touch(own.task(), thing, writes, isAcross, Site.ofCaller(), Holding.locks(own.holding));
         }
     }
 
@@ -310,14 +319,6 @@ public final class Traced {
         return OWN.get();
     }
 
-    private static Held without(Held held, String lock) {
-        if (held == null || held.lock().equals(lock)) {
-            return held == null ? null : held.others();
-        }
-        Held others = without(held.others(), lock);
-        return others == held.others() ? held : new Held(held.lock(), others);
-    }
-
     /** Where this thread is. */
     static Place here() {
         return current().here;
@@ -453,6 +454,13 @@ public final class Traced {
 
     static String lockName(Site site) {
         return isOn() ? TRACER.lockName("lock (" + site + ")") : "";
+    }
+
+    /** The lock keeps nobody out, as was found out. */
+    static void tellSignal(String lock) {
+        if (isOn()) {
+            TRACER.tellSignal(lock);
+        }
     }
 
     /** Starts the task of a process, and tells the process so. Null if there is no trace. */

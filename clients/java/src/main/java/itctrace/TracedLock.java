@@ -1,6 +1,7 @@
 package itctrace;
 
 import itctrace.Place.Noted;
+import itctrace.Row.Site;
 import java.lang.ref.Cleaner;
 import java.util.concurrent.locks.Lock;
 import java.util.concurrent.locks.ReentrantReadWriteLock;
@@ -44,26 +45,23 @@ final class TracedLock extends ReportingLock {
     }
 
     @Override
-    void acquired() {
+    void acquired(boolean hasWaited) {
         owner = Thread.currentThread();
         if (depth++ == 0 && Traced.isOn()) {
             own = Traced.own();
-            if (last.place != null) {
-                takeOver(last.place);
+            Place place = last.place;
+            boolean isHandedOver = place != null && place.task != own.task();
+            turns = isHandedOver ? 0 : turns + 1;
+            Site at = name.acquiredAt(own, turns);
+            if (isHandedOver) {
+                Traced.take(place, release, at);
             }
-            name.hold(own);
+            if (place != null) {
+                place.removeMark();
+                last.place = null;
+            }
+            name.hold(own, at, false, hasWaited);
         }
-    }
-
-    private void takeOver(Place place) {
-        if (place.task == own.task()) {
-            turns++;
-        } else {
-            turns = 0;
-            Traced.take(place, release, Traced.site());
-        }
-        place.removeMark();
-        last.place = null;
     }
 
     @Override
@@ -91,8 +89,8 @@ final class TracedLock extends ReportingLock {
     }
 
     @Override
-    void becomeSignal() {
-        name.becomeSignal();
+    void becomeGuard() {
+        name.becomeGuard();
     }
 
     @Override
@@ -104,7 +102,7 @@ final class TracedLock extends ReportingLock {
         depth = 1;
         releasing();
         return () -> {
-            acquired();
+            acquired(true);
             depth = before;
         };
     }

@@ -1,6 +1,7 @@
 package itctrace;
 
 import itctrace.Place.Noted;
+import itctrace.Row.Site;
 import java.lang.ref.WeakReference;
 
 /**
@@ -33,13 +34,17 @@ public final class TracedMonitor implements AutoCloseable {
         Place place = released;
         if (place != null) {
             turns = place.task == Traced.current() ? turns + 1 : 0;
+        }
+        Traced.Own own = Traced.own();
+        Site at = name.acquiredAt(own, turns);
+        if (place != null) {
             if (turns == 0) {
-                Traced.take(place, release, Traced.site());
+                Traced.take(place, release, at);
             }
             place.removeMark();
             released = null;
         }
-        name.hold(Traced.own());
+        name.hold(own, at, false, true);
     }
 
     private void releasing() {
@@ -60,7 +65,7 @@ public final class TracedMonitor implements AutoCloseable {
     public void await(long milliseconds) throws InterruptedException {
         Object own = object.get();
         int before = depth;
-        name.becomeSignal();
+        name.becomeGuard();
         releasing();
         depth = 0;
         try {

@@ -38,8 +38,8 @@ final class TracedReadWriteLock implements ReadWriteLock {
         }
 
         @Override
-        void acquired() {
-            order.acquired(isWriter);
+        void acquired(boolean hasWaited) {
+            order.acquired(isWriter, hasWaited);
         }
 
         @Override
@@ -50,8 +50,8 @@ final class TracedReadWriteLock implements ReadWriteLock {
         }
 
         @Override
-        void becomeSignal() {
-            order.becomeSignal();
+        void becomeGuard() {
+            order.becomeGuard();
         }
 
         @Override
@@ -60,7 +60,7 @@ final class TracedReadWriteLock implements ReadWriteLock {
                 return () -> {};
             }
             releasing();
-            return this::acquired;
+            return () -> acquired(true);
         }
     }
 }

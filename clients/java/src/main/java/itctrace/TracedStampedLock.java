@@ -11,12 +11,13 @@ import java.util.function.LongSupplier;
 /** A lock with stamps. A reader on trust comes after the last writer once its stamp is valid. */
 final class TracedStampedLock extends StampedLock {
     private static final long serialVersionUID = 1;
+    private static final long FOR_EVER = Long.MAX_VALUE;
 
     private final transient ReadWriteOrder order = new ReadWriteOrder();
 
-    private long acquired(boolean isWriter, long stamp) {
+    private long acquired(boolean isWriter, boolean hasWaited, long stamp) {
         if (stamp != 0) {
-            order.acquired(isWriter);
+            order.acquired(isWriter, hasWaited);
         }
         return stamp;
     }
@@ -29,42 +30,42 @@ final class TracedStampedLock extends StampedLock {
 
     @Override
     public long writeLock() {
-        return acquired(true, super.writeLock());
+        return acquired(true, true, super.writeLock());
     }
 
     @Override
     public long tryWriteLock() {
-        return acquired(true, super.tryWriteLock());
+        return acquired(true, false, super.tryWriteLock());
     }
 
     @Override
     public long tryWriteLock(long time, TimeUnit unit) throws InterruptedException {
-        return acquired(true, super.tryWriteLock(time, unit));
+        return acquired(true, time == FOR_EVER, super.tryWriteLock(time, unit));
     }
 
     @Override
     public long writeLockInterruptibly() throws InterruptedException {
-        return acquired(true, super.writeLockInterruptibly());
+        return acquired(true, true, super.writeLockInterruptibly());
     }
 
     @Override
     public long readLock() {
-        return acquired(false, super.readLock());
+        return acquired(false, true, super.readLock());
     }
 
     @Override
     public long tryReadLock() {
-        return acquired(false, super.tryReadLock());
+        return acquired(false, false, super.tryReadLock());
     }
 
     @Override
     public long tryReadLock(long time, TimeUnit unit) throws InterruptedException {
-        return acquired(false, super.tryReadLock(time, unit));
+        return acquired(false, time == FOR_EVER, super.tryReadLock(time, unit));
     }
 
     @Override
     public long readLockInterruptibly() throws InterruptedException {
-        return acquired(false, super.readLockInterruptibly());
+        return acquired(false, true, super.readLockInterruptibly());
     }
 
     @Override
@@ -114,7 +115,7 @@ final class TracedStampedLock extends StampedLock {
         boolean isWriter = isWriteLockStamp(stamp);
         long converted = super.tryConvertToWriteLock(stamp);
         if (converted != 0 && !isWriter) {
-            order.acquired(true);
+            order.acquired(true, false);
         }
         return converted;
     }
@@ -125,7 +126,7 @@ final class TracedStampedLock extends StampedLock {
         releasing(true, isWriter && super.validate(stamp));
         long converted = super.tryConvertToReadLock(stamp);
         if (converted != 0 && !isReadLockStamp(stamp)) {
-            order.acquired(false);
+            order.acquired(false, false);
         }
         return converted;
     }
@@ -176,7 +177,7 @@ final class TracedStampedLock extends StampedLock {
 
         @Override
         public void lockInterruptibly() throws InterruptedException {
-            timed.acquire(Long.MAX_VALUE, TimeUnit.NANOSECONDS);
+            timed.acquire(FOR_EVER, TimeUnit.NANOSECONDS);
         }
 
         @Override

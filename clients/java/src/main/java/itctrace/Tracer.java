@@ -6,7 +6,10 @@ import itctrace.Place.Mark;
 import itctrace.Place.Noted;
 import itctrace.Place.Slot;
 import itctrace.Row.Site;
+import itctrace.Task.Acquisition;
+import itctrace.Task.Deed;
 import itctrace.Task.Held;
+import itctrace.Task.HeldLock;
 import itctrace.Task.Segment;
 import itctrace.Task.Touch;
 import itctrace.Task.Touches;
@@ -27,6 +30,7 @@ import java.util.Set;
 import java.util.concurrent.CountDownLatch;
 import java.util.concurrent.TimeUnit;
 import java.util.function.IntFunction;
+import java.util.function.Supplier;
 
 /**
  * Reports for one process to one tenant. The program's threads only add to what is to be sent. A thread of the tracer sends it and
@@ -238,19 +242,52 @@ final class Tracer {
         if (stage == Stage.OVER) {
             return;
         }
+        add(
+                task,
+                new Touch(thing, writes, isAcross, site, held),
+                () -> {
+                    String kind = writes ? "write" : "read";
+                    String named = isAcross ? thing : thing + " of " + process;
+                    List<String> locks = held == null ? List.of() : held.inOrder();
+                    return new Row(task.name, named, kind, site, kind + " " + thing, locks, null, List.of(), 0);
+                });
+    }
+
+    /** The task has waited for the last of these locks, and holds the others. */
+    synchronized void acquire(Task task, List<HeldLock> locks) {
+        holdBack();
+        if (stage == Stage.OVER) {
+            return;
+        }
+        HeldLock wanted = locks.get(locks.size() - 1);
+        add(
+                task,
+                new Acquisition(locks),
+                () -> {
+                    List<String> held = locks.subList(0, locks.size() - 1).stream().map(HeldLock::lock).toList();
+                    String label = "acquire " + wanted.lock().substring(wanted.lock().indexOf(' ') + 1);
+                    return new Row(task.name, null, "local", wanted.site(), label, held, null, locks, 0);
+                });
+    }
+
+    /** Adds what the task did to its last segment, if it has not done the same there. */
+    private void add(Task task, Deed deed, Supplier<Row> row) {
         Segment segment = task.grow();
-        Touch touch = new Touch(thing, writes, isAcross, site, held);
-        if (!segment.has(touch)) {
+        if (!segment.has(deed)) {
             if (segment.isEmpty()) {
                 segment.time = Row.now();
             }
-            String kind = writes ? "write" : "read";
-            String named = isAcross ? thing : thing + " of " + process;
-            List<String> locks = held == null ? List.of() : held.inOrder();
-            segment.add(touch, new Row(task.name, named, kind, site, kind + " " + thing, locks, null, 0));
+            segment.add(deed, row.get());
         }
         advance(task);
         done(task);
+    }
+
+    /** The lock keeps nobody out. Whoever looks for cycles of locks passes it over. */
+    synchronized void tellSignal(String lock) {
+        if (stage != Stage.OVER) {
+            unwritten.append(Row.signal(lock));
+        }
     }
 
     /** Reports what stands behind no place that somebody may come after. */
@@ -300,7 +337,7 @@ final class Tracer {
             gone.watch(place, message);
         }
         long time = Math.max(noted.time(), task.time);
-        Row row = Row.at(time, task.name, "send", noted.site(), noted.gives().giving(), noted.gives().luck());
+        Row row = Row.at(time, task.name, "send", noted.site(), noted.gives().giving(), noted.gives().handed());
         tell(task, "send " + task.name + " " + message, row, Refusable.NEVER, null);
     }
 
@@ -393,7 +430,7 @@ final class Tracer {
         }
         task.learn(place.task, place.position, isLuck);
         leave(task);
-        Row row = Row.of(task.name, "recv", site, noted.gives().taking(), noted.gives().luck());
+        Row row = Row.of(task.name, "recv", site, noted.gives().taking(), noted.gives().handed());
         tell(task, "recv " + task.name + " " + slot.message, row, Refusable.RECEIVED, null);
         done(task);
         Reference.reachabilityFence(place); // Else its message may be forgotten before this receipt is noted.
