@@ -12,14 +12,20 @@ import unittest
 from pathlib import Path
 from typing import Any
 from unittest import mock
+from urllib.parse import unquote_to_bytes
 
-from itc_trace.model.verdict import Verdict
+from itc_trace.analyse.benign import read_patterns
+from itc_trace.model.finding import Finding, FoundSide
+from itc_trace.model.readable import readable
+from itc_trace.model.verdict import Cause, Unseen, Verdict
 from itc_trace.report.as_json import NoReport, json_text, report_of_json
+from itc_trace.report.explaining import benign_line, explained
 from itc_trace.report.formats import FORMATS
 from itc_trace.report.github import github
 from itc_trace.report.race_rows import race_rows
 from itc_trace.report.report import Report
 from itc_trace.report.sarif import sarif
+from itc_trace.report.style import TerminalStyle
 from itc_trace.report.text import Shown, link, text
 
 from .sarif_form import faults
@@ -100,6 +106,74 @@ class Formats(unittest.TestCase):
         first, second = stored().findings[:2]
         self.assertEqual(link(first, "/a b.html"), "file:///a%20b.html#event=3&other=9")
         self.assertEqual(link(second, "/x.html"), "file:///x.html#part=3&event=40")
+
+
+HOSTILE = ("new\nline.py", "rtl\u202egpj.py", "esc\033[31m.py", "bell\a.py", "caf\udce9.py", "a b.py", "per%cent,colon:.py", "quo\"te'.py")
+"""Names of files that end a line, turn letters, steer a terminal, are no UTF-8, or have what a format means otherwise."""
+
+
+class Names(unittest.TestCase):
+    """No name of a file breaks a format."""
+
+    def report(self, file: str) -> Report:
+        sides = tuple(FoundSide("write", file, line, "sell", task, line, is_write=True, begin=line, text=("x = 1",))
+                      for line, task in ((4, "sell_1"), (5, "sell_2")))
+        finding = Finding("race", "stock", sides, "nothing orders them", made=f"a dict made at {file}:2")
+        return Report(
+            Verdict.RACES, f"1 race in this run; not looked into: exec at {file}:3", [finding], unseen=[Unseen(Cause.MODULE, f"{file} was not watched")],
+            hints=[f"the socket at {file}:7 gives no order"], folder="/work", picture=f"/work/{file}.html",
+        )
+
+    def test_the_list_has_its_lines_and_no_controls(self) -> None:
+        lines = len(text(self.report("shop.py")).splitlines())
+        for file in HOSTILE:
+            with self.subTest(file):
+                report = self.report(file)
+                for told in (text(report), explained(report.findings[0], report)):
+                    self.assertEqual(re.findall(r"[^\n\t -~]", told), [])
+                    self.assertIn(f" at {readable(file)}:4 in sell", told)
+                self.assertEqual(len(text(report).splitlines()), lines)
+                coloured = text(report, style=TerminalStyle(True))
+                self.assertEqual(re.sub(r"\033\[[0-9;]*m|\033\]8;;[^\033]*\033\\", "", coloured), text(report))
+
+    def test_machines_get_the_name_as_it_is(self) -> None:
+        for file in HOSTILE:
+            with self.subTest(file):
+                report = self.report(file)
+                written = {name: write(report).encode("utf-8", "backslashreplace").decode() for name, write in FORMATS.items()}
+                self.assertEqual(report_of_json(written["json"]).findings, report.findings)
+                log = json.loads(written["sarif"])
+                self.assertEqual(faults(log), [])
+                uri = log["runs"][0]["results"][0]["locations"][0]["physicalLocation"]["artifactLocation"]["uri"]
+                self.assertEqual(os.fsdecode(unquote_to_bytes(uri)), file)
+                self.assertEqual(len(written["github"].split("\n")), 3)
+                self.assertRegex(written["github"], r"\A::error file=[^:,]+,line=4,title=[^:,]+::race on stock")
+
+    def test_a_line_by_which_it_is_meant_fits(self) -> None:
+        for file in HOSTILE:
+            with self.subTest(file), tempfile.TemporaryDirectory() as folder:
+                finding = self.report(file).findings[0]
+                meant = Path(folder, "meant")
+                meant.write_text(f"{benign_line(finding)}\n", encoding="utf-8")
+                (pattern,) = read_patterns(str(meant))
+                self.assertTrue(pattern.fits(finding))
+
+    def test_a_program_whose_name_is_no_text(self) -> None:
+        with tempfile.TemporaryDirectory() as folder:
+            try:
+                Path(os.fsdecode(os.path.join(os.fsencode(folder), b"caf\xe9.py"))).write_text(SELLING)
+            except OSError as fault:
+                self.skipTest(str(fault))
+            words = [sys.executable, "-m", "itc_trace", "run", "--json", "-", "--sarif", "r.sarif", "--write-baseline", "known", b"caf\xe9.py"]
+            environment = {**os.environ, "PYTHONPATH": str(PACKAGE)}
+            ran = subprocess.run(words, capture_output=True, cwd=folder, env=environment, timeout=600, check=False)
+            self.assertEqual(ran.returncode, 66, ran.stderr)
+            self.assertIn(b" at caf\\udce9.py:4 in sell", ran.stderr)
+            self.assertEqual(report_of_json(ran.stdout.decode()).findings[0].sides[0].file, "caf\udce9.py")
+            self.assertEqual(faults(json.loads(Path(folder, "r.sarif").read_text())), [])
+            words[4:-1] = ["--baseline", "known"]
+            again = subprocess.run(words, capture_output=True, cwd=folder, env=environment, timeout=600, check=False)
+            self.assertEqual(again.returncode, 0, again.stderr)
 
 
 class Commands(unittest.TestCase):

@@ -50,7 +50,7 @@ def _is_at(side: AnySide, place: str) -> bool:
 
 
 def _fits(text: str, pattern: str) -> bool:
-    return re.fullmatch(".*".join(map(re.escape, pattern.split("*"))), text) is not None
+    return re.fullmatch(".*".join(map(re.escape, pattern.split("*"))), text, re.DOTALL) is not None
 
 
 @dataclass

@@ -62,11 +62,12 @@ def deliver(report: Report, wanted: Wanted) -> bool:
 
 
 def _write(text: str, file: str) -> bool:
+    told = text.encode("utf-8", "backslashreplace")  # What stands for a byte of a name is an escape of JSON so.
     if file == STANDARD_OUTPUT:
-        return write(text)
+        return write(told)
     try:
-        with _replacing(file) as new, open(new, "w", encoding="utf-8") as written:
-            written.write(text)
+        with _replacing(file) as new, open(new, "wb") as written:
+            written.write(told)
     except OSError as fault:
         say(f"itc_trace: {file} cannot be written: {fault.strerror}")
         return False

@@ -17,16 +17,22 @@ def say(text: str) -> None:
             print(text, file=sys.stderr, flush=True)
 
 
-def write(text: str) -> bool:
+def write(text: str | bytes) -> bool:
     """Writes to standard output. Gives whether all of it was written, and says why if it was not.
 
-    Whoever reads it may have ended.
+    Whoever reads it may have ended. Bytes are written as they are.
     """
     if sys.stdout is None:
         say("itc_trace: the output cannot be written: standard output is closed")
         return False
     try:
-        print(text, end="", flush=True)
+        if isinstance(text, bytes):
+            sys.stdout.flush()
+            sys.stdout.buffer.write(text)
+            sys.stdout.buffer.flush()
+        else:
+            encoding = sys.stdout.encoding or "utf-8"
+            print(text.encode(encoding, "backslashreplace").decode(encoding), end="", flush=True)
         return True
     except BrokenPipeError:
         _let_go()

@@ -10,6 +10,8 @@ from dataclasses import dataclass, field
 from pathlib import PurePath
 from typing import NamedTuple
 
+from .readable import readable
+
 RACE, POSSIBLE_RACE = "race", "possible race"
 DEADLOCK, POSSIBLE_DEADLOCK = "deadlock", "possible deadlock"
 """Their sides are two of each task: the lock that it holds, and the one that it wants."""
@@ -91,7 +93,7 @@ class FoundSide:
         return f"{self.place}{f' in {self.function}' if self.function and self.function != '<module>' else ''}"
 
     def told(self, width: int) -> str:
-        return f"{self.kind:{width}} at {self.told_place}{':  ' if self.source else ''}{self.source}"
+        return readable(f"{self.kind:{width}} at {self.told_place}{':  ' if self.source else ''}{self.source}")
 
 
 @dataclass(frozen=True, order=True)
@@ -190,7 +192,7 @@ class Finding:
 
     @property
     def title(self) -> str:
-        return f"{self.told_kind} on {self.thing}{f' ({self.made})' if self.made else ''}"
+        return readable(f"{self.told_kind} on {self.thing}{f' ({self.made})' if self.made else ''}")
 
     @property
     def told_sides(self) -> list[str]:
@@ -206,8 +208,8 @@ class Finding:
         times = "once" if self.times == 1 else f"{self.times} times"
         names = " and ".join(dict.fromkeys(side.task for side in self.sides))
         if self.kind == DEADLOCK:
-            return f"{tasks} {names}: {self.why}; id {self.identity}"
-        return f"{tasks} {names}: {self.why}; {times}, as {_events(self.sides)}; id {self.identity}"
+            return readable(f"{tasks} {names}: {self.why}; id {self.identity}")
+        return readable(f"{tasks} {names}: {self.why}; {times}, as {_events(self.sides)}; id {self.identity}")
 
     @property
     def told_tests(self) -> str:
@@ -219,7 +221,7 @@ class Finding:
         """In one line for a person, with how many pairs of the same cause there are."""
         sides = ", ".join(dict.fromkeys(f"{side.kind} at {side.short_place}" for side in self.sides))
         further = f", and {more} more {'pair' if more == 1 else 'pairs'}" if more else ""
-        return f"{self.told_kind} on {self.thing}: {sides}{further}; id {self.identity}"
+        return readable(f"{self.told_kind} on {self.thing}: {sides}{further}; id {self.identity}")
 
     def lines(self) -> list[str]:
         """In words for a person. All but the first are to be indented."""

@@ -7,6 +7,7 @@ from collections.abc import Iterator
 
 from ..analyse.benign import MOST_PLACES, Pattern
 from ..model.finding import Finding, FoundSide, Step
+from ..model.readable import UNSEEN, readable
 from ..model.verdict import reasons
 from .report import Report
 from .text import link
@@ -36,7 +37,7 @@ def finding_by(identity: str, report: Report, where: str) -> Finding:
 
 
 def explained(finding: Finding, report: Report) -> str:
-    return "\n".join(_lines(finding, report))
+    return "\n".join(map(readable, _lines(finding, report)))
 
 
 def _lines(finding: Finding, report: Report) -> Iterator[str]:
@@ -100,7 +101,7 @@ def benign_line(finding: Finding) -> str:
 
 def _word(text: str) -> str:
     """A pattern of this text that has no space, and does not begin a comment."""
-    word = ANY.join(text.split()) or ANY
+    word = UNSEEN.sub(ANY, ANY.join(text.split())) or ANY
     return f"{ANY}{word[1:]}" if word.startswith("#") else word
 
 

@@ -8,6 +8,7 @@ from dataclasses import dataclass, field, replace
 
 from ..analyse.races import told_deadlocks
 from ..model.finding import DEADLOCK, POSSIBLE_DEADLOCK, POSSIBLE_RACE, RACE, Finding, Known
+from ..model.readable import readable
 from ..model.verdict import Cause, PassedOver, Unseen, Verdict, listed, verdict_of
 from .report import Report
 
@@ -89,7 +90,7 @@ def short(findings: Iterable[Finding]) -> Iterator[str]:
     for finding in findings:
         places = " and ".join(dict.fromkeys(side.place for side in finding.sides))
         tests = "1 test" if len(finding.tests) == 1 else f"{len(finding.tests)} tests"
-        yield f"{finding.told_kind} on {finding.thing} at {places}, in {tests}; id {finding.identity}"
+        yield readable(f"{finding.told_kind} on {finding.thing} at {places}, in {tests}; id {finding.identity}")
 
 
 def not_traced(why: str) -> Report:

@@ -6,9 +6,9 @@ import json
 import os
 from pathlib import PurePath
 from typing import Any
-from urllib.parse import quote
 
 from ..model.finding import Finding, FoundSide
+from ..model.readable import uri_of
 from ..model.verdict import Verdict
 from .report import Report
 
@@ -39,7 +39,7 @@ def as_object(report: Report) -> dict[str, Any]:
         "$schema": SCHEMA, "version": "2.1.0",
         "runs": [{
             "tool": {"driver": {"name": "itc-trace", "rules": [_rule(kind) for kind in kinds]}},
-            "originalUriBaseIds": {ROOT: {"uri": f"file://{quote(os.path.join(report.folder, ''))}"}},
+            "originalUriBaseIds": {ROOT: {"uri": f"file://{uri_of(os.path.join(report.folder, ''))}"}},
             "invocations": [_invocation(report)], "columnKind": "unicodeCodePoints", "results": results,
         }],
     }
@@ -98,5 +98,5 @@ def _artifact(file: str, folder: str) -> dict[str, str]:
     """The file by its name from the folder of the run, so that a repository knows it elsewhere."""
     whole = os.path.normpath(os.path.join(folder, file))
     if PurePath(whole).is_relative_to(folder):
-        return {"uri": quote(PurePath(whole).relative_to(folder).as_posix()), "uriBaseId": ROOT}
-    return {"uri": f"file://{quote(whole)}"}
+        return {"uri": uri_of(PurePath(whole).relative_to(folder).as_posix()), "uriBaseId": ROOT}
+    return {"uri": f"file://{uri_of(whole)}"}

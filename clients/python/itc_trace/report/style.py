@@ -6,9 +6,9 @@ import os
 import re
 from collections.abc import Mapping
 from typing import TextIO
-from urllib.parse import quote
 
 from ..model.finding import Finding, FoundSide
+from ..model.readable import readable, uri_of
 
 RED, YELLOW, GREEN, FAINT, END = "\033[1;31m", "\033[1;33m", "\033[32m", "\033[2m", "\033[0m"
 WITHOUT_COLOURS, WITHOUT_LINKS = ("dumb", ""), ("linux",)
@@ -58,10 +58,10 @@ class TerminalStyle(Style):
         """The line, in which the place leads to its file."""
         if not self._has_links or not side.file or side.file.startswith("<"):
             return line
-        file = quote(os.path.join(folder, side.file))
         before, at, behind = line.partition(" at ")
-        linked = f"\033]8;;file://{file}\033\\{place}\033]8;;\033\\"
-        return before + at + re.sub(rf"{re.escape(place)}(?!\d)", lambda _: linked, behind, count=1)
+        shown = readable(place)
+        linked = f"\033]8;;file://{uri_of(os.path.join(folder, side.file))}\033\\{shown}\033]8;;\033\\"
+        return before + at + re.sub(rf"{re.escape(shown)}(?!\d)", lambda _: linked, behind, count=1)
 
     def summary(self, text: str, is_good: bool) -> str:
         return f"{GREEN if is_good else RED}{text}{END}"

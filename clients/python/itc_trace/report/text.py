@@ -5,9 +5,9 @@ from __future__ import annotations
 import os
 from collections.abc import Iterator
 from dataclasses import dataclass
-from urllib.parse import quote
 
 from ..model.finding import Finding
+from ..model.readable import readable, uri_of
 from ..model.verdict import Verdict, reasons
 from .grouping import Entry, entries
 from .report import Report
@@ -39,11 +39,11 @@ def text(report: Report, shown: Shown = Shown(), style: Style = Style()) -> str:
 
 def _lines(report: Report, shown: Shown, style: Style) -> Iterator[str]:
     causes = entries(report.findings)
-    before = [f"itc_trace: incomplete: {reasons(report.unseen)}"] if report.unseen else []
+    before = [f"itc_trace: incomplete: {readable(reasons(report.unseen))}"] if report.unseen else []
     if len(causes) > MOST_WITHOUT_SUMMARY:
-        before.append(f"itc_trace: {_summary(causes)}")
-    behind = [f"itc_trace: {hint}" for hint in report.hints]
-    behind.append(f"itc_trace: {style.summary(report.summary, report.verdict is Verdict.NO_RACE)}")
+        before.append(f"itc_trace: {readable(_summary(causes))}")
+    behind = [f"itc_trace: {readable(hint)}" for hint in report.hints]
+    behind.append(f"itc_trace: {style.summary(readable(report.summary), report.verdict is Verdict.NO_RACE)}")
     listing = _Listing(report, shown, style)
     yield from before
     if shown.is_all or shown.most is not None:
@@ -101,7 +101,7 @@ class _Listing:
         if self.report.picture is not None:
             yield f"    {link(entry.shown, self.report.picture)}"
         if len(entry.findings) > 1:
-            yield f"    {entry.more}: {self.shown.how}"
+            yield f"    {readable(entry.more)}: {self.shown.how}"
 
 
 def _summary(causes: list[Entry]) -> str:
@@ -121,4 +121,4 @@ def link(finding: Finding, picture: str) -> str:
     first, second = finding.sides[0], finding.sides[-1]
     part = f"part={second.part}&" if second.part > 1 else ""
     events = f"event={first.event}&other={second.event}" if first.part == second.part else f"event={second.event}"
-    return f"file://{quote(os.path.abspath(picture))}#{part}{events}"
+    return f"file://{uri_of(os.path.abspath(picture))}#{part}{events}"
