@@ -8,19 +8,22 @@ import re
 import subprocess
 import sys
 import tempfile
+import time
 import unittest
 from dataclasses import replace
 from io import StringIO
 from pathlib import Path
+from unittest import mock
 
 from itc_trace.cli.reporting import Wanted, next_step
+from itc_trace.cli.ticking import ticking
 from itc_trace.model.finding import Finding, FoundSide
 from itc_trace.model.verdict import Verdict
 from itc_trace.report.report import Report
 from itc_trace.report.style import Style, TerminalStyle, style_of
 from itc_trace.report.text import text
 
-from .support import PACKAGE
+from .support import PACKAGE, run_traced
 from .test_report import SELLING, stored
 
 ESCAPES = re.compile(r"\033\[[0-9;]*m|\033\]8;;[^\033]*\033\\")
@@ -102,6 +105,49 @@ class Commands(unittest.TestCase):
                 self.assertEqual(ran.returncode, 66)
                 self.assertEqual(b"\033[1;31mrace\033[0m on stock" in said, is_coloured, said)
                 self.assertRegex(said.decode(), r"itc_trace: next: `python3 -m itc_trace explain \w{12} g` tells of this race")
+
+
+class Progress(unittest.TestCase):
+    """Whoever waits at a terminal is told how far it is, and nobody else is."""
+
+    def said(self, *words: str, program: str) -> str:
+        with tempfile.TemporaryDirectory() as folder:
+            (Path(folder) / "shop.py").write_text(program)
+            screen, terminal = pty.openpty()
+            environment = {**os.environ, "PYTHONPATH": str(PACKAGE), "TERM": "xterm", "NO_COLOR": "1"}
+            command = [sys.executable, "-m", "itc_trace", "run", *words, "shop.py"]
+            subprocess.run(command, stderr=terminal, cwd=folder, env=environment, timeout=600, check=False)
+            os.close(terminal)
+            said = b""
+            while piece := _read(screen):
+                said += piece
+            os.close(screen)
+        return said.decode()
+
+    def test_a_long_run_says_that_it_goes_on(self) -> None:
+        long = "import time\ntime.sleep(7)\n"
+        self.assertRegex(self.said(program=long), r"itc_trace: \d\.\d MB of journal, \d+ s so far\r\n")
+        self.assertNotIn("so far", self.said("--quiet", program=long))
+        self.assertNotIn("so far", run_traced("--no-shake", "--runs", "1", self.written(long)).stderr)
+
+    def test_several_runs_say_how_long_the_others_may_take(self) -> None:
+        said = self.said("--runs", "2", "--no-shake", program="pass\n").splitlines()
+        lines = [line for line in said if not line.endswith("so far")]
+        self.assertRegex(lines[0], r"run 1 of 2: no race in this run; about \d+ s for the others\Z")
+        self.assertRegex(lines[1], r"run 2 of 2: no race in this run\Z")
+        self.assertNotIn("about", run_traced("--no-shake", "--runs", "2", self.written("pass\n")).stderr)
+
+    def test_the_time_between_two_lines_doubles(self) -> None:
+        with mock.patch("itc_trace.cli.ticking.say") as say, ticking(Terminal(), lambda: "it, ", 0.05):
+            time.sleep(1.2)
+        told = [call.args[0] for call in say.call_args_list]
+        self.assertTrue(1 <= len(told) <= 5, told)
+        self.assertRegex(told[0], r"\Aitc_trace: it, \d s so far\Z")
+
+    def written(self, program: str) -> str:
+        file = Path(self.enterContext(tempfile.TemporaryDirectory())) / "shop.py"
+        file.write_text(program)
+        return str(file)
 
 
 def _read(screen: int) -> bytes:

@@ -12,6 +12,7 @@ import random
 import subprocess
 import sys
 import tempfile
+import time
 from collections.abc import Collection, Iterable, Iterator
 from dataclasses import dataclass, field, replace
 from pathlib import Path
@@ -29,6 +30,7 @@ from .launch import RAISED, REFUSED
 from .output_files import check_outputs
 from .reporting import Wanted, deliver, is_at_terminal, next_step
 from .saying import UNWRITTEN, say
+from .ticking import left_in_words, ticking
 from .statuses import OWN_STATUSES, forget_status, keep_status, own_status
 from ..report.merging import Merged
 from ..processes.part_collectors import PartCollectors
@@ -92,13 +94,15 @@ class Run:
     """Where the verdict and the program's status are written apart."""
     wanted: Wanted = field(default_factory=Wanted)
     """The formats that the report is written in."""
+    label: str = ""
+    """Which of several runs this is, for a line of progress."""
 
     def of(self, number: int) -> Run:
         """The run of this number, with files of its own."""
         if self.runs == 1:
             return self
         named = {name: f"{file}.{number}" for name in ("export", "journal", "picture") if (file := getattr(self, name))}
-        return replace(self, **named)
+        return replace(self, **named, label=f"run {number} of {self.runs}: ")
 
 
 @dataclass
@@ -210,7 +214,7 @@ def _confirm(asked: Run, found: _Tried) -> None:
         say("itc_trace: --confirm runs the program again, and holds its tasks before their inner locks")
     tried = replace(
         asked, port=None, host=HOST, export=None, journal=None, picture=None, status_file=None, cycles=cycles,
-        is_confirmed=False, looking=Looking(asked.looking.strict),
+        is_confirmed=False, looking=Looking(asked.looking.strict), label="--confirm: ",
     )
     outcome = _outcome(tried, None)
     found.confirm(() if outcome is None else {deadlock.key for deadlock in outcome.races.deadlocks})
@@ -244,7 +248,7 @@ def _kept(asked: Run, report: Report, status: int, is_delivered: bool) -> int:
 
 def _run_often(asked: Run) -> int:
     """Runs it several times, and tells what was found in all of them together."""
-    merged = Merged()
+    merged, begun = Merged(), time.monotonic()
     first_seed = random.SystemRandom().randrange(MOST_SEED) if asked.seed is None else asked.seed
     for number in range(1, asked.runs + 1):
         is_shaken = asked.seed is not None or asked.is_shaken and number > 1
@@ -254,13 +258,22 @@ def _run_often(asked: Run) -> int:
             return WORDS_REFUSED
         merged.add(outcome.races, outcome.status, seed)
         if not asked.quiet:
-            say(f"itc_trace: run {number} of {asked.runs}{_by_seed(seed)}: {outcome.races.found()}")
+            left = left_in_words(time.monotonic() - begun, number, asked.runs) if is_at_terminal(sys.stderr) else ""
+            say(f"itc_trace: run {number} of {asked.runs}{_by_seed(seed)}: {outcome.races.found()}{left}")
         if is_asked_to_end():
             break
     if asked.is_confirmed:
         _confirm(asked, merged)
     report = merged.report(asked.looking, asked.fail_on_possible)
     return _kept(asked, report, merged.status, _tell(asked, report, merged.status))
+
+
+def _size_in_words(journal: str) -> str:
+    """How large the journal of a run is."""
+    try:
+        return f"{os.path.getsize(journal) / 1e6:.1f} MB of journal, "
+    except OSError:
+        return ""
 
 
 def _by_seed(seed: int | None) -> str:
@@ -272,7 +285,8 @@ def _outcome(asked: Run, seed: int | None) -> Outcome | None:
     with tempfile.TemporaryDirectory(prefix="itc_trace_") as work, _collectors(asked) as collectors:
         journal = asked.journal or (f"{asked.export}.journal" if asked.export else os.path.join(work, "journal"))
         Path(journal).write_bytes(b"")
-        child = _run_program(asked, collectors, journal, os.path.join(work, "told"), os.path.join(work, "asked"), seed)
+        with ticking(None if asked.quiet else sys.stderr, lambda: f"{asked.label}{_size_in_words(journal)}"):
+            child = _run_program(asked, collectors, journal, os.path.join(work, "told"), os.path.join(work, "asked"), seed)
         if child.told == REFUSED:
             return None
         number = number_of_parts(journal) if collectors is not None and os.path.exists(journal) else 1

@@ -45,6 +45,7 @@ from .process_sources import ProcessSources
 from .reporting import Wanted, deliver, is_at_terminal, next_step
 from .run import draw, draw_parts, environment_of_package, titled
 from .saying import UNWRITTEN, say
+from .ticking import ticking
 from .statuses import forget_status, keep_status, own_status
 from .system_file import Described, System
 from ..model.verdict import END_OF_ALL, Cause, Unseen
@@ -439,7 +440,8 @@ def run_system(
         parts = RelayParts(lambda: ask_for_port(collectors.asked_at), os.path.join(folder, BORDERS))
         with Relaying(collectors.port, parts) as relay:
             running = Running(system, relay.port, folder, timeout)
-            running.run()
+            with ticking(sys.stderr, lambda: f"{sum(one.is_running for one in running.processes)} processes run, "):
+                running.run()
         lines = running.lines()
         if parts.number > 1:
             exports = system.export or (None if system.picture is None else os.path.join(folder, "export"))
