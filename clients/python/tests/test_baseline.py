@@ -86,7 +86,7 @@ class Baselines(unittest.TestCase):
 
     def test_what_is_no_baseline_is_told(self) -> None:
         file = self.folder / "known.json"
-        for text, told in (("", "is no baseline"), ("[]", "is no baseline"), ("{}", "is no baseline"), ('{"version":1,"races":[{}]}', "is no baseline"),
+        for text, told in (("", "is no baseline"), ("[" * 100_000, "is no baseline"), ("[]", "is no baseline"), ("{}", "is no baseline"), ('{"version":1,"races":[{}]}', "is no baseline"),
                            ('{"version":2,"races":[]}', "is a baseline of version 2, and not of 1"),
                            ('{"version":1,"races":[{"thing":"x","sides":[{"kind":"write"}]}]}', "is no baseline")):
             file.write_text(text)

@@ -21,7 +21,7 @@ def read_baseline(file: str) -> list[Known]:
         version = told["version"]
     except OSError as fault:
         raise Fault(f"{file} cannot be read: {fault.strerror}: --write-baseline {file} makes it") from fault
-    except (ValueError, TypeError, KeyError) as fault:
+    except (ValueError, TypeError, KeyError, RecursionError) as fault:
         raise Fault(f"{file} is no baseline: --write-baseline {file} makes one") from fault
     if version != VERSION:
         advice = f"--write-baseline {file} makes it anew"

@@ -65,10 +65,12 @@ class Looking:
     met: set[Known] = field(default_factory=set)
     """All that were found and are not meant, whether they are known or not."""
     _fitting: set[Pattern] = field(default_factory=set)
+    _known: frozenset[Known] = frozenset()
 
     def silence(self, found: Races) -> None:
         """Takes out what is meant and what is known, and keeps both apart."""
         self.has_looked = True
+        self._known = frozenset(self.baseline)
         found.races = list(self._left(found.races, found))
         found.deadlocks = list(self._left(found.deadlocks, found))
         found.possible = list(self._left(found.possible, found))
@@ -82,7 +84,7 @@ class Looking:
                 continue
             known = race.finding(found.sources).known_as
             self.met.add(known)
-            if known in self.baseline:
+            if known in self._known:
                 found.known.append(race)
             else:
                 yield race

@@ -59,7 +59,7 @@ def read_settings(file: Path) -> Settings:
             told = tomllib.load(text)
     except OSError as fault:
         raise Fault(f"{name} cannot be read: {fault.strerror}") from fault
-    except (tomllib.TOMLDecodeError, UnicodeDecodeError) as fault:
+    except (tomllib.TOMLDecodeError, UnicodeDecodeError, RecursionError) as fault:
         raise Fault(f"{name} is no TOML: {fault}") from fault
     tools = told.get("tool", {})
     table = tools.get(TABLE, {}) if isinstance(tools, dict) else {}

@@ -75,7 +75,7 @@ def report_of_json(text: str) -> Report:
     """The report that was written so."""
     try:
         return report_of_object(json.loads(text))
-    except (ValueError, TypeError, KeyError, AttributeError) as fault:
+    except (ValueError, TypeError, KeyError, AttributeError, RecursionError) as fault:
         raise NoReport("it is no report of --json") from fault
 
 
