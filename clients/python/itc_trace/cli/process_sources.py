@@ -25,7 +25,8 @@ class ProcessSources:
         named = [word for word in words if os.path.exists(word)]
         folders = [one.resolve() for one in (folder, *(word if word.is_dir() else word.parent for word in named))]
         self._roots = list(dict.fromkeys([*folders, Path.cwd()]))
-        self._above = list(dict.fromkeys(one for root in folders[1:] for one in (root, root.parent) if one != one.parent))
+        near = (one for root in folders[1:] for one in (root, root.parent))
+        self._above = list(dict.fromkeys(one for one in near if one != one.parent))
         self._below: dict[Path, dict[str, list[str]]] = {}
 
     def find(self, file: str) -> str | None:
