@@ -286,7 +286,8 @@ def _outcome(asked: Run, seed: int | None) -> Outcome | None:
         journal = asked.journal or (f"{asked.export}.journal" if asked.export else os.path.join(work, "journal"))
         Path(journal).write_bytes(b"")
         with ticking(None if asked.quiet else sys.stderr, lambda: f"{asked.label}{_size_in_words(journal)}"):
-            child = _run_program(asked, collectors, journal, os.path.join(work, "told"), os.path.join(work, "asked"), seed)
+            told_by, asked_by = os.path.join(work, "told"), os.path.join(work, "asked")
+            child = _run_program(asked, collectors, journal, told_by, asked_by, seed)
         if child.told == REFUSED:
             return None
         number = number_of_parts(journal) if collectors is not None and os.path.exists(journal) else 1
