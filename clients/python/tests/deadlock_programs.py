@@ -14,6 +14,8 @@ from collections.abc import Callable, Iterator
 from concurrent.futures import ThreadPoolExecutor
 from typing import Any
 
+import itc_trace
+
 Steps = list[Callable[[], object]]
 
 
@@ -442,16 +444,125 @@ def tried_first() -> Steps:
     return [forth, back]
 
 
+def queue_and_lock() -> Steps:
+    lock, items = threading.Lock(), queue.Queue[int]()
+
+    def give() -> None:
+        with lock:  # told
+            items.put(1)  # told
+
+    def take() -> None:
+        with lock:  # told
+            items.get()  # told
+
+    return [give, take]
+
+
+def queue_and_lock_in_turns() -> Steps:
+    """Each item but the first one is there before the next wait, and the first wait may come before any of them."""
+    lock, items = threading.RLock(), queue.SimpleQueue[int]()
+
+    def give() -> None:
+        for number in range(20):
+            with lock:  # told
+                items.put(number)  # told
+
+    def take() -> None:
+        for _ in range(20):
+            with lock:  # told
+                items.get()  # told
+
+    return [give, take]
+
+
+def queue_and_two_locks() -> Steps:
+    """Whoever puts holds a lock for which another one waits that holds the lock of whoever takes."""
+    outer, inner, items = threading.Lock(), threading.Lock(), queue.Queue[int]()
+
+    def give() -> None:
+        with inner:  # told
+            items.put_nowait(1)  # told
+
+    def between() -> None:
+        with inner:  # told
+            with outer:  # told
+                pass
+
+    def take() -> None:
+        with outer:  # told
+            items.get()  # told
+
+    return [give, between, take]
+
+
+def queue_of_a_condition() -> Steps:
+    """The lock is that of a condition, and one lock more is held while the item is put."""
+    changed, own, items = threading.Condition(), threading.Lock(), queue.PriorityQueue[int]()
+
+    def give() -> None:
+        with own:
+            with changed:  # told
+                items.put(1)  # told
+                changed.notify()
+
+    def take() -> None:
+        with changed:  # told
+            items.get()  # told
+
+    return [give, take]
+
+
+def queue_and_gate() -> Steps:
+    """The outer lock keeps both apart at the inner one, and is one for which they wait themselves."""
+    gate, lock, items = threading.Lock(), threading.Lock(), queue.Queue[int]()
+
+    def give() -> None:
+        with gate:  # told
+            with lock:
+                items.put(1)  # told
+
+    def take() -> None:
+        with gate:  # told
+            with lock:
+                items.get()  # told
+
+    return [give, take]
+
+
+def queue_and_late_lock() -> Steps:
+    """Whoever puts has told the other one before it acquires the lock, and touches something without it."""
+    lock, items, ready = threading.Lock(), queue.Queue[int](), threading.Event()
+
+    def give() -> None:
+        ready.set()
+        with lock:
+            itc_trace.touch("stock", True)
+        itc_trace.touch("price", True)
+        with lock:  # told
+            items.put(1)  # told
+
+    def take() -> None:
+        ready.wait()
+        with lock:  # told
+            items.get()  # told
+
+    return [give, take]
+
+
 TOLD = [
     two_locks, two_rlocks, lock_and_rlock, by_calls, three_tasks, four_tasks, three_locks_of_two_tasks, second_of_two,
     within_functions, many_times, of_objects, lock_and_condition, two_conditions, wait_with_a_lock, semaphores,
     semaphore_and_lock, stacks, jobs, job_and_thread, timers, asyncio_locks, asyncio_conditions, asyncio_semaphores,
-    loops_of_two_threads, tried_first,
+    loops_of_two_threads, tried_first, queue_and_lock, queue_and_lock_in_turns, queue_and_two_locks,
+    queue_of_a_condition, queue_and_gate, queue_and_late_lock,
 ]
 
 
-OF_SEVERAL = [three_tasks, four_tasks]
-"""Those of more than two tasks."""
+OF_SEVERAL = [
+    three_tasks, four_tasks, queue_and_lock, queue_and_lock_in_turns, queue_and_two_locks, queue_of_a_condition,
+    queue_and_gate, queue_and_late_lock,
+]
+"""Those of more than two tasks, or of a queue."""
 
 
 # Those that are none
@@ -864,9 +975,117 @@ def one_loop() -> Steps:
     return [lambda: asyncio.run(main())]
 
 
+def queue_with_an_item() -> Steps:
+    """The item is there before the wait, whoever comes first."""
+    lock, items = threading.Lock(), queue.Queue[int]()
+    items.put(0)
+
+    def give() -> None:
+        with lock:
+            items.put(1)
+
+    def take() -> None:
+        with lock:
+            items.get()
+
+    return [give, take]
+
+
+def queue_put_without_the_lock() -> Steps:
+    """Who puts once does not need the lock."""
+    lock, items = threading.Lock(), queue.Queue[int]()
+
+    def give() -> None:
+        with lock:
+            items.put(1)
+
+    def take() -> None:
+        with lock:
+            items.get()
+
+    return [give, take, lambda: items.put(2)]
+
+
+def queue_taken_in_time() -> Steps:
+    """Whoever waits has a way back."""
+    lock, items = threading.Lock(), queue.Queue[int]()
+
+    def give() -> None:
+        for _ in range(3):
+            with lock:
+                items.put(1)
+
+    def take() -> None:
+        with lock:
+            items.get(timeout=100)
+            items.get_nowait()
+            items.get(block=False)
+
+    return [give, take]
+
+
+def queue_put_under_a_tried_lock() -> Steps:
+    lock, items = threading.Lock(), queue.Queue[int]()
+
+    def give() -> None:
+        if lock.acquire(timeout=100):
+            items.put(1)
+            lock.release()
+
+    def take() -> None:
+        with lock:
+            items.get()
+
+    return [give, take]
+
+
+def queue_told_under_the_lock() -> Steps:
+    """Whoever takes begins only once the other one has the lock."""
+    lock, items, ready = threading.Lock(), queue.Queue[int](), threading.Event()
+
+    def give() -> None:
+        with lock:
+            ready.set()
+            items.put(1)
+
+    def take() -> None:
+        ready.wait()
+        with lock:
+            items.get()
+
+    return [give, take]
+
+
+def queue_of_one_task() -> Steps:
+    lock, items = threading.Lock(), queue.Queue[int]()
+
+    def both() -> None:
+        with lock:
+            items.put(1)
+            items.get()
+
+    return [both, both]
+
+
+def queue_of_other_locks() -> Steps:
+    """Of the two who put each holds another lock, so none of both is needed."""
+    one, other, items = threading.Lock(), threading.Lock(), queue.Queue[int]()
+
+    def give(lock: Any) -> None:
+        with lock:
+            items.put(1)
+
+    def take() -> None:
+        with one:
+            items.get()
+
+    return [lambda: give(one), lambda: give(other), take]
+
+
 CLEAN = [
     one_order, gate, gate_of_three, gate_within, gate_that_is_a_condition, gate_that_is_a_semaphore, by_start, by_join,
     by_queue, by_event, by_future, by_barrier, one_task, jobs_of_one_after_another, re_entrance, tried,
     tried_for_a_while, tried_permit, by_identity, not_at_once, hand_over_hand, signal, permits, asyncio_gate,
-    asyncio_in_turn, one_loop,
+    asyncio_in_turn, one_loop, queue_with_an_item, queue_put_without_the_lock, queue_taken_in_time,
+    queue_put_under_a_tried_lock, queue_told_under_the_lock, queue_of_one_task, queue_of_other_locks,
 ]

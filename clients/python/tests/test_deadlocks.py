@@ -8,12 +8,13 @@ from collections.abc import Callable
 
 from itc_trace import Races, Verdict
 from itc_trace.analyse.benign import Looking, Pattern
-from itc_trace.analyse.deadlocks import Deadlock, acquisitions_of, cycles
+from itc_trace.analyse.deadlocks import Deadlock, cycles
 from itc_trace.analyse.deadlocks_of_parts import ACROSS
+from itc_trace.analyse.lock_waits import acquisitions_of
 from itc_trace.record.journal import Row
 
 from . import deadlock_programs
-from .deadlock_programs import CLEAN, OF_SEVERAL, TOLD, Steps, two_locks
+from .deadlock_programs import CLEAN, OF_SEVERAL, TOLD, Steps, queue_told_under_the_lock, two_locks
 from .support import PART_EVENTS, PROGRAM_RUNS, ProgramCase, TracedCase, in_turn, run_traced
 
 
@@ -44,10 +45,10 @@ class Deadlocks(TracedCase):
         for scenario in TOLD * PROGRAM_RUNS:
             with self.subTest(scenario.__name__):
                 found = self.found(scenario)
-                if scenario in OF_SEVERAL and PART_EVENTS:  # Of two tasks alone it is looked for across parts.
+                told = found.possible_deadlocks
+                if scenario in OF_SEVERAL and PART_EVENTS and not told:  # Of two locks alone it is told across parts.
                     self.assertIn(ACROSS, [one.what for one in found.passed_over])
                     continue
-                told = found.possible_deadlocks
                 self.assertEqual(lines_of(told), marked(scenario), "\n".join(map(str, told)))
                 self.assertTrue(marked(scenario))
 
@@ -56,7 +57,8 @@ class Deadlocks(TracedCase):
             with self.subTest(scenario.__name__):
                 found = self.found(scenario)
                 self.assertEqual(list(map(str, found.possible_deadlocks)), [])
-                self.assertEqual(found.passed_over, [])
+                if scenario is not queue_told_under_the_lock or not PART_EVENTS:  # Across parts its order is not asked.
+                    self.assertEqual(found.passed_over, [])
 
 
 PROCESSES = """

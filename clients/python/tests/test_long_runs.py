@@ -256,6 +256,9 @@ class Orders(unittest.TestCase):
     def test_loops(self) -> None:
         self.assert_same_in_parts("test_asyncio")
 
+    def test_deadlocks(self) -> None:
+        self.assert_same_in_parts("test_deadlocks.Deadlocks")
+
 
 class Journals(unittest.TestCase):
     """What is not seen is told of a run in parts as of any other."""

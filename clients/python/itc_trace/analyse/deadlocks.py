@@ -22,6 +22,8 @@ from ..model.sources import Sources
 from ..record.journal import DeadlockTold, Row
 from ..session import Refused
 from .bit_matrix import transposed
+from .lock_waits import Found, Pattern, Place
+from .queue_waits import waits_in
 from .trace import Events, Trace, lock_events
 from .without_locks import WithoutLocks
 
@@ -29,17 +31,6 @@ UNORDERED, CLOSED = "nothing but locks orders them", "each waits for the next on
 NUMBER = re.compile(r" \d+\Z")
 MOST_STEPS = 200_000
 """So many steps from lock to lock are gone at most, to look for cycles."""
-
-
-class Place(NamedTuple):
-    """A line of the program."""
-
-    file: str | None
-    line: int
-    function: str
-
-    def __str__(self) -> str:
-        return f"{self.file}:{self.line}" if self.file else "?"
 
 
 @dataclass(frozen=True)
@@ -62,6 +53,10 @@ class Step(NamedTuple):
     event: int = 0
     part: int = 1
     loop: int = 0
+    owes: bool = False
+    """Whether it holds no lock, and is about to put into a queue."""
+    awaits: bool = False
+    """Whether it wants no lock, and waits for an item of a queue."""
 
     @property
     def places(self) -> tuple[str, str]:
@@ -70,7 +65,8 @@ class Step(NamedTuple):
     @property
     def lines(self) -> tuple[tuple[str, Place], tuple[str, Place]]:
         """What it does at both places."""
-        return (f"holds {_variable(self.holds)}", self.held_at), (f"wants {_variable(self.wants)}", self.wanted_at)
+        holds, wants = "puts into" if self.owes else "holds", "waits for" if self.awaits else "wants"
+        return (f"{holds} {_variable(self.holds)}", self.held_at), (f"{wants} {_variable(self.wants)}", self.wanted_at)
 
 
 @dataclass
@@ -83,6 +79,11 @@ class Deadlock:
     """Whether it was found by the order of locks, and has not been."""
     is_confirmed: bool = False
     """Whether it was possible only, and a further run has met it."""
+
+    @property
+    def is_of_locks(self) -> bool:
+        """Whether all of them wait for locks, and none for a queue."""
+        return not any(one.owes for one in self.steps)
 
     @property
     def key(self) -> object:
@@ -120,7 +121,8 @@ class Deadlock:
 def _found_side(step: Step, kind: str, at: Place, sources: Sources) -> FoundSide:
     file = at.file or ""
     return FoundSide(
-        kind, file, at.line, at.function, sources.task(step.task), step.event, step.part, (step.holds,),
+        kind, file, at.line, at.function, sources.task(step.task), step.event, step.part,
+        () if step.owes else (step.holds,),
         bool(step.loop), False, *sources.around(file, at.line),
     )
 
@@ -145,41 +147,6 @@ def _maker(lock: str) -> str:
     return _name(lock).partition(" (")[2].removesuffix(")")
 
 
-def number_of(lock: str) -> str:
-    return lock.partition(" ")[0]
-
-
-class Pattern(NamedTuple):
-    """What is the same of acquisitions that are looked at as one."""
-
-    wants: str
-    """The number of the lock."""
-    held: tuple[str, ...]
-    at: tuple[Place, ...]
-    """Where each of those was acquired."""
-    place: Place
-    loop: int
-    """The loop whose other tasks wait as well."""
-    names: tuple[str, ...]
-    """Those of the held locks, and then that of the wanted one."""
-    shared: frozenset[str] = frozenset()
-    """The held ones under which others may read."""
-    is_reading: bool = False
-    """Whether the lock is wanted for reading."""
-
-    def waits_for(self, other: Pattern) -> bool:
-        """Whether the other one holds what this one wants, so that it has to wait."""
-        return self.wants in other.held and not (self.is_reading and self.wants in other.shared)
-
-    def is_apart(self, other: Pattern) -> bool:
-        """Whether both never are there at once: one lock lets only one of them in."""
-        return any(lock in other.held and not (lock in self.shared and lock in other.shared) for lock in self.held)
-
-
-Found = dict[Pattern, dict[str, Events]]
-"""The acquisitions of each pattern: by task, the events at which it was about to wait."""
-
-
 def deadlocks_told(told: Iterable[DeadlockTold], rows: Iterable[Row]) -> list[Deadlock]:
     """Those that have been, as the program's process has told them.
 
@@ -199,27 +166,6 @@ def deadlocks_told(told: Iterable[DeadlockTold], rows: Iterable[Row]) -> list[De
             ))
         add_deadlock(Deadlock(tuple(steps), is_possible=False), listed)
     return in_order(listed)
-
-
-def acquisitions_of(rows: Iterable[Row], signals: frozenset[str] = frozenset()) -> Found:
-    """The acquisitions of locks with others held. A lock that is a signal keeps nobody out."""
-    found: Found = defaultdict(lambda: defaultdict(int))
-    numbers = set(map(number_of, signals))
-    for row in rows:
-        if row.wants is None or number_of(row.wants) in numbers:
-            continue
-        held = [
-            (lock, Place(*at), number in row.shared) for number, (lock, at) in enumerate(zip(row.held, row.at))
-            if number_of(lock) not in numbers and number_of(lock) != number_of(row.wants)
-        ]
-        if held:
-            pattern = Pattern(
-                number_of(row.wants), tuple(number_of(lock) for lock, _, _ in held), tuple(at for _, at, _ in held),
-                Place(row.file, row.line, row.function), row.loop, (*(lock for lock, _, _ in held), row.wants),
-                frozenset(number_of(lock) for lock, _, is_shared in held if is_shared), len(row.held) in row.shared,
-            )
-            found[pattern][row.task] |= 1 << row.event
-    return found
 
 
 class TooMany(Exception):
@@ -314,20 +260,20 @@ class _Concurrent:
 
 def find_deadlocks(rows: list[Row], signals: frozenset[str], trace: Trace) -> list[Deadlock]:
     """The possible deadlocks of one trace. Each is confirmed by a collector that has the trace without locks."""
-    found = acquisitions_of(rows, signals)
     locks = locks_of(rows, trace)
+    before = before_without(trace, locks)
+    found = waits_in(rows, signals, trace, locks, before)
     events = 0
     for tasks in found.values():
         for mask in tasks.values():
             events |= mask
-    concurrent = _Concurrent(events, before_without(trace, locks))
+    concurrent = _Concurrent(events, before)
     part = rows[0].part if rows else 1
     listed: dict[object, Deadlock] = {}
     for cycle in cycles(found):
         chosen = None if has_one_loop(cycle) else _chosen(cycle, found, concurrent, [])
         if chosen is not None:
-            steps = zip(cycle, (*cycle[1:], cycle[0]), chosen, strict=True)
-            add_deadlock(Deadlock(tuple(_step(*one, part) for one in _holding(steps))), listed)
+            add_deadlock(Deadlock(tuple(_steps(cycle, chosen, part))), listed)
     if listed:
         with WithoutLocks(trace, locks) as tenant:
             confirm_all(listed.values(), tenant)
@@ -362,18 +308,15 @@ def _chosen(cycle: tuple[Pattern, ...], found: Found, concurrent: _Concurrent, c
     return None
 
 
-def _holding(steps: Iterable[tuple[Pattern, Pattern, tuple[str, int]]]) -> Iterator[tuple[Pattern, str, str, int]]:
+def _steps(cycle: tuple[Pattern, ...], chosen: _Chosen, part: int) -> Iterator[Step]:
     """Each step with the lock that is held of it: the one that the step before wants."""
-    listed = list(steps)
-    for number, (pattern, _, (task, event)) in enumerate(listed):
-        yield pattern, listed[number - 1][0].wants, task, event
-
-
-def _step(pattern: Pattern, holds: str, task: str, event: int, part: int) -> Step:
-    place = pattern.held.index(holds)
-    return Step(
-        task, pattern.names[place], pattern.at[place], pattern.names[-1], pattern.place, event, part, pattern.loop,
-    )
+    for number, (pattern, (task, event)) in enumerate(zip(cycle, chosen, strict=True)):
+        held = pattern.held.index(cycle[number - 1].wants)
+        following = cycle[(number + 1) % len(cycle)]
+        yield Step(
+            task, pattern.names[held], pattern.at[held], pattern.names[-1], pattern.place, event, part, pattern.loop,
+            owes=pattern.owes and not held, awaits=following.owes and following.held[0] == pattern.wants,
+        )
 
 
 def confirm_all(deadlocks: Iterable[Deadlock], tenant: WithoutLocks) -> None:

@@ -18,8 +18,10 @@ from ..record.dividing import Border
 from ..record.journal import Row
 from .across_parts import AcrossParts
 from .deadlocks import (
-    Deadlock, Pattern, Place, Step, TooMany, acquisitions_of, before_without, cycles, has_one_loop, locks_of, number_of,
+    Deadlock, Step, TooMany, before_without, cycles, has_one_loop, locks_of,
 )
+from .lock_waits import Pattern, Place, acquisitions_of, number_of
+from .queue_waits import needed_of, waits_of
 from .trace import Events, Trace
 
 ACROSS = "an order of locks across parts"
@@ -44,6 +46,8 @@ class DeadlocksOfParts:
         self._rows: list[Row] = []
         self._met: dict[Pattern, set[int]] = defaultdict(set)
         """In which parts there was an acquisition of each pattern."""
+        self._needed: dict[str, frozenset[str]] = {}
+        """Of each queue the locks that all hold who put into it."""
 
     def __len__(self) -> int:
         return len(self._across)
@@ -52,8 +56,10 @@ class DeadlocksOfParts:
         """The next part, before its acquisitions are compared."""
         self._rows = list(_pairs(rows, self._signals))
         self._order = _WithoutLocks(before_without(trace, locks_of(rows, trace)))
-        for pattern in acquisitions_of(rows, self._signals):
+        for pattern in waits_of(rows, self._signals):
             self._met[pattern].add(rows[0].part)
+        for queue, locks in needed_of(rows).items():
+            self._needed[queue] = self._needed.get(queue, locks) & locks
 
     def found(self) -> Iterator[Deadlock]:
         """Those of an acquisition of an earlier part and one of this part."""
@@ -66,11 +72,13 @@ class DeadlocksOfParts:
         self._across.move_on(self._rows, self._order, border)
 
     def passed_over(self, listed: Iterable[Deadlock]) -> Iterator[PassedOver]:
-        """The cycles of more than two tasks whose acquisitions were in several parts."""
+        """The cycles of more than two tasks, or with a queue, whose acquisitions were in several parts."""
         known = {deadlock.key for deadlock in listed}
         try:
             for cycle in cycles(self._met):
-                is_across = len(cycle) > 2 and not set.intersection(*(self._met[one] for one in cycle))
+                is_looked_for = len(cycle) == 2 and not any(one.owes for one in cycle)
+                is_across = not is_looked_for and not set.intersection(*(self._met[one] for one in cycle))
+                is_across = is_across and all(one.wants in self._needed[one.held[0]] for one in cycle if one.owes)
                 if is_across and not has_one_loop(cycle) and _key(cycle) not in known:
                     yield PassedOver(ACROSS, str(cycle[0].place))
         except TooMany:

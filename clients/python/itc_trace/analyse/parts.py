@@ -14,7 +14,7 @@ from typing import IO, Any
 
 from .across_parts import AcrossParts, Pairing
 from .benign import Looking
-from .deadlocks import acquisitions_of, add_deadlock, deadlocks_told
+from .deadlocks import add_deadlock, deadlocks_told
 from .deadlocks import in_order as deadlocks_in_order
 from .deadlocks_of_parts import DeadlocksOfParts
 from ..record.collector import Collector, NoCollector
@@ -27,6 +27,7 @@ from ..record.journal import (
 from .kept_sources import sources_of
 from ..model.lock_identity import ANSWER, REQUEST
 from .progress import Bar, Shown
+from .queue_waits import waits_of
 from .races import Race, Races, add_race, events_of_lock, find_in, in_order, list_pair, sides_of
 from ..session import LONGEST_ANSWER, Refused, Session
 from .snapshot import write_export
@@ -104,7 +105,7 @@ def find_in_parts(
             found.unseen += own.unseen
             found.passed_over += own.passed_over
             is_looked_at = len(across) or across.has_reads or len(lucky) or len(waiting)
-            if is_looked_at or following is not None and (touches or acquisitions_of(part.rows, signals)):
+            if is_looked_at or following is not None and (touches or waits_of(part.rows, signals)):
                 trace = Trace(asked, events)
                 found.questions += events
                 turns = {row.name: row.place for row in across.unseen_turns(touches, trace)}

@@ -18,7 +18,7 @@ from typing import Protocol
 from ..record.collector import HOST, NoCollector
 from ..model.conflicts import CONFLICTING, MAKING, WRITE
 from ..model.finding import POSSIBLE_RACE, RACE, Finding, FoundSide, Story
-from .deadlocks import Deadlock, TooMany, acquisitions_of, deadlocks_told, find_deadlocks, has_cycle
+from .deadlocks import Deadlock, TooMany, deadlocks_told, find_deadlocks, has_cycle
 from .fast_track import deciding_pairs
 from .looks import looks_of
 from ..record.journal import Row, read_whole
@@ -26,6 +26,7 @@ from .kept_sources import sources_of
 from ..model.lock_identity import ANSWER, REQUEST
 from .order import Order
 from .progress import Bar, Shown
+from .queue_waits import waits_of
 from .racing_pairs import Pair, racing_pairs
 from ..model.sources import Sources
 from ..session import LONGEST_ANSWER, Refused, Session
@@ -137,7 +138,7 @@ class Races:
     @property
     def tried(self) -> list[Deadlock]:
         """The deadlocks that a further run may bring about."""
-        return self.possible_deadlocks
+        return [one for one in self.possible_deadlocks if one.is_of_locks]
 
     def confirm(self, keys: Collection[object]) -> None:
         """A further run has met the possible deadlocks of these keys."""
@@ -222,7 +223,7 @@ def find_races(
     found.places = len({(row.thing, row.place) for row in touches})
     found.things = len({row.thing for row in touches})
     things = [thing for thing in _things_of(rows) if thing.may_race]
-    if things or has_cycle(acquisitions_of(rows, whole.signals)):
+    if things or has_cycle(waits_of(rows, whole.signals)):
         with Session(tenant, port, "view", host, LONGEST_ANSWER) as view:
             events = view.count()[0]
             if bar is None:
@@ -286,7 +287,7 @@ class _Finder:
 
     def find_deadlocks(self, signals: frozenset[str]) -> None:
         """The possible deadlocks, if locks were acquired in orders that make a cycle."""
-        if not has_cycle(acquisitions_of(self._rows, signals)):
+        if not has_cycle(waits_of(self._rows, signals)):
             return
         try:
             been = {deadlock.key for deadlock in self._found.deadlocks}

@@ -206,7 +206,10 @@ class _Tried(Protocol):
 
 def _confirm(asked: Run, found: _Tried) -> None:
     """Runs the program again if a deadlock is possible, and has each task wait before its inner lock. What came of it
-    is told."""
+    is told.
+
+    A wait for a queue is not tried: nobody would see that it has closed.
+    """
     cycles = [[one.places for one in deadlock.steps] for deadlock in found.tried]
     if not cycles or is_asked_to_end():
         return

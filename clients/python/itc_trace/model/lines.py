@@ -226,12 +226,14 @@ class Held(NamedTuple):
 
 
 class Acquisition(NamedTuple):
-    """A lock that a task has waited for while it held others."""
+    """A lock that a task has waited for while it held others, or a queue for whose items it was about to wait."""
 
     wanted: Held
     held: tuple[Held, ...]
     loop: int = 0
     """The number of the loop whose other tasks wait as well."""
+    is_gift: bool = False
+    """Whether it was about to put into the queue, for which others may wait."""
 
 
 Touched = tuple[Any, str, Any]

@@ -16,6 +16,7 @@ _LOADS = {f"LOAD_{one}" for one in (*_VARIABLES, "ATTR")}
 _numbers: dict[tuple[str, int, int], itertools.count[int]] = {}
 _serials = itertools.count(1)
 
+QUEUE = "Queue"
 REQUEST, ANSWER = "the request at ", "an answer"
 """So begin the names of orders that are told of as locks, and are none."""
 
@@ -34,7 +35,7 @@ class LockIdentity:
 
     __slots__ = (
         "serial", "kind", "code", "instruction", "number", "signal", "is_of_condition", "is_inside", "encloses_tasks",
-        "taken_by", "taken_at", "is_nested", "across", "_name", "_hint",
+        "taken_by", "taken_at", "is_nested", "is_tried", "across", "_name", "_hint",
     )
 
     def __init__(self, kind: str, frame: FrameType | None) -> None:
@@ -54,6 +55,8 @@ class LockIdentity:
         """Where it was acquired last: the code, and the instruction in that."""
         self.is_nested = False
         """Whether it was acquired with another one held, or another one while it was held."""
+        self.is_tried = False
+        """Whether somebody has acquired it without waiting for it, or not for ever."""
         self.across = ""
         """What several processes know it by, if they share it."""
         self._name = self._hint = ""
@@ -87,7 +90,7 @@ class LockIdentity:
         """As `lock L (shop.py:12)`, or `stock_lock (shop.py:12)`. A later one of the same line has its number."""
         if not self._name:
             variable = None if self.code is None else variable_of_result(self.code, self.instruction)
-            noun = "semaphore" if self.kind.endswith("Semaphore") else "lock"
+            noun = "semaphore" if self.kind.endswith("Semaphore") else "queue" if self.is_queue else "lock"
             words = [] if variable and noun in variable.lower() else [noun]
             words += [variable] if variable else []
             words += [str(self.number)] if self.number > 1 else []
@@ -102,12 +105,17 @@ class LockIdentity:
         return self._hint
 
     @property
+    def is_queue(self) -> bool:
+        """Whether it stands for the items of a queue, for which tasks wait with locks held."""
+        return self.kind == QUEUE
+
+    @property
     def giving(self) -> str:
-        return f"release {self.name}"
+        return f"{'put into' if self.is_queue else 'release'} {self.name}"
 
     @property
     def taking(self) -> str:
-        return f"acquire {self.name}"
+        return f"{'wait for' if self.is_queue else 'acquire'} {self.name}"
 
     def become_signal(self) -> Signal:
         if self.signal is None:

@@ -66,6 +66,8 @@ class Row(NamedTuple):
 
     The last number is that of the wanted one.
     """
+    gives: str | None = None
+    """The queue that the task was about to put into at this line, while it held locks."""
 
     @property
     def is_touch(self) -> bool:
@@ -478,15 +480,16 @@ class TouchTexts:
         return f"{told}{locks}{when}}}\n"
 
     def _acquisition(self, acquisition: Acquisition) -> str:
-        """A lock that was waited for with others held."""
-        wanted, held, loop = acquisition
+        """A lock that was waited for with others held, or a queue that was waited for or given to so."""
+        wanted, held, loop, is_gift = acquisition
+        label, key = (wanted.lock.giving, "gives") if is_gift else (wanted.lock.taking, "wants")
         locks = ",".join([self.lock(one.lock) for one in held])
         places = ",".join([f"[{_three(one.code, one.instruction)}]" for one in held])
         function = json.dumps(wanted.code.co_qualname if wanted.code else "")
         blocked = f',"loop":{loop}' if loop else ""
         return (
             f'"thing":null,"kind":"local",{self._places.text(wanted.code, wanted.instruction)},"function":{function},'
-            f'"label":{text_of(wanted.lock.taking)},"wants":{self.lock(wanted.lock)},"held":[{locks}],'
+            f'"label":{text_of(label)},"{key}":{self.lock(wanted.lock)},"held":[{locks}],'
             f'"at":[{places}]{blocked}}}\n'
         )
 

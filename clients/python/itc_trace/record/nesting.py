@@ -1,4 +1,4 @@
-"""How the program's own threads note that they acquire a lock while they hold another one."""
+"""How the program's own threads note what they wait for while they hold a lock: another lock, or an item of a queue."""
 
 from __future__ import annotations
 
@@ -6,11 +6,16 @@ import contextlib
 import itertools
 from asyncio.events import _get_running_loop
 
-from ..model.lines import Acquisition, Held, state
-from ..model.lock_identity import LockIdentity
-from .noting import touched
+from types import FrameType
+
+from ..model.frames import place
+from ..model.lines import Acquisition, Held, Line, state
+from ..model.lock_identity import QUEUE, LockIdentity
+from .noting import line_of_now, touched
 
 ACQUIRE = "acquire"
+MOST_KNOWN = 256
+"""So many tasks and places of a queue are known. What is forgotten may be noted once more."""
 NUMBER = "_itc_number"
 _numbers = itertools.count(1)
 """Those of loops: what they are known by in memory is used again."""
@@ -47,3 +52,58 @@ def note_signal(lock: LockIdentity) -> None:
     tracer = state.tracer
     if lock.is_nested and tracer is not None:
         tracer.tell_signal(lock)
+
+
+class Items:
+    """What a queue's items are to tasks that hold locks: who waits for them, and who puts them.
+
+    If somebody has put one without a lock, no lock keeps the items from those who wait, and nothing more is noted. Of
+    a task the first wait is enough, and the first time that it puts at a line with the same locks held. What is before
+    a later one is before that one.
+    """
+
+    __slots__ = ("_identity", "_known")
+
+    def __init__(self, maker: FrameType | None) -> None:
+        self._identity = LockIdentity(QUEUE, maker)
+        self._known: set[tuple[object, ...]] = set()
+
+    def wait(self, frame: FrameType | None) -> None:
+        """The current task waits for an item, for ever."""
+        if self._identity.signal is None:
+            line = line_of_now()
+            if line.held:
+                self._note(line, line.held, frame, is_gift=False)
+
+    def put(self, frame: FrameType | None) -> None:
+        """The current task puts an item. Whoever only tries to acquire a lock does not need it."""
+        if self._identity.signal is not None:
+            return
+        line = line_of_now()
+        needed = tuple(one for one in line.held if not one.is_tried)
+        if needed:
+            self._note(line, needed, frame, is_gift=True)
+        else:
+            self.become_free()
+
+    def become_free(self) -> None:
+        """No lock is needed for that the wait ends."""
+        self._identity.become_signal()
+        self._known.clear()
+        note_signal(self._identity)
+
+    def _note(self, line: Line, held: tuple[LockIdentity, ...], frame: FrameType | None, is_gift: bool) -> None:
+        code, instruction = place(frame)
+        where = (id(code), instruction, held) if is_gift else ()
+        if (line.number, where) in self._known:
+            return
+        if len(self._known) >= MOST_KNOWN:
+            self._known.clear()
+        self._known.add((line.number, where))
+        self._identity.is_nested = True
+        places = tuple(Held(one, one.taken_by, one.taken_at) for one in held)
+        are_awaited = is_gift and all(one.kind.startswith("asyncio.") for one in held)
+        wait = Acquisition(
+            Held(self._identity, code, instruction), places, 0 if are_awaited else _number_of_loop(), is_gift,
+        )
+        touched((ACQUIRE, self._identity.serial, where), wait, ACQUIRE, None)

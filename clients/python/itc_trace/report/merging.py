@@ -79,7 +79,7 @@ class Merged:
     def tried(self) -> list[Deadlock]:
         """The deadlocks that a further run may bring about."""
         examples = (often.example for often in self._only_possible_deadlocks.values())
-        return [one for one in examples if isinstance(one, Deadlock)]
+        return [one for one in examples if isinstance(one, Deadlock) and one.is_of_locks]
 
     def confirm(self, keys: Collection[object]) -> None:
         """A further run has met the possible deadlocks of these keys."""

@@ -336,6 +336,8 @@ def took(lock: Any, has_waited: bool = True) -> None:
     Whoever would not have waited for it, or not for ever, had a way back.
     """
     identity: LockIdentity = lock._itc_identity
+    if not has_waited:
+        identity.is_tried = True
     try:
         frame = _getframe(2)
         identity.taken_by, identity.taken_at = frame.f_code, frame.f_lasti

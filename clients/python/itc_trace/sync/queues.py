@@ -12,6 +12,7 @@ from types import FunctionType
 from typing import Any
 
 from ..model.lines import DONE_ITEM, QUEUE, ROOM, Token, state
+from ..record.nesting import Items as ItemsUnderLocks
 from ..record.noting import mark, take
 from ..model.frames import frame_at, is_internal
 from .base import Patches, name_as
@@ -42,6 +43,8 @@ def put(patches: Patches) -> None:
         _own_steps.update((vars(kind)["_put"], vars(kind)["_get"]))
     patches.wrap(queue.Queue, "task_done", _task_done)
     patches.wrap(queue.Queue, "join", _join)
+    if hasattr(queue.Queue, "shutdown"):
+        patches.wrap(queue.Queue, "shutdown", _shutdown)
     patches.replace(queue, "SimpleQueue", TracedSimpleQueue)
 
 
@@ -49,6 +52,8 @@ def _begin(original: Any) -> Any:
     def __init__(self: Any, maxsize: int = 0) -> None:
         original(self, maxsize)
         frame, kind = frame_at(1), type(self)
+        if not is_internal(frame):
+            self._itc_waits = ItemsUnderLocks(frame)
         if any(getattr(getattr(kind, name), "__module__", "") != "queue" for name in _INSIDE) or _waits_by_itself(kind):
             _trace_lock(self, frame)
         elif not is_internal(frame):
@@ -183,6 +188,9 @@ def _put_item(one: Any, item: Any, put: Any) -> None:
     """
     if 0 < one.maxsize <= MOST_PLACES:
         room_of(one, one._qsize()).use()
+    waits = one.__dict__.get("_itc_waits")
+    if waits is not None:
+        waits.put(frame_at(2))
     items = one.__dict__.get("_itc_items") or items_of(one)
     items.add(item, mark(QUEUE, 3))
     try:
@@ -263,10 +271,26 @@ def _put(original: Any) -> Any:
 
 def _get(original: Any) -> Any:
     def get(self: Any, block: bool = True, timeout: float | None = None) -> Any:
+        if block and timeout is None and state.note is not None:
+            waits = self.__dict__.get("_itc_waits")
+            if waits is not None:
+                waits.wait(frame_at(1))
         is_own = state.note is None or type(self)._get in _own_steps
         return original(self if is_own else _Seen(self), block, timeout)
 
     return get
+
+
+def _shutdown(original: Any) -> Any:
+    """Whoever ends a queue ends all waits for its items."""
+
+    def shutdown(self: Any, immediate: bool = False) -> Any:
+        waits = self.__dict__.get("_itc_waits")
+        if waits is not None:
+            waits.become_free()
+        return original(self, immediate)
+
+    return shutdown
 
 
 def note_done(one: Any) -> None:
@@ -326,20 +350,33 @@ class _Box:
 class TracedSimpleQueue(_PlainSimpleQueue):  # type: ignore[misc]
     """A simple queue that hands the place of each `put` on with the item."""
 
+    _itc_waits: ItemsUnderLocks
+
     def __new__(cls) -> Any:
-        if is_internal(frame_at(1)):
+        frame = frame_at(1)
+        if is_internal(frame):
             return _PlainSimpleQueue()
-        return _PlainSimpleQueue.__new__(cls)
+        made = _PlainSimpleQueue.__new__(cls)
+        made._itc_waits = ItemsUnderLocks(frame)
+        return made
+
+    def _mark(self) -> Token | None:
+        if state.note is None:
+            return None
+        self._itc_waits.put(frame_at(2))
+        return mark(QUEUE, 3)
 
     def put(self, item: Any, block: bool = True, timeout: float | None = None) -> None:
-        token = mark(QUEUE) if state.note is not None else None
+        token = self._mark()
         _PlainSimpleQueue.put(self, item if token is None else _Box(item, token), block, timeout)
 
     def get(self, block: bool = True, timeout: float | None = None) -> Any:
+        if block and timeout is None and state.note is not None:
+            self._itc_waits.wait(frame_at(1))
         return _opened(_PlainSimpleQueue.get(self, block, timeout))
 
     def put_nowait(self, item: Any) -> None:
-        token = mark(QUEUE) if state.note is not None else None
+        token = self._mark()
         _PlainSimpleQueue.put_nowait(self, item if token is None else _Box(item, token))
 
     def get_nowait(self) -> Any:
