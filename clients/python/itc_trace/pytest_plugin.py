@@ -8,8 +8,10 @@ assertions of pytest.
 
 from __future__ import annotations
 
+import argparse
 import ast
 import contextlib
+import math
 import os
 import signal
 import sys
@@ -30,7 +32,7 @@ from .cli.reporting import STANDARD_OUTPUT, Wanted, deliver
 from .cli.saying import say
 from .cli.settings import FILE, Settings, read_settings
 from .model.finding import named
-from .processes.hanging import limited
+from .processes.hanging import leave_without_those_left, limited
 from .record.collector import Collector
 from .record.faults import Fault
 from .report.as_json import as_object, report_of_object
@@ -155,8 +157,15 @@ def pytest_addoption(parser: pytest.Parser) -> None:
         group.addoption(option, metavar="FILE", help=told)
     group.addoption("--races-github", action="store_true", help="write annotations of GitHub behind the summary")
     group.addoption(
-        TIMEOUT, type=float, metavar="S", help="fail a traced test after S seconds, with what each task waits for",
+        TIMEOUT, type=_seconds, metavar="S", help="fail a traced test after S seconds, with what each task waits for",
     )
+
+
+def _seconds(word: str) -> float:
+    seconds = float(word)
+    if not 0 < seconds < math.inf:
+        raise argparse.ArgumentTypeError(f"{word!r} is no number of seconds above 0")
+    return seconds
 
 
 def pytest_configure(config: pytest.Config) -> None:
@@ -173,6 +182,10 @@ def pytest_configure(config: pytest.Config) -> None:
     if not _hands_tests_on(config):
         config.stash[_tenants] = _Tenants()
         put_all()
+
+
+def pytest_sessionfinish(session: pytest.Session) -> None:
+    leave_without_those_left(lambda: int(session.exitstatus))
 
 
 def pytest_unconfigure(config: pytest.Config) -> None:

@@ -25,7 +25,7 @@ ANSWER = 10.0
 LOOKS = 10000
 """With a frame held meanwhile, some ten of these keep what goes beyond its end."""
 PRELUDE = """
-import asyncio, concurrent.futures, ctypes, multiprocessing, queue, threading, time
+import asyncio, concurrent.futures, ctypes, multiprocessing, os, queue, subprocess, threading, time
 def start(work):
     thread = threading.Thread(target=work)
     thread.start()
@@ -106,6 +106,28 @@ child = multiprocessing.get_context("fork").Process(target=time.sleep, args=(100
 child.start()
 child.join()  # here
 """, r"root waits for the end of process ForkProcess-1 for .* s at .*# here"),
+    "child process": ("""
+if not (child := os.fork()):
+    time.sleep(1000)
+os.waitpid(child, 0)  # here
+""", r"root waits for the end of a child process for .* s at .*# here"),
+    "command": ("""
+subprocess.run(["sleep", "1000"])  # here
+""", r"root waits for the end of process \d+ for .* s at .*# here"),
+    "several futures": ("""
+concurrent.futures.wait([concurrent.futures.Future()])  # here
+""", r"root waits for the results of futures for .* s at .*# here"),
+    "import": ("""
+with open(os.path.join(os.path.dirname(__file__), "hanging_module.py"), "w") as module:
+    module.write("import time; time.sleep(1000)")
+start(lambda: __import__("hanging_module"))
+time.sleep(0.3)
+import hanging_module  # here
+""", r"root waits for the import of hanging_module for .* s at .*# here"),
+    "loop of Python": ("""
+number = 0
+while True: number += 1  # here
+""", r"root runs at .*# here"),
     "pipe": ("""
 one, other = multiprocessing.Pipe()
 one.recv()  # here
@@ -197,6 +219,40 @@ class Ended(ProgramCase):
         self.assertIn("itc_trace: incomplete: the program was ended after 4 s\n", ran.stderr)
         self.assertRegex(ran.stderr, r"root waits for an event .*at .*program.py:2:  threading.Event\(\).wait\(\)")
         self.assertIn("nobody goes on, as each waits for what only they could give: 1 task:", ran.stderr)
+
+    def test_it_is_told_once_that_nobody_goes_on(self) -> None:
+        ran = run_traced("--timeout", "5", self.program("""
+import queue, threading, time
+lock, items = threading.Lock(), queue.Queue()
+def late():
+    time.sleep(0.3)
+    with lock:
+        items.put(1)
+threading.Thread(target=late).start()
+with lock:
+    items.get()
+"""))
+        self.assertEqual(ran.stderr.count("nobody goes on"), 1, ran.stderr)
+
+    def test_a_signal_or_another_process_may_end_a_wait(self) -> None:
+        for waits in (
+            "signal.signal(signal.SIGUSR2, lambda *_: is_over.set())\nis_over.wait()",
+            "lock = multiprocessing.get_context('fork').Lock()\nlock.acquire()\nlock.acquire()",
+        ):
+            imports = "import multiprocessing, signal, threading\nis_over = threading.Event()\n"
+            ran = run_traced("--timeout", "4", self.program(imports + waits))
+            self.assertEqual(ran.returncode, Verdict.INCOMPLETE, ran.stderr)
+            self.assertRegex(ran.stderr, r"root waits for (an event|lock) ")
+            self.assertNotIn("nobody goes on", ran.stderr)
+
+    def test_one_that_ignores_the_signal_is_killed(self) -> None:
+        ran = run_traced("--timeout", "1", self.program("""
+import signal, threading
+signal.signal(signal.SIGTERM, signal.SIG_IGN)
+threading.Event().wait()
+"""))
+        self.assertEqual(ran.returncode, Verdict.INCOMPLETE, ran.stderr)
+        self.assertIn("itc_trace: incomplete: the program was ended after 1 s\n", ran.stderr)
 
     def test_its_races_are_listed(self) -> None:
         ran = run_traced("--timeout", "4", self.program(RACY))

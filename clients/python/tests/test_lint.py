@@ -21,6 +21,7 @@ OF_THE_LIBRARY = {
     "cli.parser": "_option_string_actions",
     "cli.run": "_args_from_interpreter_flags _xoptions",
     "processes.children": "_popen",
+    "processes.hanging": "_exit",
     "record.journal": "_asdict",
     "record.nesting": "_get_running_loop",
     "record.noting": "_active _current_tasks _get_running_loop",

@@ -300,6 +300,48 @@ class Plugin(unittest.TestCase):
         self.assert_verdicts(self.run_tests("-k", "lucky or locked", "--races-fail-on", "possible"), lucky="FAILED", locked="PASSED")
 
 
+HANGING = """
+import pytest, threading, time
+one, other = threading.Lock(), threading.Lock()
+def forth():
+    with one:
+        time.sleep(0.3)
+        with other:  # forth
+            pass
+def back():
+    with other:
+        time.sleep(0.3)
+        with one:  # back
+            pass
+@pytest.mark.races
+def test_hanging():
+    threads = [threading.Thread(target=work) for work in (forth, back)]
+    for thread in threads: thread.start()
+    for thread in threads: thread.join()  # joins
+@pytest.mark.races
+def test_short():
+    time.sleep(0.1)
+def test_unmarked():
+    time.sleep(2.2)
+"""
+
+
+@NEEDS_PYTEST
+class Hanging(unittest.TestCase):
+    def test_a_test_that_hangs_fails_by_what_its_tasks_wait_for(self) -> None:
+        ran = suite(*WITHOUT_CACHE, "--races-timeout", "2", test_hanging=HANGING)
+        self.assertEqual(ran.verdicts, {"test_hanging": "FAILED", "test_short": "PASSED", "test_unmarked": "PASSED"})
+        self.assertIn("the test was ended after 2 s, with 3 tasks:\n", ran.said)
+        self.assertRegex(ran.said, r"root waits for the end of thread forth_1 for \d.* s at .*:  .*# joins\n")
+        self.assertRegex(ran.said, r"forth_1 waits for lock .* for \d.* s at .*:  with other:  # forth\n")
+        self.assertRegex(ran.said, r"a cycle: (forth_1 waits for back_1, back|back_1 waits for forth_1, forth)_1 waits")
+        self.assertIn("itc_trace: threads of tests that were ended are left behind\n", ran.said)
+
+    def test_what_is_no_time_is_refused(self) -> None:
+        for word in ("0", "-1", "nan", "inf", "soon"):
+            self.assertRegex(suite(*WITHOUT_CACHE, f"--races-timeout={word}", test_hanging=HANGING).said, "error: .*--races-timeout")
+
+
 @NEEDS_PYTEST
 class Kinds(unittest.TestCase):
     """What pytest runs is traced, whatever kind of test it is."""

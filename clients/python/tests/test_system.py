@@ -111,6 +111,32 @@ class Systems(unittest.TestCase):
     def run_system(self, *words: str, **processes: Any) -> "subprocess.CompletedProcess[str]":
         return run_system(*words, self.file(**processes))
 
+    # A system that hangs
+
+    def test_a_system_is_ended_after_its_time_and_says_what_its_processes_wait_for(self) -> None:
+        racing = self.python("racing", """
+import threading, itc_trace
+def sell():
+    itc_trace.touch("stock", write=True)
+threads = [threading.Thread(target=sell) for _ in range(2)]
+for thread in threads: thread.start()
+for thread in threads: thread.join()
+threading.Event().wait()  # waits
+""")
+        other = self.python("other", "import queue\nqueue.Queue().get()  # takes\n")
+        plain = {"command": ["sleep", "1000"], "traced": False}
+        ran = self.run_system("--timeout", "5", store={"command": racing}, seller={"command": other}, plain=plain)
+        self.assertEqual(ran.returncode, Verdict.RACES, ran.stderr)
+        self.assertRegex(ran.stderr, r"store waits for an event .*for \d.* s at .*racing.py:8:  .*# waits\n")
+        self.assertRegex(ran.stderr, r"selle waits for an item of a queue for \d.* s at .*other.py:2:  .*# takes\n")
+        self.assertIn("what process plain waits for is not known\n", ran.stderr)
+        self.assertIn("itc_trace: race on stock of store\n", ran.stderr)
+        self.assertIn("itc_trace: incomplete: this system was ended after 5 s", ran.stderr)
+
+    def test_a_system_that_ends_before_its_time_is_as_ever(self) -> None:
+        ran = self.run_system("--timeout", "100", one={"command": self.python("one", "print(1)\n")})
+        self.assertEqual((ran.returncode, ran.stdout), (Verdict.NO_RACE, "one | 1\n"), ran.stderr)
+
     # What is found
 
     def test_the_example_of_three_processes(self) -> None:

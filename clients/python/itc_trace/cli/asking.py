@@ -12,7 +12,7 @@ import time
 from ..processes.hanging import TOLD
 from .saying import say
 
-ANSWER_SECONDS = 1.0
+ANSWER_SECONDS = 0.7
 HANDLER_SECONDS = 0.2
 """So long the handler in C of the process takes at most."""
 LINE = re.compile(r'^  File "(.*)", line (\d+) in (.*)$', re.MULTILINE)

@@ -6,12 +6,14 @@ that runs the program.
 
 from __future__ import annotations
 
+import atexit
 import contextlib
 import faulthandler
 import json
 import os
 import signal
 import sys
+import threading
 import time
 from collections.abc import Callable, Iterator
 from types import CodeType, FrameType
@@ -46,6 +48,8 @@ class Hanging:
         self._patience = STUCK if break_off is None else LOOK
         self._stuck: frozenset[tuple[int, float]] = frozenset()
         """The threads that were looked at closer last, and since when each had been where it was."""
+        self._told: frozenset[tuple[str, str, str, float]] = frozenset()
+        """Those of which it was told last that they are stuck."""
         self._begun = time.monotonic()
 
     def begin(self) -> None:
@@ -103,10 +107,13 @@ class Hanging:
         """Tells of tasks that wait for each other, or of which none can go on."""
         found = waits(self._since)
         cycle = cycle_of(found)
-        are_stuck = bool(found) and all(one.is_endless for one in found)
+        are_stuck = bool(found) and all(one.is_endless for one in found) and not _handles_signals()
         if not cycle and not are_stuck or state.tracer is None:
             return
-        if are_stuck:
+        told, self._told = self._told, frozenset(map(_key, found if are_stuck else cycle))
+        if told == self._told:
+            pass
+        elif are_stuck:
             _say(lines_of(found, "nobody goes on, as each waits for what only they could give:"))
         else:
             _say(lines_of(found, "some wait for each other of"))
@@ -144,20 +151,58 @@ def lines_of(found: list[Wait], begin: str) -> list[str]:
 
 @contextlib.contextmanager
 def limited(seconds: float, end: Callable[[list[str]], object]) -> Iterator[None]:
-    """Within the block this thread, the main one, calls `end` after so many seconds, with what all tasks wait for."""
-    since = Since()
-    since.look()
+    """Within the block this thread, the main one, calls `end` after so many seconds, with what all tasks wait for.
+
+    The process does not wait at its end for the threads that were started in a block that was ended so.
+    """
+    since, is_ended = Since(), False
+    others = set(threading.enumerate())
 
     def is_over(_: int, __: FrameType | None) -> None:
+        nonlocal is_ended
+        is_ended = True
+        _LEFT.extend(one for one in threading.enumerate() if one not in others and not one.daemon)
         end(lines_of(waits(since), f"the test was ended after {seconds:g} s, with"))
+
+    def look_on() -> None:
+        while not is_ended:
+            with contextlib.suppress(RuntimeError):  # It is asked meanwhile.
+                since.look()
+            plain.sleep(LOOK)
 
     before = signal.signal(signal.SIGALRM, is_over)
     signal.setitimer(signal.ITIMER_REAL, seconds)
+    start_thread(look_on)
     try:
         yield
     finally:
         signal.setitimer(signal.ITIMER_REAL, 0)
         signal.signal(signal.SIGALRM, before)
+        is_ended = True
+
+
+_LEFT: list[threading.Thread] = []
+"""The threads of tests that were ended."""
+
+
+def leave_without_those_left(status: Callable[[], int]) -> None:
+    """At its end the process does not wait for threads of tests that were ended, which may wait for ever."""
+    def leave() -> None:
+        if any(thread.is_alive() for thread in _LEFT):
+            _say(["threads of tests that were ended are left behind"])
+            vars(atexit)["_run_exitfuncs"]()
+            sys.stdout.flush()
+            sys.stderr.flush()
+            os._exit(status())
+
+    if _LEFT:
+        vars(threading)["_register_atexit"](leave)  # It is called before all threads are waited for.
+
+
+def _handles_signals() -> bool:
+    """Whether the program has a handler for a signal. That may end any wait."""
+    handlers = (signal.getsignal(number) for number in signal.valid_signals())
+    return any(callable(one) and one is not signal.default_int_handler for one in handlers)
 
 
 def _key(wait: Wait) -> tuple[str, str, str, float]:

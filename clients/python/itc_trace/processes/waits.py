@@ -6,6 +6,7 @@ All of it is read from the frames of those who wait, so it costs nothing before 
 from __future__ import annotations
 
 import asyncio
+import dis
 import linecache
 import queue
 import sys
@@ -30,6 +31,16 @@ _ITEMS, _THREAD, _FRAME, _INSTRUCTION = methodcaller("items"), itemgetter(0), it
 LIBRARY = frozenset({"multiprocessing", "subprocess", "selectors", "socket", "ssl", "contextlib"})
 """Beside what is internal: whoever waits within these was sent there by the program."""
 WAITS = "waits for "
+OWN = __name__.rpartition(".")[0]
+"""The package of what looks."""
+IMPORT_LOCK = "_ModuleLock"
+FUTURES = "the results of futures"
+_FUNCTIONS = {
+    ("concurrent.futures._base", "wait"): FUTURES,
+    ("concurrent.futures._base", "as_completed"): FUTURES,
+    ("itc_trace.sync.starts", "wait"): "the end of a child process",
+}
+"""What functions of these modules wait for that are called as no method."""
 SHORT = 0.05
 """In seconds. If a wait was seen for no longer, nobody knows when it began."""
 LONG = 0.5
@@ -123,6 +134,7 @@ def waits(since: Since) -> list[Wait]:
     now = time.monotonic()
     found: list[Wait] = []
     for thread, frame in sorted(_frames().items(), key=lambda one: one[0] != threading.main_thread().ident):
+        frame = _interrupted(frame)
         begun = since.of(thread, _where(frame), now)
         found += _of_thread(thread, frame, begun, now, since)
     return found
@@ -142,13 +154,31 @@ def _of_thread(thread: int, frame: FrameType, begun: float, now: float, since: S
         yield from tasks
         return
     if not inner:
-        is_in_c = now - begun > LONG
+        is_in_c = now - begun > LONG and not _has_jumped(frame)
         words = "is in code of C, or waits there," if is_in_c else "runs"
         yield Wait(name, words, _place(outer), begun if is_in_c else 0.0, line, is_endless=False)
         return
     wait = _described(inner, name, line, _place(outer), begun)
     wait.at = (None, 0) if outer is None else (outer.f_code, outer.f_lasti)
     yield wait
+
+
+def _interrupted(frame: FrameType) -> FrameType:
+    """Where the thread was as a signal had it look what all wait for."""
+    while frame.f_back is not None and str(frame.f_globals.get("__name__")).startswith(OWN):
+        frame = frame.f_back
+    return frame
+
+
+def _has_jumped(frame: FrameType) -> bool:
+    """Whether the thread is at a jump or at the begin of a function, where nothing of C runs.
+
+    A loop lets others go on at its jump alone, so it is seen there each time.
+    """
+    code, place = frame.f_code.co_code, max(frame.f_lasti, 0)
+    while place and dis.opname[code[place]] == "CACHE":
+        place -= 2
+    return "JUMP" in dis.opname[code[place]] or dis.opname[code[place]] in ("RESUME", "FOR_ITER", "NOP")
 
 
 def _is_library(frame: FrameType) -> bool:
@@ -160,25 +190,37 @@ def _described(inner: list[FrameType], name: str, line: Line | None, place: str,
     """By the outermost frame of the library whose object is known."""
     is_bounded = any(_has_limit(frame) for frame in inner)
     for frame in reversed(inner):
-        one = frame.f_locals.get("self")
+        words = _FUNCTIONS.get((str(frame.f_globals.get("__name__")), frame.f_code.co_name))
+        if words is not None:
+            is_endless = not is_bounded and words == FUTURES
+            return Wait(name, f"{WAITS}{words}", place, begun, line, is_endless=is_endless)
+        one: Any = frame.f_locals.get("self")
         what = _what(one, frame.f_code.co_name)
         if what:
             wait = Wait(name, f"{WAITS}{what}", place, begun, line, is_endless=not is_bounded and _is_within(one))
             identity = getattr(one, "_itc_identity", None) or getattr(
                 getattr(one, "__dict__", {}).get("_itc_permit"), "_itc_identity", None)
             if isinstance(identity, LockIdentity):
+                wait.is_endless = wait.is_endless and not identity.across
                 holder = getattr(one, "_itc_holder", None) or getattr(
                     getattr(one, "__dict__", {}).get("_itc_permit"), "_itc_holder", None)
                 wait.lock, wait.on, wait.held = identity, holder, _place_of(identity.taken_by, identity.taken_at)
             elif isinstance(one, threading.Thread):
                 wait.on = one.__dict__.get("_itc_line")
+            elif type(one).__name__ == IMPORT_LOCK and one.owner is not None:
+                wait.on = _name_of_thread(one.owner)[1]
             return wait
     if any(frame.f_code.co_name == "_worker" for frame in inner):
         return Wait(name, "waits for a job of its pool", place, begun, line, is_endless=not is_bounded)
     if any(frame.f_code.co_name == "_shutdown" for frame in inner):
         return Wait(name, "waits for the end of all threads", place, begun, line)
-    where = f"{inner[0].f_globals.get('__name__')}.{inner[0].f_code.co_name}"
+    known = next((frame for frame in inner if not _is_of_package(frame)), None)
+    where = "code of C" if known is None else f"{known.f_globals.get('__name__')}.{known.f_code.co_name}"
     return Wait(name, f"is in {where}", place, begun, line, is_endless=False)
+
+
+def _is_of_package(frame: FrameType) -> bool:
+    return str(frame.f_globals.get("__name__")).partition(".")[0] == "itc_trace"
 
 
 def _is_within(one: object) -> bool:
@@ -212,6 +254,8 @@ def _what(one: Any, function: str) -> str:
     if isinstance(one, (queue.Queue, asyncio.Queue)) or kind.__name__ in ("SimpleQueue", "Queue", "JoinableQueue"):
         return {"get": "an item of a queue", "put": "room in a queue", "join": "the items of a queue to be done"}.get(
             function, "")
+    if kind.__name__ == IMPORT_LOCK:
+        return f"the import of {one.name}" if function == "acquire" else ""
     if isinstance(one, Future):
         return "the result of a future" if function in ("result", "exception") else ""
     return _of_processes(one, kind, function)
