@@ -33,7 +33,7 @@ from ..session import LONGEST_ANSWER, Refused, Session
 from .snapshot import write_export
 from .story import add_stories
 from .trace import Asked, Steps, Told, Trace, told_by_signals
-from ..model.verdict import Cause, PassedOver, Unseen, end_row
+from ..model.verdict import Cause, Left, PassedOver, Unseen, end_row
 
 TENANT = "trace"
 UNSEEN_TURNS = (
@@ -224,7 +224,8 @@ def races_of_parts(
         divided = _Divided(journal, folder)
         found = Races(
             deadlocks=deadlocks_told(divided.deadlocks, divided.all_rows()), unseen=divided.unseen,
-            passed_over=divided.passed_over, sources=sources_of(divided.sources, divided.processes),
+            passed_over=divided.passed_over, left=divided.left,
+            sources=sources_of(divided.sources, divided.processes),
         )
         try:
             keep = None if export is None else _Exports(export, divided).keep
@@ -270,6 +271,7 @@ class _Divided:
         self._lines_aside: IO[str] | None = None
         self.unseen: list[Unseen] = []
         self.passed_over: list[PassedOver] = []
+        self.left: list[Left] = []
         self.signals: set[str] = set()
         self.sources: list[SourceText] = []
         self.processes: list[ProcessTold] = []
@@ -301,6 +303,8 @@ class _Divided:
                     self._borders[read.part] = read.border
                 elif isinstance(read, PassedOver):
                     self.passed_over.append(read)
+                elif isinstance(read, Left):
+                    self.left.append(read)
                 elif isinstance(read, DeadlockTold):
                     self.deadlocks.append(read)
                 elif isinstance(read, SignalTold):

@@ -31,7 +31,7 @@ from .racing_pairs import Pair, racing_pairs
 from ..model.sources import Sources
 from ..session import LONGEST_ANSWER, Refused, Session
 from .trace import Asked, Events, Steps, Trace, Unordered, lock_events, lock_that_tells, told_by_signals
-from ..model.verdict import Cause, PassedOver, Unseen, Verdict, listed, verdict_of
+from ..model.verdict import Cause, Left, PassedOver, Unseen, Verdict, listed, verdict_of
 from .without_locks import WithoutLocks
 
 NOTHING = "nothing orders them"
@@ -104,6 +104,8 @@ class Races:
     possible_deadlocks: list[Deadlock] = field(default_factory=list)
     unseen: list[Unseen] = field(default_factory=list)
     passed_over: list[PassedOver] = field(default_factory=list)
+    left: list[Left] = field(default_factory=list)
+    """What the program has left at its end."""
     meant: list[Race | Deadlock] = field(default_factory=list)
     """Those that are silenced."""
     known: list[Race | Deadlock] = field(default_factory=list)
@@ -216,7 +218,7 @@ def find_races(
     touches = [row for row in rows if row.is_touch and row.kind != MAKING]
     found = Races(
         deadlocks=deadlocks_told(whole.deadlocks, rows), unseen=whole.unseen, passed_over=whole.passed_over,
-        touches=len(touches),
+        left=list(whole.left), touches=len(touches),
         events=len({row.event for row in rows}),
     )
     found.sources = sources_of(whole.sources, whole.processes)

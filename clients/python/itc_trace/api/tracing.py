@@ -27,7 +27,7 @@ from ..analyse.seeing import races_seen
 from ..sync.shaking import Shaking
 from ..record.tracer import Tracer
 from ..record.tracer_parts import Parts
-from ..model.verdict import PassedOver, Unseen
+from ..model.verdict import Left, PassedOver, Unseen
 
 
 class Tracing:
@@ -121,8 +121,8 @@ class Tracing:
         for one in unseen:
             self.tell(one)
 
-    def tell(self, unseen: Unseen | PassedOver) -> None:
-        """Says in the journal what of the run is not seen.
+    def tell(self, unseen: Unseen | PassedOver | Left) -> None:
+        """Says in the journal what of the run is not seen, or is left at its end.
 
         If that cannot be written, tracing stops, and the journal breaks off.
         """

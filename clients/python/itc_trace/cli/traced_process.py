@@ -16,6 +16,8 @@ from ..model.verdict import Cause, Unseen
 from ..record.following import ChildProcess, Ways, follow, is_beginning
 from ..record.following import end as end_following
 from ..record.journal_file import JournalFile
+from ..model.lines import state
+from ..sync import left_behind
 from ..sync.base import like
 from ..sync.process_pools import take_done
 
@@ -81,6 +83,7 @@ class Ending:
     def begin(self, folders: list[str], packages: list[str] | None, names: str | None = None) -> None:
         """From here on the end of this process is looked after, and its children are traced."""
         atexit.register(self.finish)
+        vars(threading)["_register_atexit"](self._main_has_ended)
         follow(self._traced, folders, packages, self._ways(), names)
 
     def _ways(self) -> Ways:
@@ -101,8 +104,16 @@ class Ending:
                 _set_handler(number, self._end_by)
         self._let_signals()
 
+    def _main_has_ended(self) -> None:
+        """From here on the interpreter waits for the other threads."""
+        for one in left_behind.threads():
+            self._traced.tell(one)
+
     def finish(self) -> None:
         if os.getpid() == self._process:
+            tracer = state.tracer
+            for one in () if tracer is None else left_behind.locks_and_results(tracer.main):
+                self._traced.tell(one)
             self._traced.tell_of_children()
             take_done()
             self._traced.stop()

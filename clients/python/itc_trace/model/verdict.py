@@ -52,6 +52,17 @@ class PassedOver(NamedTuple):
         return json.dumps({"passed_over": self.what, "place": self.place}, separators=(",", ":")) + "\n"
 
 
+class Left(NamedTuple):
+    """What the program leaves at its end, and where that was begun."""
+
+    what: str
+    place: str
+
+    def row(self) -> str:
+        """The line of a journal that says so."""
+        return json.dumps({"left": self.what, "place": self.place}, separators=(",", ":")) + "\n"
+
+
 MOST_LISTED = 3
 
 

@@ -16,7 +16,7 @@ from ..model.frames import line_of
 from ..model.lines import Acquisition, Touch, TouchEvent
 from ..model.lock_identity import Asking, LockOrAsking
 from ..model.stretches import SITES, Across
-from ..model.verdict import BREAKS_OFF, Cause, PassedOver, Unseen
+from ..model.verdict import BREAKS_OFF, Cause, Left, PassedOver, Unseen
 
 text_of: Callable[[str], str] = vars(json.encoder)["encode_basestring_ascii"]
 """A text as JSON has it."""
@@ -99,6 +99,7 @@ class Journal(NamedTuple):
     """Lines of the program that were kept with the journal."""
     processes: tuple[ProcessTold, ...] = ()
     deadlocks: tuple[DeadlockTold, ...] = ()
+    left: tuple[Left, ...] = ()
 
 
 class NoJournal(Exception):
@@ -121,6 +122,7 @@ def read_whole(lines: Iterable[str]) -> Journal:
     sources: list[SourceText] = []
     processes: list[ProcessTold] = []
     deadlocks: list[DeadlockTold] = []
+    left: list[Left] = []
     children = Children()
     count = Count()
     for number, line in enumerate(lines, 1):
@@ -142,6 +144,8 @@ def read_whole(lines: Iterable[str]) -> Journal:
             unseen.append(read)
         elif isinstance(read, PassedOver):
             passed_over.append(read)
+        elif isinstance(read, Left):
+            left.append(read)
         elif isinstance(read, ChildTold):
             children.add(read)
         elif isinstance(read, DeadlockTold):
@@ -161,7 +165,7 @@ def read_whole(lines: Iterable[str]) -> Journal:
     missing = count.missing(unseen)
     return Journal(
         rows, [*unseen, *missing], missing, passed_over, frozenset(signals), tuple(sources), tuple(processes),
-        tuple(deadlocks),
+        tuple(deadlocks), tuple(left),
     )
 
 
@@ -381,6 +385,8 @@ def read_line(line: str) -> Read | None:
             return Unseen(Cause(read["unseen"]), str(read["text"]))
         if "passed_over" in read:
             return PassedOver(str(read["passed_over"]), str(read["place"]))
+        if "left" in read:
+            return Left(str(read["left"]), str(read["place"]))
         if "deadlock" in read:
             return DeadlockTold(tuple(read["deadlock"]))
         if "signal" in read:
@@ -424,8 +430,8 @@ class Begun(NamedTuple):
 
 
 Read = (
-    Row | Aside | SiteTold | Unseen | PassedOver | SourceText | ChildTold | DeadlockTold | SignalTold | ProcessTold
-    | Begun | End
+    Row | Aside | SiteTold | Unseen | PassedOver | Left | SourceText | ChildTold | DeadlockTold | SignalTold |
+    ProcessTold | Begun | End
 )
 """What a line of a journal says."""
 

@@ -8,6 +8,8 @@ from collections.abc import Iterator
 
 from ..analyse.races import Races
 
+MOST_LEFT = 5
+"""So many things are told that the program has left."""
 OF_SOCKETS = frozenset(
     ("accept", "recv", "recv_into", "recvfrom", "send", "sendall", "sendto", "sock_recv", "sock_sendall")
 )
@@ -21,6 +23,15 @@ def hints(found: Races) -> Iterator[str]:
         named = ", ".join(sockets)
         told = "if its message does, tell so by itc_trace.outgoing() and incoming()"
         yield f"the socket at {named} gives no order: {told}"
+    yield from _left(found)
+
+
+def _left(found: Races) -> Iterator[str]:
+    """What the program has left at its end, in one line."""
+    words = [f"{one.what} at {one.place}" for one in dict.fromkeys(found.left)]
+    if words:
+        more = f"; and {len(words) - MOST_LEFT} more" if len(words) > MOST_LEFT else ""
+        yield f"left at the end: {'; '.join(words[:MOST_LEFT])}{more}"
 
 
 def missing_sources(found: Races) -> Iterator[str]:

@@ -10,7 +10,7 @@ from ..analyse.deadlocks import Deadlock
 from ..analyse.races import Race, Races, told_deadlocks
 from ..model.finding import Finding, Seen, runs_in_words
 from ..model.sources import Sources
-from ..model.verdict import PassedOver, Unseen, Verdict, listed, verdict_of
+from ..model.verdict import Left, PassedOver, Unseen, Verdict, listed, verdict_of
 from .hints import hints
 from .report import Report
 
@@ -40,6 +40,7 @@ class Merged:
     """The first status of the program that was not 0."""
     unseen: list[Unseen] = field(default_factory=list)
     passed_over: list[PassedOver] = field(default_factory=list)
+    left: list[Left] = field(default_factory=list)
     _races: dict[Key, Often] = field(default_factory=dict)
     _possible: dict[Key, Often] = field(default_factory=dict)
     _deadlocks: dict[Key, Often] = field(default_factory=dict)
@@ -51,6 +52,7 @@ class Merged:
         self.runs += 1
         self.status = self.status or status
         self.passed_over += races.passed_over
+        self.left += races.left
         self.unseen += [Unseen(one.cause, f"run {self.runs}: {one.text}") for one in races.unseen]
         lists: tuple[tuple[Sequence[Race | Deadlock], dict[Key, Often]], ...] = (
             (races.races, self._races), (races.possible, self._possible), (races.deadlocks, self._deadlocks),
@@ -103,7 +105,7 @@ class Merged:
         examples = [often.example for often in self._found]
         return Races(
             [one for one in examples if isinstance(one, Race)],
-            deadlocks=[one for one in examples if isinstance(one, Deadlock)],
+            deadlocks=[one for one in examples if isinstance(one, Deadlock)], left=self.left,
         )
 
     def report(self, looking: Looking, fail_on_possible: bool = False) -> Report:

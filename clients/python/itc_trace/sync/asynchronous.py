@@ -33,6 +33,7 @@ from ..model.frames import frame_at, is_internal, place
 from ..model.stretches import STRETCHES, TURNS, leave
 from .base import Patches, like, name_as, named_like
 from .futures import is_settled_by_source, take_any
+from .left_behind import Outcome, begun, stays, taken
 from .locks import OnePermit, gave, is_of_condition, took
 from .queues import has_few_places, items_of, note_done, room_of, take_done
 from .waiters import Waiters
@@ -138,6 +139,8 @@ def _adding(plain: Any) -> Any:
     original = plain.add_done_callback
 
     def add_done_callback(self: Any, fn: Any, /, *, context: Any = None) -> None:
+        if getattr(self, "_itc_left", None) is not None:
+            (stays if _is_cancelled_at_end(frame_at(1)) else taken)(self)
         if state.note is not None and not is_internal(frame_at(1)):
             self._itc_callbacks = [*self._itc_callbacks, (fn, mark(CALLBACK))]
             if type(self._itc_called) is not list:
@@ -145,6 +148,12 @@ def _adding(plain: Any) -> Any:
         original(self, fn, context=context)
 
     return like(original, add_done_callback)
+
+
+def _is_cancelled_at_end(frame: FrameType | None) -> bool:
+    """Whether `asyncio.run` waits for what is left, which it has cancelled."""
+    caller = None if frame is None else frame.f_back
+    return caller is not None and caller.f_code.co_name == "_cancel_all_tasks"
 
 
 def _removing(plain: Any) -> Any:
@@ -223,6 +232,7 @@ def _begin_task(task: Any, coro: Any, name: Any, loop: Any) -> Line | None:
         begun_here(line)  # A task of another loop does nothing in this run.
     if line is not None:
         line.watch(task)
+        begun(task, Outcome.TASK, frame_at(1))
     return line
 
 

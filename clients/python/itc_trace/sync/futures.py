@@ -18,6 +18,7 @@ from ..record.noting import current, enter, joining, local, mark, starting, take
 from ..model.frames import frame_at, is_internal, place
 from ..record.messages import incoming_at
 from .base import Patches, like, named_like
+from .left_behind import Outcome, begun, taken
 from ..record.awaited import await_at_exit
 
 _DONE = {base.CANCELLED, base.CANCELLED_AND_NOTIFIED, base.FINISHED}
@@ -47,6 +48,7 @@ def put(patches: Patches) -> None:
 
 def take_result(future: Any, depth: int = 2) -> None:
     """From now on the current task comes after whatever gave the future its result."""
+    taken(future)
     if getattr(future, "_itc_message", None) is not None:  # It is no future of asyncio.
         incoming_at(future._itc_message, frame_at(depth))
     elif future._itc_token is not None:
@@ -63,6 +65,7 @@ def is_settled_by_source(future: Any) -> bool:
 
 def take_any(future: Any, depth: int = 2) -> None:
     """The same of a future of any kind: of a task of asyncio it is the task's end."""
+    taken(future)
     line = getattr(future, "_itc_line", None)
     if line is not None and not isinstance(future, base.Future):
         note = state.note
@@ -163,6 +166,7 @@ def _done(original: Any) -> Any:
 
 def _add_done_callback(original: Any) -> Any:
     def add_done_callback(self: Any, fn: Any) -> Any:
+        taken(self)
         if state.note is not None and callable(fn) and not is_internal(frame_at(1)):
             fn = _called_back(fn, mark(CALLBACK))
         return original(self, fn)
@@ -225,7 +229,10 @@ def _submit(original: Any) -> Any:
         local.submitting = self, getattr(fn, "__name__", "job")
         local.handed = handed_at(fn)
         try:
-            return original(self, fn, *args, **kwargs)
+            future = original(self, fn, *args, **kwargs)
+            if state.note is not None:
+                begun(future, Outcome.FUTURE, frame_at(1))
+            return future
         finally:
             local.submitting = local.handed = None
 

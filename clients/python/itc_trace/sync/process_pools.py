@@ -14,10 +14,11 @@ from typing import Any
 from ..record import following
 from ..model.lines import FINISH, JOIN, SPAWN, Line, state
 from ..record.noting import current, enter, local
-from ..model.frames import place_of
+from ..model.frames import frame_at, place_of
 from ..record.messages import Sending, incoming_at
 from .base import Patches
 from .later import once_imported
+from .left_behind import Outcome, begun
 
 _done: list[Line] = []
 """The jobs that were run in this process."""
@@ -65,7 +66,10 @@ def _submit(original: Any) -> Any:
     def submit(self: Any, fn: Any, /, *args: Any, **kwargs: Any) -> Any:
         is_traced = "_itc_line" in self.__dict__ and following.is_on()
         sending = Sending.begin(following.frame_of_start(1)) if is_traced else None
-        return original(self, fn if sending is None else Job(fn, sending), *args, **kwargs)
+        future = original(self, fn if sending is None else Job(fn, sending), *args, **kwargs)
+        if state.note is not None:
+            begun(future, Outcome.FUTURE, frame_at(1))
+        return future
 
     return submit
 

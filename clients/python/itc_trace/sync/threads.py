@@ -13,6 +13,7 @@ from ..model.lines import BARRIER, EVENT, FINISH, JOIN, NOTIFY, SEMAPHORE, SPAWN
 from ..record.noting import are_replaced, enter, joining, local, mark, starting, take, thread_name
 from ..model.frames import frame_at, is_internal, place
 from .base import Patches, like
+from .left_behind import ended, started
 from ..record.awaited import await_at_exit
 from .locks import (
     IS_CALLED, OnePermit, TracedLock, TracedRLock, allocate_lock, gave, is_of_condition, new_rlock, took, traced_rlock,
@@ -119,6 +120,7 @@ def _start(original: Any) -> Any:
         if not self.daemon:
             await_at_exit(line)
         self.__dict__["_itc_line"] = line  # The program's own class may refuse attributes.
+        started(self, frame_at(1))
         note((SPAWN, starting(line), line, *place(frame_at(1))))
         return original(self)
 
@@ -145,6 +147,7 @@ def _note_end(line: Line) -> None:
     line.section = None
     note = state.note
     if note is not None and line.tracer is state.tracer:
+        ended(line)
         note((FINISH, line, True, line.waiting > 1))
 
 
