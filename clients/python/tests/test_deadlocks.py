@@ -3,6 +3,7 @@
 from __future__ import annotations
 
 import inspect
+import threading
 import unittest
 from collections.abc import Callable
 
@@ -127,6 +128,24 @@ class Findings(TracedCase):
         looking.silence(again)
         self.assertEqual((again.possible_deadlocks, len(again.known)), ([], 1))
         self.assertEqual(again.verdict(fail_on_possible=True), Verdict.NO_RACE)
+
+    def test_it_is_known_whichever_task_comes_first(self) -> None:
+        def run(is_turned: bool) -> None:
+            first_lock = threading.Lock()
+            second_lock = threading.Lock()
+
+            def forth() -> None:
+                with first_lock, second_lock:
+                    pass
+
+            def back() -> None:
+                with second_lock, first_lock:
+                    pass
+
+            in_turn(*((back, forth) if is_turned else (forth, back)))
+
+        one, other = (self.races(lambda: run(turned)).possible_deadlocks[0].finding() for turned in (False, True))
+        self.assertEqual((one.known_as, one.identity), (other.known_as, other.identity))
 
     def test_it_is_silenced_by_any_two_of_its_places(self) -> None:
         lines = sorted(marked(two_locks))

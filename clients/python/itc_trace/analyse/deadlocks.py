@@ -93,19 +93,24 @@ class Deadlock:
     @property
     def thing(self) -> str:
         """The locks, in the order of the cycle."""
-        return " and ".join(dict.fromkeys(_variable(one.holds) for one in self.steps))
+        return _thing_of(self.steps)
 
     @property
     def sides(self) -> tuple[LockSide, ...]:
         return tuple(LockSide(kind, str(at), at.function) for one in self.steps for kind, at in one.lines)
 
     def finding(self, sources: Sources | None = None) -> Finding:
-        """The value that each format is written of."""
+        """The value that each format is written of. It begins with the same step in each run."""
         kept = sources or Sources()
-        made = " and ".join(dict.fromkeys(place for one in self.steps if (place := _maker(one.holds))))
+
+        def sides(step: Step) -> list[FoundSide]:
+            return [_found_side(step, kind, at, kept) for kind, at in step.lines]
+
+        steps = _turned(self.steps, lambda one: [side.known_as for side in sides(one)])
+        made = " and ".join(dict.fromkeys(place for one in steps if (place := _maker(one.holds))))
         return Finding(
-            POSSIBLE_DEADLOCK if self.is_possible else DEADLOCK, self.thing,
-            tuple(_found_side(one, kind, at, kept) for one in self.steps for kind, at in one.lines),
+            POSSIBLE_DEADLOCK if self.is_possible else DEADLOCK, _thing_of(steps),
+            tuple(side for one in steps for side in sides(one)),
             UNORDERED if self.is_possible else CLOSED, self.times, f"made at {made}" if made else "", self.is_possible,
             self.is_confirmed,
         )
@@ -116,6 +121,10 @@ class Deadlock:
 
     def __str__(self) -> str:
         return "\n    ".join(self.finding().lines())
+
+
+def _thing_of(steps: Iterable[Step]) -> str:
+    return " and ".join(dict.fromkeys(_variable(one.holds) for one in steps))
 
 
 def _found_side(step: Step, kind: str, at: Place, sources: Sources) -> FoundSide:
