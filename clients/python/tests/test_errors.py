@@ -63,7 +63,7 @@ class Errors(ProgramCase):
             journal.write(ROW)
             for words in (("run", "--port", port, self.program(TOUCHING)), ("races", "--port", port, "trace", journal.name),
                           ("snapshot", "--port", port, "trace"), ("relay", "--listen", "0", "--port", port)):
-                self.assert_told(run_python("-m", "itc_trace", *words), f"nobody listens at port {port}", "itc_trace serve")
+                self.assert_told(run_python("-m", "itc_trace", *words), f"nobody listens at port {port}", "itc-trace serve")
 
     def test_a_tenant_that_is_none(self) -> None:
         with Collector("shop") as collector:

@@ -129,7 +129,7 @@ class Stories(unittest.TestCase):
             ([identity, "none.json"], "none.json has no race"),
             ([identity, "broken"], "broken is no report: it is no report of --json: name the FILE of --json, or an export"),
             ([identity, "nowhere"], "nowhere cannot be read: No such file or directory"),
-            ([identity, "shop.py"], "explain wants the journal of each process, behind shop.py"),
+            ([identity, "shop.py"], "shop.py is no export: name the FILE of --export"),
             ([identity, "r.json", "g.journal"], "the journal g.journal is for an export, and r.json is a report of --json: leave it out"),
             (["--picture", "x.html", identity, "r.json"], "--picture x.html is for an export, and r.json is a report"),
             (["--benign", "g", identity, "g"], "--benign g would overwrite g: name another file"),

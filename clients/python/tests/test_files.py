@@ -75,7 +75,7 @@ class Files(unittest.TestCase):
         text, spoilt = Path(export).read_text(), self.folder / "spoilt"
         self.assert_refused(str(self.folder / "no_such"), journal, told="no_such cannot be read")
         self.assert_refused(str(self.folder), journal, told="Is a directory")
-        self.assert_refused(journal, journal, told=f"{journal} is no export: line 1 is faulty")
+        self.assert_refused(journal, journal, told=f"{journal} is a journal: name the export that was kept with it first")
         spoilt.write_text(text.replace('"kind":"spawn"', '"kind":"swan"', 1))
         self.assert_refused(str(spoilt), journal, told=f"{spoilt} is no export: line 2 is faulty")
 

@@ -119,7 +119,7 @@ class Pictures(unittest.TestCase):
         run_traced("--export", str(self.export), self.program(CLEAN))
         ran = run_python("-m", "itc_trace", "races", "--picture", str(self.folder), str(self.export), f"{self.export}.journal")
         self.assertEqual((ran.returncode, ran.stdout), (2, ""))
-        self.assertIn("it is no regular file", ran.stderr)
+        self.assertIn("it is a folder", ran.stderr)
 
     def test_a_source_that_is_shorter_by_now_has_no_lines(self) -> None:
         program = self.program(RACING)

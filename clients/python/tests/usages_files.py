@@ -32,7 +32,7 @@ EXPORT = (
 KEPT = PACKAGE / "tests" / "usages"
 FILES = {
     "shop.py": RACING, "fine.py": 'print("ran")\n', "empty": "", "garbage": "][ garbage :::\n", "word": "labels", "g.export": EXPORT,
-    "benign": "stock['left'] shop.py:4\n", "system.toml": '[process.a]\ncommand = ["true"]\ntraced = false\n',
+    "benign": "stock['left'] shop.py:4\n", "page.html": "<!DOCTYPE html>\n", "system.toml": '[process.a]\ncommand = ["true"]\ntraced = false\n',
 }
 SYSTEMS = {
     'no_table': 'x = 1\n',
@@ -59,6 +59,7 @@ SYSTEMS = {
     'watch_and_nothing': '[process.a]\ncommand = ["true"]\nwatch = ["x"]\nwatch_nothing = true\n',
     'environment_has_a_number': '[process.a]\ncommand = ["true"]\nenvironment = {A = 1}\n',
     'environment_is_a_text': '[process.a]\ncommand = ["true"]\nenvironment = "A=1"\n',
+    'environment_is_empty': '[process.a]\ncommand = ["nope_such"]\nenvironment = {}\n',
     'folder_is_not_there': '[process.a]\ncommand = ["true"]\nfolder = "nope"\n',
     'command_is_not_there': '[process.a]\ncommand = ["nope_such"]\ntraced = false\n',
     'service_is_a_text': '[process.a]\ncommand = ["true"]\nservice = "yes"\n',

@@ -32,6 +32,8 @@ def _requests(export: str) -> list[str]:
             read = subprocess.run([find_program(), "load", TENANT], stdin=given, capture_output=True, check=False)
     except OSError as error:
         raise Fault(f"{export} cannot be read: {error.strerror}: name an export, or a tenant with --port") from error
+    if read.returncode and not read.stderr:
+        raise Fault(f"{find_program()} does not serve as a collector: set ITC_TRACE to the path of itc_trace")
     if read.returncode:
         raise Fault(f"{export} is no export: {_reason(read.stderr)}: name the FILE of --export")
     return [line.partition(" ")[2] for line in read.stdout.decode("ascii").splitlines()]

@@ -4,6 +4,7 @@ from __future__ import annotations
 
 import difflib
 import os
+import subprocess
 import sys
 
 from ..record.collector import NoCollector, find_in_repository, find_program
@@ -30,7 +31,7 @@ def main() -> int:
     if words[0] in ("--help", "-h", "help"):
         return 0 if write(told(NAME)) else UNWRITTEN
     if words[0] not in COMMANDS and words[0] not in OPTIONS:
-        say(f"{NAME}: there is no command {words[0]}: {_meant_by(words[0])}")
+        say(f"{NAME}: {_why_no_command(words[0])}")
         return WORDS_REFUSED
     try:
         return _run(words[0], words[1:], find_program())
@@ -39,7 +40,15 @@ def main() -> int:
         return WORDS_REFUSED
 
 
+def _why_no_command(word: str) -> str:
+    if word.startswith("-"):
+        return f"there is no option {word}: begin with a command, and type its options behind it: {_meant_by('')}"
+    return f"there is no command {word or 'without a name'}: {_meant_by(word)}"
+
+
 def _meant_by(word: str) -> str:
+    if os.path.isfile(word) and word.endswith(".toml"):
+        return f"to run a system, type `{NAME} system {word}`"
     like = difflib.get_close_matches(word.lower(), COMMANDS, 1)
     if like:
         return f"did you mean {like[0]}?"
@@ -52,7 +61,8 @@ def _meant_by(word: str) -> str:
 
 def _run(command: str, words: list[str], program: str) -> int:
     if command in VERSIONS:
-        os.execv(program, ["itc_trace", command])
+        told = subprocess.run([program, command], stdout=subprocess.PIPE, text=True, check=False)
+        return told.returncode if write(told.stdout) else UNWRITTEN
     if command in OF_THE_PROGRAM:
         return of_the_program(program, command, words)
     picture = find_in_repository(PICTURE)

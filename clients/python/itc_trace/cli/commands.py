@@ -3,6 +3,7 @@
 from __future__ import annotations
 
 import argparse
+import errno
 import io
 import os
 import random
@@ -38,6 +39,8 @@ from .system_file import read_system
 LOOKING = ("run", "system", "races")
 """The commands that look for races."""
 EXPORT_BEGINS = b'{"events":'
+LINE_BEGINS, PAGE_BEGINS = b'{"event"', b"<!"
+"""So begin lines of an export or a journal, and pages."""
 OPTIONS_OF_PYTHON = {
     "-c": "a file, or -m and a module, but no text of a program",
     "-": "a file, or -m and a module, but no standard input",
@@ -97,13 +100,19 @@ def _look_for_program(program: str, words: argparse.Namespace) -> None:
             raise Fault(f"{program} is no program: if it describes a system, run it by `system {program}`")
         if is_export(program):
             raise Fault(f"{program} is no program, but an export: list its races by `races {program}`")
+        if _begins(program, LINE_BEGINS) or _begins(program, PAGE_BEGINS):
+            raise Fault(f"{program} is no program of Python: name a file, or -m and a module")
     elif not os.path.exists(program):
         raise Fault(f"there is no program {program or 'without a name'}: {_meant_by(program, words)}")
 
 
 def is_export(file: str) -> bool:
+    return _begins(file, EXPORT_BEGINS)
+
+
+def _begins(file: str, with_these: bytes) -> bool:
     with open(file, "rb") as given:
-        return given.read(len(EXPORT_BEGINS)) == EXPORT_BEGINS
+        return given.read(len(with_these)) == with_these
 
 
 def _meant_by(program: str, words: argparse.Namespace) -> str:
@@ -196,9 +205,9 @@ def _relay(words: argparse.Namespace) -> None:
     try:
         relay(words.listen, words.port, host)
     except OSError as fault:
-        raise Fault(
-            f"port {words.listen} cannot be listened at: {fault.strerror}: choose another by --listen"
-        ) from fault
+        is_taken = fault.errno == errno.EADDRINUSE
+        why = "is in use" if is_taken else f"cannot be listened at: {fault.strerror}"
+        raise Fault(f"port {words.listen} {why}: choose another by --listen") from fault
 
 
 def _tell_of_options_behind(program: list[str], options: Parser) -> None:

@@ -19,6 +19,8 @@ REPORT_BEGINS = b"{\n"
 
 def explain(identity: str, kept: KeptTrace, is_strict: bool, benign: str | None) -> int:
     """Writes the story, and adds a line to the file of what is meant if one is named. Gives the status."""
+    if os.path.isfile(identity) and not os.path.exists(kept.trace):
+        raise Fault(f"{identity} is a file: the id comes first, as explain {kept.trace} {identity}")
     report = _report(kept, is_strict)
     try:
         finding = finding_by(identity, report, kept.trace)

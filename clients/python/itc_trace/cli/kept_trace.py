@@ -17,9 +17,15 @@ from ..analyse.races import Races
 from ..analyse.seeing import check_trace, lines_of, races_seen
 from ..record.collector import HOST
 from ..record.faults import Fault, look
+from ..record.journal import NoJournal, read_whole
 from .output_files import check_outputs
 from .parser import tenant
 from .run import draw_parts, draw_tenant
+
+PAGE_BEGINS = b"<!"
+LINE_BEGINS = b'{"event'
+"""So begins the first line of an export, be it a header or an event."""
+MOST_OF_BEGIN = 1 << 17
 
 
 @dataclass
@@ -39,16 +45,15 @@ class KeptTrace:
 
     def races(self, looking: Looking) -> tuple[Races, str | None]:
         """The races, and the picture if it was drawn."""
-        if self.port is None and not os.path.exists(self.trace):
-            raise Fault(
-                f"{self.trace} cannot be read: No such file or directory: name an export, or a tenant with --port"
-            )
+        begin = self._begin_of_trace() if self.port is None else b""
         divided = self._journal_in_parts()
         if divided is not None:
             self._check_outputs(divided)
             return self._races_of_parts(divided, looking)
         if not self.journals and self.port is None and os.path.isfile(f"{self.trace}.journal"):
             self.journals = [f"{self.trace}.journal"]
+        if not self.journals and self.port is None and not begin.startswith(LINE_BEGINS):
+            raise Fault(f"{self.trace} is no export: name the FILE of --export")
         if not self.journals:
             raise Fault(
                 f"{self.command} wants the journal of each process, behind {self.trace}: "
@@ -61,6 +66,21 @@ class KeptTrace:
         look(_tenant(self.trace), self.port, self.host)
         name = f"tenant {self.trace} at port {self.port}"
         return self._races_of(self.trace, self.port, self.host, name, looking)
+
+    def _begin_of_trace(self) -> bytes:
+        """What its file begins with. Of a page or a journal it says what it is."""
+        try:
+            with open(self.trace, "rb") as file:
+                begin = file.read(MOST_OF_BEGIN)
+        except OSError as error:
+            advice = "name an export, or a tenant with --port"
+            raise Fault(f"{self.trace} cannot be read: {error.strerror}: {advice}") from error
+        if begin.startswith(PAGE_BEGINS):
+            raise Fault(f"{self.trace} is the page of a picture: name the FILE of --export")
+        if _is_journal(begin) and not is_in_parts(self.trace):
+            export = self.trace.removesuffix(".journal")
+            raise Fault(f"{self.trace} is a journal: name the export that was kept with it first, as {export}")
+        return begin
 
     def _check_outputs(self, *further: str) -> None:
         """Finds what keeps the command from writing its files."""
@@ -88,6 +108,14 @@ class KeptTrace:
             parts = None if self.picture is None else os.path.join(work, "export")
             found = races_of_parts(journal, looking, Bar(sys.stderr), None, parts)
             return found, draw_parts(parts, self.picture, found, "")
+
+
+def _is_journal(begin: bytes) -> bool:
+    """Whether a file that begins so has a journal's first line."""
+    try:
+        return read_whole([begin.split(b"\n")[0].decode("utf-8", "replace") + "\n"]) is not None
+    except NoJournal:
+        return False
 
 
 def _tenant(word: str) -> str:

@@ -51,7 +51,7 @@ def _add_races(parser: Parser) -> None:
     parser.add_argument("trace", type=file, metavar="EXPORT|TENANT",
                         help="an export, or with --port a tenant of the collector there")
     _add_file(parser, "--picture", "draw the trace there, with its races")
-    parser.add_argument("journal", type=file, nargs="*", metavar="JOURNAL",
+    parser.add_argument("journal", type=file, nargs="*", default=[], metavar="JOURNAL",
                         help="the journal of each process; EXPORT.journal, if none is named; "
                              "that of a run in parts may be EXPORT")
 
@@ -61,7 +61,7 @@ def _add_explain(parser: Parser) -> None:
     parser.add_argument("id", type=name, metavar="ID", help="the id of the race, or its first four digits or more")
     parser.add_argument("trace", type=file, metavar="REPORT|EXPORT|TENANT",
                         help="a file of --json, an export, or with --port a tenant of the collector there")
-    parser.add_argument("journal", type=file, nargs="*", metavar="JOURNAL",
+    parser.add_argument("journal", type=file, nargs="*", default=[], metavar="JOURNAL",
                         help="the journal of each process; EXPORT.journal, if none is named")
     _add_port(parser, is_required=False)
     parser.add_argument("--strict", action="store_true", help="two tasks of one loop race as two threads do")

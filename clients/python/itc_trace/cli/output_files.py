@@ -10,8 +10,10 @@ from ..record.faults import Fault
 
 def check_writable(file: str) -> None:
     was_there = os.path.exists(file)
+    if os.path.isdir(file):
+        raise Fault(f"{file} cannot be written: it is a folder")
     if was_there and not os.path.isfile(file):
-        raise Fault(f"{file} cannot be written: it is no regular file, which is read again at the end")
+        raise Fault(f"{file} cannot be written: it is no regular file, and what is written there is read again")
     try:
         with open(file, "ab"):
             pass

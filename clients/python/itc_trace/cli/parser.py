@@ -27,6 +27,7 @@ IN_WORDS = (
     (re.compile(r"argument (\S+): "), r"\1: "),
 )
 """What argparse says of faulty words, and how it is said here."""
+OPTION = re.compile(r"--?[A-Za-z].*")
 
 
 class Parser(argparse.ArgumentParser):
@@ -35,6 +36,10 @@ class Parser(argparse.ArgumentParser):
     def __init__(self, **more: Any) -> None:
         super().__init__(allow_abbrev=False, **more)
         self.commands: dict[str, Parser] = {}
+        self.typed: list[str] = []
+        """What was typed behind the command."""
+        self.others: dict[str, Parser] = {}
+        """All commands, by their names."""
 
     def options(self) -> set[str]:
         """All its options, as they are typed."""
@@ -46,10 +51,20 @@ class Parser(argparse.ArgumentParser):
 
     def error(self, message: str) -> NoReturn:
         missing = MISSING.fullmatch(message)
+        if missing:
+            self._refuse_unknown_option()
         said = f"{self.prog.split()[-1]} wants {missing[1]}" if missing else message
         for pattern, words in IN_WORDS:
             said = pattern.sub(words, said)
         self.refuse(said)
+
+    def _refuse_unknown_option(self) -> None:
+        """An option that there is not may be one that is missing then, misspelled."""
+        for word in self.typed:
+            if word == "--":
+                return
+            if OPTION.fullmatch(word) and word.partition("=")[0] not in self.options():
+                self.refuse(self.why_left_over(word))
 
     def print_help(self, file: object = None) -> None:
         if not write(self.format_help()):
@@ -61,21 +76,37 @@ class Parser(argparse.ArgumentParser):
 
     def parse_all(self, words: Sequence[str]) -> argparse.Namespace:
         """The words, of which none may be left over. Whose command lacks an option names one like it."""
-        known, rest = self.parse_known_args(words)
+        for parser in self.commands.values():
+            parser.typed, parser.others = list(words[1:]), self.commands
+        known, left_over = self.parse_known_args(words)
+        rest = [word for word in left_over if word != "--"]
         if rest:
             parser = self.commands.get(known.command, self)
-            parser.refuse(self._why_left_over(rest[0], known.command, parser))
+            parser.refuse(parser.why_left_over(rest[0]))
         return known
 
-    def _why_left_over(self, word: str, command: str, parser: Parser) -> str:
-        option = word.partition("=")[0]
+    def why_left_over(self, word: str) -> str:
+        """What is wrong with a word that the command does not take."""
+        option, command = word.partition("=")[0], self.prog.split()[-1]
         if not option.startswith("-"):
             return f"{word} is a word too many"
-        others = [name for name, other in self.commands.items() if option in other.options()]
+        others = [name for name, other in self.others.items() if option in other.options()]
         if others:
-            return f"{command} has no option {option}, but {', '.join(others)} has"
-        like = difflib.get_close_matches(option, parser.options(), 1) if option.startswith("--") else []
-        return f"{command} has no option {option}" + (f": did you mean {like[0]}?" if like else "")
+            return f"{command} has no option {option}, but {_listed(others)}"
+        like = self._like(option)
+        return f"{command} has no option {option}" + (f": did you mean {like}?" if like else "")
+
+    def _like(self, option: str) -> str | None:
+        """An option that may have been meant. Each begins with dashes, which make no two of them alike."""
+        names = [one.removeprefix("--") for one in self.options() if one.startswith("--")]
+        like = difflib.get_close_matches(option.removeprefix("--"), names, 1) if option.startswith("--") else []
+        return f"--{like[0]}" if like else None
+
+
+def _listed(commands: list[str]) -> str:
+    """Which commands have something."""
+    *before, last = commands
+    return f"{', '.join(before)} and {last} have" if before else f"{last} has"
 
 
 def file(word: str) -> str:
@@ -104,6 +135,9 @@ def port(word: str) -> int:
 
 def number(word: str, least: int, most: int) -> int:
     value = int(word) if word.isascii() and word.isdigit() else least - 1
+    if not word:
+        raise argparse.ArgumentTypeError(f"it is empty, and has to be a number from {least} to {most}")
     if not least <= value <= most:
-        raise argparse.ArgumentTypeError(f"{word or 'nothing'} is no number from {least} to {most}")
+        shown = repr(word) if word != word.strip() else word
+        raise argparse.ArgumentTypeError(f"{shown} is no number from {least} to {most}")
     return value

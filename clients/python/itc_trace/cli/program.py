@@ -74,9 +74,12 @@ def _typed(command: str, words: list[str]) -> Typed:
     options: dict[str, str] = {}
     places = []
     place = 0
+    marked = words.index("--") if "--" in words else len(words)
     while place < len(words):
         name, sign, value = words[place].partition("=")
-        if words[place].startswith("-") and words[place] != "-":
+        if words[place].startswith("-") and words[place] != "-" and place <= marked:
+            if command in USAGES and place < marked:
+                raise Fault(f"{command} has no option {name}: {_usage(command)}")
             takes_next = not sign and name != "--" and command not in USAGES
             options[name] = "".join(words[place + 1 : place + 2]) if takes_next else value
             place += 2 if takes_next else 1
@@ -93,17 +96,19 @@ def _with_file(typed: Typed, places: list[int]) -> Typed:
     tenants = 1 if typed.command == "load" else 0
     if len(places) > tenants + 1:
         further = typed.tenants[tenants + 1]
-        raise Fault(f"{typed.command} takes one export, and {further} is a word too many: {_usage(typed)}")
+        raise Fault(f"{typed.command} takes one export, and {further} is a word too many: {_usage(typed.command)}")
     if len(places) == tenants == 1 and not TENANT.fullmatch(typed.tenants[0]) and os.path.exists(typed.tenants[0]):
-        raise Fault(f"load wants the name of a tenant before the file {typed.tenants[0]}: {_usage(typed)}")
+        raise Fault(f"load wants the name of a tenant before the file {typed.tenants[0]}: {_usage(typed.command)}")
+    if len(places) < tenants:
+        raise Fault(f"load wants the name of a tenant: {_usage(typed.command)}")
     if len(places) > tenants:
         typed.file = typed.tenants.pop()
         del typed.words[places[-1]]
     return typed
 
 
-def _usage(typed: Typed) -> str:
-    return f"{NAME} {USAGES[typed.command]}"
+def _usage(command: str) -> str:
+    return f"{NAME} {USAGES[command]}"
 
 
 @contextlib.contextmanager
@@ -211,20 +216,28 @@ def _tenants(typed: Typed) -> str:
     """Which of the names is no name of a tenant."""
     for name in typed.tenants:
         if not TENANT.fullmatch(name):
-            hint = f": to read the file, write <{name} behind the names" if os.path.exists(name) else ""
-            return f"{name!r} is no name of a tenant: it has 1 to 24 letters, digits or _{hint}"
+            return f"{name!r} is no name of a tenant: it has 1 to 24 letters, digits or _{_of_file(typed, name)}"
     twice = next((name for name in typed.tenants if typed.tenants.count(name) > 1), None)
     if twice is not None:
         return f"tenant {twice} is named twice"
     if len(typed.tenants) > MOST_TENANTS:
         return f"{len(typed.tenants)} tenants are named: {MOST_TENANTS} at most"
     if typed.command == "load":
-        return f"load takes one tenant: {_usage(typed)}"
+        return f"load takes one tenant: {_usage(typed.command)}"
     exported = typed.options.get("--export")
     if exported is not None and exported not in typed.tenants:
         named = ", ".join(typed.tenants)
-        return f"--export names {exported}, which is none of the tenants {named}: it is a tenant's name, no file's"
+        return f"--export names {exported or 'nothing'}, which is none of the tenants {named}: it is a tenant's name, no file's"
     return "the names of the tenants are not accepted"
+
+
+def _of_file(typed: Typed, name: str) -> str:
+    """What to do with a file that is named in place of a tenant."""
+    if not os.path.isfile(name):
+        return ""
+    if typed.command == "serve":
+        return f": {NAME} replay reads a file, and serve reads what programs report"
+    return f": to read the file, write <{name} behind the names"
 
 
 def _port(typed: Typed) -> str:

@@ -168,6 +168,10 @@ def _check_module(name: str) -> None:
         del sys.path[0]
 
 
+NOT_UTF_8 = "(unicode error) 'utf-8' codec"
+"""So the language says that the bytes of a source are no text."""
+
+
 def _check_syntax(program: str) -> None:
     source = Path(program).read_bytes()
     if source.startswith(b"PK"):
@@ -175,6 +179,9 @@ def _check_syntax(program: str) -> None:
     try:
         compile(source, program, "exec", dont_inherit=True)
     except SyntaxError as error:
+        if error.msg.startswith(NOT_UTF_8):
+            told = "it is no text in UTF-8, and names no other encoding"
+            raise Fault(f"{program} cannot be run: {told}") from error
         where = "" if error.lineno is None else f" at line {error.lineno}"
         raise Fault(f"{program} cannot be run: {error.msg}{where}: mend it first") from error
     except (ValueError, RecursionError, MemoryError) as error:

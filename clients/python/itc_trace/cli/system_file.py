@@ -64,15 +64,18 @@ def read_system(file: str) -> System:
             told = tomllib.load(text)
     except OSError as error:
         raise Fault(f"{file} cannot be read: {error.strerror}") from error
-    except (tomllib.TOMLDecodeError, UnicodeDecodeError) as error:
-        raise Fault(f"{file} is no TOML: {error}") from error
+    except UnicodeDecodeError as error:
+        raise Fault(f"{file} is no TOML: it is no text") from error
+    except tomllib.TOMLDecodeError as error:
+        hint = f": if it is a program, run it by `run {file}`" if file.endswith(".py") else ""
+        raise Fault(f"{file} is no TOML: {error}{hint}") from error
     reading = _Reading(file)
     processes = reading.table(told, "process", "the file")
     folder = os.path.dirname(os.path.abspath(file))
+    export, picture = (_path(folder, reading.text(told, key, "the file")) for key in ("export", "picture"))
     system = System(
         [_described(reading, name, one, folder) for name, one in processes.items()],
-        reading.text(told, "tenant", "the file") or OWN_TENANT,
-        *(_path(folder, reading.text(told, key, "the file")) for key in ("export", "picture")), os.path.basename(file),
+        reading.text(told, "tenant", "the file") or OWN_TENANT, export, picture, os.path.basename(file),
     )
     reading.nothing_else(told, ("process", "tenant", "export", "picture"), "the file")
     if not TENANT.fullmatch(system.tenant):
@@ -145,10 +148,11 @@ class _Reading:
         return value
 
     def table(self, told: dict[str, Any], key: str, where: str) -> dict[str, Any]:
-        value = told.get(key)
-        if not isinstance(value, dict) or not value:
-            example = ": begin it by a line [process.NAME]" if key == "process" else ""
-            raise Fault(f"{self.file}: {where} has no table {key}{example}")
+        value = told.get(key, {})
+        if key == "process" and (not isinstance(value, dict) or not value):
+            raise Fault(f"{self.file}: {where} has no table {key}: begin it by a line [process.NAME]")
+        if not isinstance(value, dict):
+            raise Fault(f'{self.file}: {where}: {key} is a table, as {key} = {{ NAME = "value" }}')
         return value
 
     def nothing_else(self, told: dict[str, Any], keys: tuple[str, ...], where: str) -> None:

@@ -28,9 +28,11 @@ class Fault(ConnectionError):
     """What keeps a command from its work."""
 
 
-def nobody_listens(port: int) -> str:
+def nobody_listens(port: int, host: str = HOST) -> str:
+    if host != HOST:
+        return f"nobody listens at port {port} of {host}: name the port and the host of a collector that runs"
     return (
-        f"nobody listens at port {port}: start a collector there by `itc_trace serve --port {port} TENANT`, "
+        f"nobody listens at port {port}: start a collector there by `itc-trace serve --port {port} TENANT`, "
         "or name the port of one that runs"
     )
 
@@ -52,7 +54,8 @@ def _advice(code: int, tenant: str, port: int) -> str:
             f"`python3 -m itc_trace relay --listen PORT --port {port}`, or wait for its end"
         )
     if code == NO_TENANT:
-        return f"the collector at port {port} has no tenant {tenant}: name one of its own by --tenant"
+        advice = "name one of its own, which `run` takes by --tenant"
+        return f"the collector at port {port} has no tenant {tenant}: {advice}"
     if code == NO_PLACE:
         return f"the collector at port {port} has no room for another session: start it with more --workers"
     if code == TASK_EXISTS:
@@ -89,7 +92,7 @@ def _reached(port: int, host: str) -> Iterator[None]:
     try:
         yield
     except ConnectionRefusedError as refused:
-        raise Fault(nobody_listens(port)) from refused
+        raise Fault(nobody_listens(port, host)) from refused
     except (socket.gaierror, UnicodeError) as unknown:  # The second is of a name that is too long.
         raise Fault(f"there is no host {host}: name one by --host, or its address") from unknown
     except TimeoutError as late:
