@@ -104,6 +104,8 @@ export async function firstRace(tab) {
   const isWhole = () => page.view.isWhole && page.view.chosen === 0;
   await opened(tab, path("none", [head(0)]));
   assert.deepEqual([await text(tab, "#title"), await text(tab, "#races h2"), await tab.run(isWhole)], ["No race in this run of shop.py", "No race in this run", true]);
+  await opened(tab, path("known", [{ ...head(0), known: 3, silenced: 1 }]));
+  assert.deepEqual([await text(tab, "#title"), await text(tab, "#leftOut")], ["No new race in this run of shop.py", "3 in the baseline, 1 silenced"]);
   await opened(tab, path("unseen", [head(0, ["the program was killed"])]));
   assert.deepEqual([await text(tab, "#title"), await text(tab, "#races .unseen"), await tab.run(isWhole)],
     ["Incomplete, no race seen of shop.py", "Not all was seen: the program was killed", true]);

@@ -43,10 +43,12 @@ const wordOfRaces = (races) => races.every(({ isDeadlock }) => !isDeadlock) ? "r
 
 const capital = (words) => `${words.slice(0, 1).toUpperCase()}${words.slice(1)}`;
 
-/** What the first line of a list of races says of all of it, or null: how many there are, and why more may not have been seen. */
+/** What the first line of a list of races says of all of it, or null: how many are left out, as a baseline has them or as they
+ * are meant, and why more may not have been seen. */
 function headOfRaces(row) {
   if (row === null || !Number.isInteger(row.races) || !Number.isInteger(row.possible) || !Array.isArray(row.unseen)) return null;
-  return { unseen: row.unseen.filter((why) => typeof why === "string").map(named) };
+  const countOf = (count) => Number.isInteger(count) && count > 0 ? count : 0;
+  return { unseen: row.unseen.filter((why) => typeof why === "string").map(named), known: countOf(row.known), silenced: countOf(row.silenced) };
 }
 
 /** Whether the side tells of a lock: what it holds or wants stands in its kind. */

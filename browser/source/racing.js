@@ -77,7 +77,8 @@ const Racing = (Base) => class extends Base {
       return count > 0 ? [counted(count, name)] : [];
     })).join(", ");
     if (counts !== "" || head === null) return counts;
-    return head.unseen.length > 0 ? "Incomplete, no race seen" : "No race in this run";
+    const no = head.known > 0 ? "new race" : "race";
+    return head.unseen.length > 0 ? `Incomplete, no ${no} seen` : `No ${no} in this run`;
   }
 
   describeRaces() {
@@ -88,6 +89,8 @@ const Racing = (Base) => class extends Base {
     if (section.hidden) return;
     section.append(element("h2", {}, title));
     for (const why of head?.unseen ?? []) section.append(element("p", { className: "unseen" }, `Not all was seen: ${why}`));
+    const leftOut = [[head?.known, "in the baseline"], [head?.silenced, "silenced"]].filter(([count]) => count > 0);
+    if (leftOut.length > 0) section.append(element("p", { className: "quiet", id: "leftOut" }, leftOut.map(([count, words]) => `${count} ${words}`).join(", ")));
     if (races.length === 0) return;
     const turn = (id, words, key) => element("button", { type: "button", id, title: `${words} (${key})` }, words);
     section.append(element("div", { id: "turn" }, turn("raceBefore", "‹ Previous", "p"), element("span", { id: "turned" }), turn("raceBehind", "Next ›", "n")));

@@ -51,7 +51,7 @@ class Baselines(unittest.TestCase):
                 shop.write_text(text)
                 again = self.run_here("--baseline", "known.json", "--write-baseline", "again.json")
                 self.assertEqual(again.returncode, 0, again.stderr)
-                self.assertIn("no race in this run; 1 in the baseline: ", again.stderr)
+                self.assertIn("no new race in this run; 1 in the baseline: ", again.stderr)
                 self.assertEqual((self.folder / "again.json").read_text(), kept)
         shop.write_text(SELLING.replace(SELLS, SELLS + '    stock["sold"] += 1\n'))
         fresh = self.run_here("--baseline", "known.json")

@@ -97,6 +97,17 @@ class Pictures(unittest.TestCase):
         self.assertEqual(carried(self.page, "carriedRaces"), [{"races": 0, "possible": 0, "unseen": []}])
         self.assertEqual(carried(self.page, "carriedAbout"), [{"program": "shop.py"}])
 
+    def test_races_of_a_baseline_are_counted_and_the_page_is_named(self) -> None:
+        program, known = self.program(RACING), str(self.folder / "known.json")
+        run_traced("--write-baseline", known, program)
+        count = len(json.loads(Path(known).read_text())["races"])
+        ran = run_traced("--baseline", known, "--picture", str(self.page), program)
+        self.assertEqual(ran.returncode, Verdict.NO_RACE, ran.stderr)
+        self.assertEqual(carried(self.page, "carriedRaces"), [{"races": 0, "possible": 0, "unseen": [], "known": count}])
+        *_, named, last = ran.stderr.splitlines()
+        self.assertEqual(named, f"itc_trace: the picture is file://{self.page}")
+        self.assertRegex(last, f"^itc_trace: no new race in this run; {count} in the baseline: ")
+
     def test_a_run_in_parts_has_one_page_with_all_of_them(self) -> None:
         ran = run_traced("--part-events", "300", "--export", str(self.export), "--picture", str(self.page), self.program(LONG))
         self.assertEqual(ran.returncode, Verdict.RACES, ran.stderr)

@@ -83,7 +83,7 @@ class Summaries(unittest.TestCase):
         for words in ((), ("-n", "2")):
             ran = self.run_tests("--tb=no", "--races-baseline", "known.json", *words)
             self.assertIn("1 failed, 3 passed", ran.stdout)
-            self.assertIn("1 race: test_shop.py::test_counts\nitc_trace: 1 race in 4 tests; 1 in the baseline", self.section(ran.stdout))
+            self.assertIn("1 race: test_shop.py::test_counts\nitc_trace: 1 new race in 4 tests; 1 in the baseline", self.section(ran.stdout))
         ran = self.run_tests("--tb=no", "--races-baseline", "known.json", "-k", "quiet")
         self.assertEqual(ran.returncode, 0, ran.stdout)
         self.assertIn(f"itc_trace: of the baseline did not occur: {kept[0]['id']} (stock['left'])\n", self.section(ran.stdout))

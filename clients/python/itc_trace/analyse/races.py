@@ -152,7 +152,7 @@ class Races:
 
     def found(self) -> str:
         """How many races there are, in few words."""
-        found = "no race" if not self.races else _counted(len(self.races), "race")
+        found = told_races(len(self.races), bool(self.known))
         where = "in what was seen" if self.unseen else "in this run"
         return f"{found} {where}" + (f"; {len(self.possible)} possible" if self.possible else "") + told_deadlocks(
             len(self.deadlocks), len(self.possible_deadlocks)) + (
@@ -167,6 +167,12 @@ class Races:
 
     def text(self) -> str:
         return "\n".join([*map(str, self.found_ones), self.summary()])
+
+
+def told_races(count: int, is_beside_known: bool) -> str:
+    """How many races there are. Beside those of a baseline only new ones are counted."""
+    word = "new race" if is_beside_known else "race"
+    return f"no {word}" if count == 0 else _counted(count, word)
 
 
 def told_deadlocks(count: int, possible: int) -> str:

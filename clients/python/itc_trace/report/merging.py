@@ -7,7 +7,7 @@ from dataclasses import dataclass, field, replace
 
 from ..analyse.benign import Looking
 from ..analyse.deadlocks import Deadlock
-from ..analyse.races import Race, Races, told_deadlocks
+from ..analyse.races import Race, Races, told_deadlocks, told_races
 from ..model.finding import Finding, Seen, runs_in_words
 from ..model.sources import Sources
 from ..model.verdict import Left, PassedOver, Unseen, Verdict, listed, verdict_of
@@ -120,8 +120,7 @@ class Merged:
         )
 
     def _summary(self) -> str:
-        count = len(self._races)
-        found = "no race" if count == 0 else "1 race" if count == 1 else f"{count} races"
+        found = told_races(len(self._races), bool(self._known))
         possible = f"; {len(self._only_possible)} possible" if self._only_possible else ""
         seen = "what was seen of " if self.unseen else ""
         deadlocks = told_deadlocks(len(self._deadlocks), len(self._only_possible_deadlocks))

@@ -6,7 +6,7 @@ from collections import Counter
 from collections.abc import Iterable, Iterator
 from dataclasses import dataclass, field, replace
 
-from ..analyse.races import told_deadlocks
+from ..analyse.races import told_deadlocks, told_races
 from ..model.finding import DEADLOCK, POSSIBLE_DEADLOCK, POSSIBLE_RACE, RACE, Finding, Known
 from ..model.readable import readable
 from ..model.verdict import Cause, PassedOver, Unseen, Verdict, listed, verdict_of
@@ -66,8 +66,7 @@ class OfTests:
         self, findings: list[Finding], silenced: int, known: int, is_cut: bool, passed_over: list[PassedOver],
     ) -> str:
         kinds = Counter(finding.kind for finding in findings)
-        races = kinds[RACE]
-        found = "no race" if races == 0 else "1 race" if races == 1 else f"{races} races"
+        found = told_races(kinds[RACE], known > 0)
         tests = "1 test" if len(self.reports) == 1 else f"{len(self.reports)} tests"
         seen = "what was seen of " if is_cut else ""
         possible = f"; {kinds[POSSIBLE_RACE]} possible" if kinds[POSSIBLE_RACE] else ""

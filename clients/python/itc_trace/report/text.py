@@ -43,6 +43,8 @@ def _lines(report: Report, shown: Shown, style: Style) -> Iterator[str]:
     if len(causes) > MOST_WITHOUT_SUMMARY:
         before.append(f"itc_trace: {readable(_summary(causes))}")
     behind = [f"itc_trace: {readable(hint)}" for hint in report.hints]
+    if report.picture is not None and not causes:
+        behind.append(f"itc_trace: the picture is {_address(report.picture)}")
     behind.append(f"itc_trace: {style.summary(readable(report.summary), report.verdict is Verdict.NO_RACE)}")
     listing = _Listing(report, shown, style)
     yield from before
@@ -121,4 +123,8 @@ def link(finding: Finding, picture: str) -> str:
     first, second = finding.sides[0], finding.sides[-1]
     part = f"part={second.part}&" if second.part > 1 else ""
     events = f"event={first.event}&other={second.event}" if first.part == second.part else f"event={second.event}"
-    return f"file://{uri_of(os.path.abspath(picture))}#{part}{events}"
+    return f"{_address(picture)}#{part}{events}"
+
+
+def _address(file: str) -> str:
+    return f"file://{uri_of(os.path.abspath(file))}"
