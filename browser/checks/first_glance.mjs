@@ -115,19 +115,22 @@ export async function firstRace(tab) {
 
 const SIZES = [[1280, 800], [900, 600]];
 
-/** The lines of edges that go through the mark of a chosen event and end at another one: each as where it begins and ends. */
-function edgesOverTheRace() {
-  const { view } = page, { layout, context } = view, lines = [];
-  let last = null;
+/** The lines of edges that go through the mark of a chosen event and end at another one, each as where it begins and ends; and those of
+ * reasons from lane to lane that are no lines of edges. */
+function linesOverTheRace() {
+  const { view } = page, { layout, context } = view, lines = [], reasons = [];
+  let last = null, into = lines;
   context.moveTo = (...place) => {
     last = place;
   };
   context.lineTo = (...place) => {
-    lines.push([last, place]);
+    into.push([last, place]);
     last = place;
   };
   view.findRange();
   view.drawEdges();
+  into = reasons;
+  view.drawChains();
   delete context.moveTo;
   delete context.lineTo;
   const distance = ([x, y], [[fromX, fromY], [toX, toY]]) => {
@@ -136,7 +139,9 @@ function edgesOverTheRace() {
   };
   const places = [view.chosen, view.other].map((event) => [view.x(layout.times[event]), view.y(layout.lane(event))]);
   const isEnd = ([x, y], line) => line.some(([endX, endY]) => Math.hypot(endX - x, endY - y) < view.radius + 3);
-  return lines.filter((line) => places.some((place) => distance(place, line) < view.radius && !isEnd(place, line)));
+  const edges = new Set(lines.map((line) => JSON.stringify(line))), isBetweenLanes = ([[, fromY], [, toY]]) => fromY !== toY;
+  return [...lines.filter((line) => places.some((place) => distance(place, line) < view.radius && !isEnd(place, line))),
+    ...reasons.filter((line) => isBetweenLanes(line) && !edges.has(JSON.stringify(line)))];
 }
 
 /** Neither the map nor the line that tells how to move lies over an event of the race, whatever the size of the window. */
@@ -148,13 +153,16 @@ export async function uncovered(tab, phone) {
     await opened(tab, drawn);
     assert.deepEqual(await tab.run(inView), { all: true, isNear: true, folds: [], race: true, own: true });
     assert.deepEqual(await tab.run(() => ["map", "hint"].map((id) => document.getElementById(id).hidden)), [false, false]);
-    assert.deepEqual(await tab.run(edgesOverTheRace), [], `an edge goes through a mark of the race at ${width} by ${height}`);
+    assert.deepEqual(await tab.run(linesOverTheRace), [], `an edge goes through a mark of the race at ${width} by ${height}`);
     for (const event of await tab.run(() => [page.view.chosen, page.view.other])) {
       const over = await tab.run((x, y) => document.elementFromPoint(x, y)?.closest("#map, #hint, #legend")?.id ?? "", ...await placeOf(tab, event));
       assert.equal(over, "", `event ${event} at ${width} by ${height}`);
     }
   }
   await tab.send("Emulation.setDeviceMetricsOverride", { width: SIZES[0][0], height: SIZES[0][1], deviceScaleFactor: 1, mobile: false });
+  const tally = join(TOP, "browser/checks/stored/tally");
+  await opened(tab, pictureOf("uncovered_parts.html", "", ["--parts", tally, "--races", `${tally}.races`]));
+  assert.deepEqual(await tab.run(linesOverTheRace), [], "a reason goes another way than its edges");
   await opened(phone, drawn);
   const [hint, cut] = await phone.run(() => {
     const { scrollHeight, clientHeight } = document.getElementById("legend");

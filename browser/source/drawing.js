@@ -113,10 +113,15 @@ const Drawing = (Base) => class extends Base {
     context.lineTo(this.x(layout.edgeTo[edge]), this.y(layout.edgeToLane[edge]));
   }
 
-  /** Where an edge goes around a chosen event that is neither of its own, or null: through its mark, it would look like an edge of it. */
   bendOf(edge) {
-    const { layout } = this, fromLane = layout.edgeFromLane[edge], toLane = layout.edgeToLane[edge];
-    const fromX = this.x(layout.edgeFrom[edge]), toX = this.x(layout.edgeTo[edge]), aside = this.radius + ROOM_OF_RING;
+    const { layout } = this;
+    return this.bendBetween([layout.edgeFrom[edge], layout.edgeFromLane[edge]], [layout.edgeTo[edge], layout.edgeToLane[edge]]);
+  }
+
+  /** Where a line from a time in a lane to another one goes around a chosen event between the lanes, or null: through its mark, it would
+   * look like an edge of it. */
+  bendBetween([fromTime, fromLane], [toTime, toLane]) {
+    const { layout } = this, fromX = this.x(fromTime), toX = this.x(toTime), aside = this.radius + ROOM_OF_RING;
     for (const event of [this.chosen, this.other]) {
       const lane = event === 0 ? -1 : layout.lane(event);
       if (lane <= Math.min(fromLane, toLane) || lane >= Math.max(fromLane, toLane)) continue;
@@ -235,9 +240,12 @@ const Drawing = (Base) => class extends Base {
       let from = first;
       context.moveTo(this.x(layout.times[first]), this.y(layout.lane(first)));
       for (const event of rest) {
-        const y = this.y(layout.lane(event));
-        if (tasks[taskOf[event]].started === from) context.lineTo(this.x(layout.from[taskOf[event]]), y);
-        context.lineTo(this.x(layout.times[event]), y);
+        const lane = layout.lane(event), isStart = tasks[taskOf[event]].started === from;
+        const to = isStart ? layout.from[taskOf[event]] : layout.times[event];
+        const bend = this.isNear ? this.bendBetween([layout.times[from], layout.lane(from)], [to, lane]) : null;
+        if (bend !== null) context.lineTo(...bend);
+        context.lineTo(this.x(to), this.y(lane));
+        if (isStart) context.lineTo(this.x(layout.times[event]), this.y(lane));
         from = event;
       }
     }
