@@ -227,7 +227,8 @@ def _tenants(typed: Typed) -> str:
     exported = typed.options.get("--export")
     if exported is not None and exported not in typed.tenants:
         named = ", ".join(typed.tenants)
-        return f"--export names {exported or 'nothing'}, which is none of the tenants {named}: it is a tenant's name, no file's"
+        what = exported or "nothing"
+        return f"--export names {what}, which is none of the tenants {named}: it is a tenant's name, no file's"
     return "the names of the tenants are not accepted"
 
 

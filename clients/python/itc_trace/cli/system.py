@@ -452,6 +452,8 @@ def run_system(
             races = races_seen(system.tenant, collectors.port, lines, HOST, looking, Bar(sys.stderr))
             races.unseen = [*running.unseen, *races.unseen]
             picture = _keep(system, collectors.port, lines, folder, races)
+        if not any(described.is_traced for described in system.processes):
+            say("itc_trace: no process is traced, so no race was looked for: leave out traced = false")
         report, wanted = report_of(races, looking, fail_on_possible, picture), wanted or Wanted()
         say(text(report, wanted.shown, style_of(sys.stderr)) + own_status(report.verdict, running.status))
         step = next_step(report, wanted, system.export, False)
