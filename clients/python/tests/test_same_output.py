@@ -166,7 +166,7 @@ print("collected")
 IN_C = " in C"
 PROGRAMS = {
     **{f"expression{number}": of_expression(line) for number, line in enumerate(EXPRESSIONS.strip().splitlines())},
-    **of_file("same.txt"), **of_file("forms.txt"), **of_file("kinds.txt"),
+    **of_file("same.txt"), **of_file("forms.txt"), **of_file("kinds.txt"), **of_file("more.txt"),
 }
 
 

@@ -190,9 +190,13 @@ class Rewriter:
 
     def _hook(self, name: str, node: ast.AST, *words: Any) -> ast.Call:
         self._hooks += 1
+        if self._scope.kind is CLASS:
+            self._scope.hooks.add(PREFIX + name)
         return call_of(PREFIX + name, words, node)
 
     def _is_on(self, node: ast.AST) -> ast.Name:
+        if self._scope.kind is CLASS:
+            self._scope.hooks.add(ON)
         return name_at(node, ON)
 
     def _choice(self, hooked: ast.expr, node: Any) -> ast.expr:
@@ -622,7 +626,15 @@ class Rewriter:
             node.body = self._statements(node.body)
 
         self._in_scope(node, work)
+        self._keep_from_namespace(node)
         return [node, *self._stored([node.name], node)]
+
+    def _keep_from_namespace(self, node: ast.ClassDef) -> None:
+        """Has the body of a class look for its hooks behind its namespace, which may be one of the program's own."""
+        hooks = node.scope.hooks  # type: ignore[attr-defined]
+        if hooks:
+            place = 0 if ast.get_docstring(node, clean=False) is None else 1
+            node.body.insert(place, at(node.body[place - 1], ast.Global(sorted(hooks))))
 
     def _do_If(self, node: Any) -> list[ast.stmt]:
         node.test = self._guarded(node.test, self._truth)
@@ -644,6 +656,8 @@ class Rewriter:
             return None
         site = self._site(iterated, "whole", KEYS, "", self._text(self._gone_through_by(iterated)))
         self._learned.loops.append((site, whole.lineno, whole.end_lineno or whole.lineno))
+        if self._scope.kind is CLASS:
+            self._scope.hooks.add(LOOPS)
         loops = name_at(place, LOOPS)
         is_one = at(place, ast.Compare(at(place, ast.Constant(site)), [ast.In()], [loops]))
 

@@ -60,6 +60,8 @@ class Scope:
         self.made = ""
         """The variable of a constructor that has the object that is made."""
         self.constructor = 0
+        self.hooks: set[str] = set()
+        """Names of the hooks that stand in the body of a class."""
         self.defined: set[str] = set()
         """Names of functions and classes that are defined there."""
         self.imported: dict[str, str] = {}
