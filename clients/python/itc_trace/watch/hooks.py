@@ -7,6 +7,7 @@ one variable of a function refers to is shared with nobody, and is not noted.
 from __future__ import annotations
 
 import builtins
+import functools
 import gc
 import importlib.util
 import itertools
@@ -27,7 +28,7 @@ from sys import _getframe, getrefcount
 from typing import Any
 
 from ..model.conflicts import ADDITION, ITERATION, KEYS, LENGTH, REMOVAL, REPLACEMENT, REWRITE, STEP, WRITE
-from ..sync.handed_on import HANDED, Calling, is_of_container
+from ..sync.handed_on import HANDED, Calling, Place, called, is_of_container
 from ..model.lines import state
 from ..record.noting import begin_stretch, lost, touched_all
 from ..model.stretches import STRETCHES
@@ -1238,6 +1239,8 @@ def hook_after_call(_: Any, given: Any) -> Any:
 
 
 _HANDED = ids_of(HANDED)
+_calling: Callable[[Any, Place], Any] = Calling if quick is None else quick.Calling
+"""That in C has no frame, which the function would see as its caller's."""
 
 
 def hook_before_call(function: Any) -> Any:
@@ -1245,7 +1248,7 @@ def hook_before_call(function: Any) -> Any:
     if id(type(function)) not in _HANDED or not is_of_container(function):
         return function
     frame = _getframe(1)
-    return Calling(function, (frame.f_code, frame.f_lasti))
+    return _calling(function, (frame.f_code, frame.f_lasti))
 
 
 hook_before_call_local = hook_before_call
@@ -1256,7 +1259,7 @@ def hook_before_named_call(one: Any, function: Any) -> Any:
     if id(type(function)) not in _HANDED or not is_of_container(function) or getattr(function, "__self__", None) is one:
         return function
     frame = _getframe(1)
-    return Calling(function, (frame.f_code, frame.f_lasti))
+    return _calling(function, (frame.f_code, frame.f_lasti))
 
 
 def hook_before_argument(value: Any, one: Any, site: int) -> Any:
@@ -1447,7 +1450,7 @@ def _set_up() -> None:
         steps=lambda one, site, is_own: _stepping(one, site, NOBODY if is_own else ANYBODY),
         keyed=lambda one, key, site: _touch_keyed(one, key, site, ANYBODY), variable=lambda site: _touch_variable(site),
         cell=lambda one, site: _touch_cell(one, site), went_on=lambda owner, site: _went_on(owner, site),
-        iter=iter,
+        iter=iter, called=called, partial=functools.partial,
     )
 
 

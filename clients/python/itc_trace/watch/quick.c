@@ -42,12 +42,30 @@ static struct {
     PyObject *note_shared;
     PyObject *what_of;        /* What a place is to a type. */
     PyObject *lost;           /* What is told of a touch that could not be noted. */
+    PyObject *called;         /* A method that was handed on is about to be called. */
+    PyObject *partial;        /* The class of the library. */
     PyObject *fields_of;      /* Whose fields some dictionaries have. */
     PyObject *followed;       /* Types whose objects need not be held: they may be seen to go. */
     /* What is done for the rest. */
     PyObject *field, *whole, *nested, *method, *steps, *keyed, *variable, *cell, *went_on;
     long long begun_more;     /* How many references more the beginning of a constructor counts. */
 } given;
+
+/* A debugger or a profiler of the program follows its thread, and does not see what a hook calls. */
+
+static inline int turn_from_followers(PyThreadState *thread)
+{
+    int is_followed = thread->c_tracefunc != NULL || thread->c_profilefunc != NULL;
+    if (is_followed)
+        PyThreadState_EnterTracing(thread);
+    return is_followed;
+}
+
+static inline void turn_to_followers(PyThreadState *thread, int was_followed)
+{
+    if (was_followed)
+        PyThreadState_LeaveTracing(thread);
+}
 
 static PyObject *text_note, *text_line, *text_leave, *text_constructor, *no_words;
 
@@ -298,12 +316,15 @@ static Owner *take_owner(void *one)
 /* It is called when its object is gone. */
 static PyObject *owner_called(Owner *self, PyObject *words, PyObject *named)
 {
+    PyThreadState *thread = PyThreadState_Get();
+    int is_followed = turn_from_followers(thread);
     Py_INCREF(self);
     if (self->one != NULL && find_owner(self->one) == self)
         Py_XDECREF(take_owner(self->one));
     self->one = NULL;
     int result = leave_owner(self);
     Py_DECREF(self);
+    turn_to_followers(thread, is_followed);
     return result < 0 ? NULL : Py_NewRef(Py_None);
 }
 
@@ -1135,9 +1156,11 @@ static PyObject *touch_keyed(PyObject *one, PyObject *key, PyObject *site, Py_ss
     {                                                                                             \
         WORDS(wanted)                                                                             \
         PyThreadState *thread = PyThreadState_Get();                                              \
+        int is_followed = turn_from_followers(thread);                                            \
         GIVE_ROOM(thread, ROOM);                                                                  \
         PyObject *back = result;                                                                  \
         GIVE_ROOM(thread, -ROOM);                                                                 \
+        turn_to_followers(thread, is_followed);                                                   \
         return back;                                                                              \
     }
 
@@ -1325,7 +1348,10 @@ static int step_on(Step *self)
 
 static PyObject *step_next(Step *self)
 {
+    PyThreadState *thread = PyThreadState_Get();
+    int is_followed = turn_from_followers(thread);
     PyObject *looked = end_hook(Py_None, is_seen(self->owner, self->site) ? 0 : step_on(self));
+    turn_to_followers(thread, is_followed);
     if (looked == NULL)
         return NULL;
     Py_DECREF(looked);
@@ -1422,10 +1448,12 @@ static PyObject *hook_called(PyObject *self, PyObject *const *words, size_t coun
 {
     Hook *hook = (Hook *)self;
     PyThreadState *thread = PyThreadState_Get();
+    int is_followed = turn_from_followers(thread);
     GIVE_ROOM(thread, ROOM);
     PyObject *result = hook->quick != NULL && named == NULL ? hook->quick(NULL, words, PyVectorcall_NARGS(count))
         : PyObject_Vectorcall(hook->function, words, count, named);
     GIVE_ROOM(thread, -ROOM);
+    turn_to_followers(thread, is_followed);
     return result;
 }
 
@@ -1461,6 +1489,84 @@ static PyTypeObject HookType = {
     .tp_dealloc = (destructor)hook_dealloc,
 };
 
+/* Stands for a method of a container while a function of the library calls it. As it has no frame, what it calls is
+   called by the program. Who copies it, or sends it to another process, does so with the function alone. */
+
+typedef struct {
+    PyObject_HEAD
+    PyObject *function, *place;
+} Calling;
+
+static PyObject *calling_called(Calling *self, PyObject *words, PyObject *named)
+{
+    PyThreadState *thread = PyThreadState_Get();
+    int is_followed = turn_from_followers(thread);
+    GIVE_ROOM(thread, ROOM);
+    PyObject *noted = PyObject_CallFunctionObjArgs(given.called, self->function, words, self->place, NULL);
+    GIVE_ROOM(thread, -ROOM);
+    turn_to_followers(thread, is_followed);
+    if (noted == NULL)
+        return NULL;
+    Py_DECREF(noted);
+    return PyObject_Call(self->function, words, named);
+}
+
+static PyObject *calling_reduce(Calling *self, PyObject *ignored)
+{
+    return Py_BuildValue("O(O)", given.partial, self->function);
+}
+
+static PyMethodDef calling_methods[] = {
+    {"__reduce__", (PyCFunction)calling_reduce, METH_NOARGS, NULL},
+    {NULL},
+};
+
+static PyObject *calling_new(PyTypeObject *type, PyObject *words, PyObject *named)
+{
+    PyObject *function, *place;
+    if (named != NULL || !PyArg_ParseTuple(words, "OO", &function, &place))
+        return NULL;
+    Calling *calling = (Calling *)type->tp_alloc(type, 0);
+    if (calling == NULL)
+        return NULL;
+    calling->function = Py_NewRef(function);
+    calling->place = Py_NewRef(place);
+    return (PyObject *)calling;
+}
+
+static int calling_traverse(Calling *self, visitproc visit, void *arg)
+{
+    Py_VISIT(self->function);
+    return 0;
+}
+
+static int calling_clear(Calling *self)
+{
+    Py_CLEAR(self->function);
+    Py_CLEAR(self->place);
+    return 0;
+}
+
+static void calling_dealloc(Calling *self)
+{
+    PyObject_GC_UnTrack(self);
+    calling_clear(self);
+    Py_TYPE(self)->tp_free((PyObject *)self);
+}
+
+static PyTypeObject CallingType = {
+    PyVarObject_HEAD_INIT(NULL, 0)
+    .tp_name = "itc_trace.watch.quick.Calling",
+    .tp_basicsize = sizeof(Calling),
+    .tp_flags = Py_TPFLAGS_DEFAULT | Py_TPFLAGS_HAVE_GC,
+    .tp_call = (ternaryfunc)calling_called,
+    .tp_methods = calling_methods,
+    .tp_new = calling_new,
+    .tp_traverse = (traverseproc)calling_traverse,
+    .tp_clear = (inquiry)calling_clear,
+    .tp_dealloc = (destructor)calling_dealloc,
+};
+
 /* Beginning */
 
 static PyObject *setup(PyObject *self, PyObject *words, PyObject *named)
@@ -1468,14 +1574,14 @@ static PyObject *setup(PyObject *self, PyObject *words, PyObject *named)
     static char *names[] = {
         "stretches", "state", "made", "begun", "begun_more", "never", "owner_type", "made_type", "maker",
         "begin_stretch", "share", "shorten", "saw", "note_shared", "what_of", "lost", "fields_of", "followed", "field",
-        "whole", "nested", "method", "steps", "keyed", "variable", "cell", "went_on", "iter", NULL,
+        "whole", "nested", "method", "steps", "keyed", "variable", "cell", "went_on", "iter", "called", "partial", NULL,
     };
     PyObject **objects[] = {
         &given.stretches, &given.state, &given.made, &given.begun, NULL, &given.never, &given.owner_type,
         &given.made_type, &given.maker, &given.begin_stretch, &given.share, &given.shorten, &given.saw,
         &given.note_shared, &given.what_of, &given.lost, &given.fields_of, &given.followed, &given.field, &given.whole,
         &given.nested, &given.method, &given.steps, &given.keyed, &given.variable, &given.cell, &given.went_on,
-        &given.iter,
+        &given.iter, &given.called, &given.partial,
     };
     for (size_t place = 0; names[place] != NULL; place++) {
         PyObject *found = named == NULL ? NULL : PyDict_GetItemString(named, names[place]);
@@ -1545,7 +1651,8 @@ static int fill_module(PyObject *made)
         return -1;
     if (add_type(made, "Seen", &SeenType) < 0 || add_type(made, "OwnerFields", &OwnerType) < 0
         || add_type(made, "Owners", &OwnersType) < 0
-        || add_type(made, "Step", &StepType) < 0 || add_type(made, "Hook", &HookType) < 0)
+        || add_type(made, "Step", &StepType) < 0 || add_type(made, "Hook", &HookType) < 0
+        || add_type(made, "Calling", &CallingType) < 0)
         return -1;
     PyObject *owners = PyObject_New(PyObject, &OwnersType);
     int result = owners == NULL ? -1 : PyModule_AddObjectRef(made, "OWNERS", owners);

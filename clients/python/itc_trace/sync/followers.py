@@ -1,0 +1,106 @@
+"""A debugger or a profiler of the program follows its threads by a function, which sees no frame of the package.
+
+What is written in C follows by itself: it sees those that stand for the library's functions, and calls of hooks.
+"""
+
+from __future__ import annotations
+
+import os
+import sys
+from collections.abc import Callable
+from types import FrameType
+from typing import Any
+
+from .base import STAND_INS, Patches
+
+PACKAGE = os.path.dirname(os.path.dirname(os.path.abspath(__file__))) + os.sep
+ASIDE = tuple(os.path.join(PACKAGE, folder, "") for folder in ("watch", "record", "model"))
+"""What is in these folders calls nothing of the program."""
+DEEPEST = 8
+"""So many frames of the library there are below one of these, at most."""
+HOOKS = f"{__package__.partition('.')[0]}.watch.quick"
+"""The module of the hooks in C."""
+OF_FUNCTION = "c_"
+"""The events of a function in C begin so."""
+
+Follow = Callable[[FrameType, str, Any], Any]
+
+
+def put(patches: Patches) -> None:
+    for name in ("settrace", "_settraceallthreads"):
+        _put_one(patches, name, _without_frames(Tracing))
+    for name in ("setprofile", "_setprofileallthreads"):
+        _put_one(patches, name, _without_frames(Profiling))
+    for name in ("gettrace", "getprofile"):
+        _put_one(patches, name, _as_given)
+
+
+def _put_one(patches: Patches, name: str, make: Callable[[Any], Any]) -> None:
+    if hasattr(sys, name):
+        patches.wrap(sys, name, make)
+
+
+class Follower:
+    """Stands for a function of the program that follows a thread."""
+
+    __slots__ = ("function",)
+
+    def __init__(self, function: Follow) -> None:
+        self.function = function
+
+
+class Tracing(Follower):
+    """Follows each line. A frame of which the function is not told is not followed."""
+
+    __slots__ = ()
+
+    def __call__(self, frame: FrameType, event: str, argument: Any) -> Any:
+        code = frame.f_code
+        if code.co_filename.startswith(PACKAGE) or id(code) in STAND_INS or _is_aside(frame):
+            return None
+        return self.function(frame, event, argument)
+
+
+class Profiling(Follower):
+    """Follows calls. What stands for a function of the library stays, as what it calls is followed, too."""
+
+    __slots__ = ()
+
+    def __call__(self, frame: FrameType, event: str, argument: Any) -> None:
+        is_of_c = event.startswith(OF_FUNCTION)
+        is_seen = not is_of_c or getattr(argument, "__module__", None) != HOOKS
+        if frame.f_code.co_filename == __file__:  # It is the call by which following begins or ends.
+            is_seen = is_of_c
+            frame = frame.f_back or frame
+        if is_seen and not _is_aside(frame):
+            self.function(frame, event, argument)
+
+
+def _is_aside(frame: FrameType) -> bool:
+    """Whether it is what a hook does, or a note: code of the package, or of the library below that."""
+    one: FrameType | None = frame
+    for _ in range(DEEPEST):
+        if one is None:
+            return False
+        if one.f_code.co_filename.startswith(ASIDE):
+            return True
+        one = one.f_back
+    return False
+
+
+def _without_frames(kind: type[Follower]) -> Callable[[Any], Any]:
+    def make(original: Any) -> Any:
+        def follow(function: Any, /) -> None:
+            original(function if function is None else kind(function))
+
+        return follow
+
+    return make
+
+
+def _as_given(original: Any) -> Any:
+    def following() -> Any:
+        found = original()
+        return found.function if isinstance(found, Follower) else found
+
+    return following
