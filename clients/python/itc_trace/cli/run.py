@@ -13,6 +13,7 @@ import subprocess
 import sys
 import tempfile
 import time
+import warnings
 from collections.abc import Collection, Iterable, Iterator
 from dataclasses import dataclass, field, replace
 from pathlib import Path
@@ -177,7 +178,9 @@ def _check_syntax(program: str) -> None:
     if source.startswith(b"PK"):
         return  # An archive with a program in it.
     try:
-        compile(source, program, "exec", dont_inherit=True)
+        with warnings.catch_warnings():
+            warnings.simplefilter("ignore")  # The program's own run gives them.
+            compile(source, program, "exec", dont_inherit=True)
     except SyntaxError as error:
         if error.msg.startswith(NOT_UTF_8):
             told = "it is no text in UTF-8, and names no other encoding"
