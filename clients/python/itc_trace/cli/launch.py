@@ -15,7 +15,7 @@ import sys
 import types
 from collections.abc import Callable
 from functools import partial
-from importlib.machinery import SourceFileLoader
+from importlib.machinery import BuiltinImporter, SourceFileLoader
 from pathlib import Path
 from typing import NoReturn
 
@@ -35,7 +35,6 @@ from ..record.tracer_parts import Parts
 from ..api.tracing import Tracing
 from .traced_process import Ending, ended_by
 
-OWN_FILES = (__file__, runpy.__file__, "<frozen runpy>")
 REFUSED, RAISED = "refused", "raised"
 """What `run` is told of a program that did not run to its end."""
 INTERRUPTED = 128 + signal.SIGINT
@@ -115,15 +114,37 @@ class _NotRun(Exception):
 
 def _run_module(words: list[str]) -> None:
     name = words[1]
-    sys.argv = words[1:]
-    sys.path[0] = os.getcwd()
-    leave_to_program(sys.path[0])
+    sys.argv = ["-m", *words[2:]]  # As the language does it, until the module is found.
+    _begin_main()
+    _look_first_in(os.getcwd())
     try:
-        runpy.run_module(name, run_name="__main__", alter_sys=True)
-    except ImportError as error:
-        if _own_trace(error) is None:  # Raised by runpy, and not by the module.
-            raise _NotRun(f"there is no module {name} to run: {error}") from error
+        runpy._run_module_as_main(name)  # type: ignore[attr-defined]
+    except SystemExit as asked:
+        if _is_of_runpy(asked):
+            raise _NotRun(f"there is no module {name} to run: {asked.__context__}") from asked
         raise
+
+
+def _is_of_runpy(error: BaseException) -> bool:
+    """Whether `runpy` itself has raised it, and not the module."""
+    trace = error.__traceback__
+    while trace is not None and trace.tb_next is not None:
+        trace = trace.tb_next
+    return trace is not None and trace.tb_frame.f_code.co_filename == runpy.run_module.__code__.co_filename
+
+
+def _begin_main() -> types.ModuleType:
+    """The module that the program's code becomes, as it is before any of that ran."""
+    module = sys.modules["__main__"] = types.ModuleType("__main__")
+    module.__dict__.update(__builtins__=builtins, __annotations__={}, __loader__=BuiltinImporter)
+    return module
+
+
+def _look_first_in(folder: str) -> None:
+    """Has modules looked for in this folder first, unless the interpreter was asked for none by `-P`."""
+    if not sys.flags.safe_path:
+        sys.path[0] = folder
+        leave_to_program(folder)
 
 
 def _folder_of(words: list[str]) -> str:
@@ -137,25 +158,21 @@ def _folder_of(words: list[str]) -> str:
 def _run_file(words: list[str]) -> None:
     program = words[0]
     sys.argv = words
-    module = sys.modules["__main__"] = types.ModuleType("__main__")
-    importer = pkgutil.get_importer(program)
+    module = _begin_main()
+    path = os.path.join(os.getcwd(), program)  # As the language does it.
+    importer = pkgutil.get_importer(path)
     if importer is not None:  # A folder or an archive, with a module __main__ in it.
         if importer.find_spec("__main__") is None:
             raise _NotRun(f"there is no __main__ in {program} to run: name a file")
-        sys.path[0] = program
-        leave_to_program(program)
+        sys.path[:0 if sys.flags.safe_path else 1] = [path]  # `-P` does not keep this one out.
+        leave_to_program(path)
         runpy._run_module_as_main("__main__", alter_argv=False)  # type: ignore[attr-defined]
         return
-    sys.path[0] = os.path.dirname(os.path.realpath(program))
-    leave_to_program(sys.path[0])
-    path = os.path.join(os.getcwd(), program)  # As the language does it.
+    _look_first_in(os.path.dirname(os.path.realpath(program)))
     call(path, program)
     with open(path, "rb") as file:
         source = file.read()
-    module.__dict__.update(
-        __file__=path, __builtins__=builtins, __annotations__={}, __cached__=None,
-        __loader__=SourceFileLoader("__main__", path),
-    )
+    module.__dict__.update(__file__=path, __cached__=None, __loader__=SourceFileLoader("__main__", path))
     plain = compile(source, path, "exec", dont_inherit=True)
     exec(watch.code_of(source, path, plain), module.__dict__)
 
@@ -185,7 +202,7 @@ def _write(text: str) -> None:
 
 def _own_trace(error: BaseException) -> types.TracebackType | None:
     trace = error.__traceback__
-    while trace is not None and trace.tb_frame.f_code.co_filename in OWN_FILES:
+    while trace is not None and trace.tb_frame.f_code.co_filename == __file__:
         trace = trace.tb_next
     return trace
 
