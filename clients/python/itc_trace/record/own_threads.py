@@ -3,6 +3,8 @@
 from __future__ import annotations
 
 import _thread
+import contextlib
+import importlib
 import os
 import signal
 from collections.abc import Callable
@@ -24,6 +26,16 @@ if hasattr(os, "register_at_fork"):
     os.register_at_fork(after_in_child=IDENTS.clear)
 
 
+_WHAT_ENDS_THREADS = "libgcc_s.so.1"
+"""The C library loads it to end a thread for the interpreter, and aborts the process if it cannot."""
+
+
+def _load_what_ends_threads() -> None:
+    """At the end of the process it may be too late: the program may have opened as many files as it may."""
+    with contextlib.suppress(ImportError, AttributeError, OSError):
+        importlib.import_module("_ctypes").dlopen(_WHAT_ENDS_THREADS, os.RTLD_NOW)
+
+
 def count_of_own() -> int:
     """How many such threads there are."""
     return len(_alive)
@@ -34,6 +46,8 @@ def start_thread(run: Callable[[], object]) -> None:
 
     One that all threads of the program block stays pending, as it would untraced.
     """
+    if not _alive:
+        _load_what_ends_threads()
     counted = object()
 
     def run_counted() -> None:
