@@ -12,6 +12,7 @@ from typing import Any
 
 from .. import watch
 from ..api.tracing import Tracing
+from ..model.file_names import working_folder
 from ..model.verdict import Cause, Unseen
 from ..record.following import ChildProcess, Ways, follow, is_beginning
 from ..record.following import end as end_following
@@ -137,7 +138,7 @@ class Ending:
             if os.getpid() != self._process or words and not os.access(words[0], os.X_OK):
                 return original(*words, **named)
             command = words[1] if len(words) > 1 else ()
-            if not self._traced.is_child or watch.program_of(command, os.getcwd()) is not None:
+            if not self._traced.is_child or watch.program_of(command, working_folder()) is not None:
                 self._traced.tell(ANOTHER_PROGRAM)
             journal = self._traced.journal
             self.finish()

@@ -9,7 +9,7 @@ from typing import Any
 
 from ..record import own_files, plain
 from .. import watch
-from ..model.file_names import name_of_file
+from ..model.file_names import name_of_file, working_folder
 from ..record.following import not_traced, place_of_start
 from ..model.frames import line_of
 from ..record.journal_file import JournalFile
@@ -98,7 +98,7 @@ def _wrap_command(owner: Any, name: str, place: int, tell: Callable[[Unseen], No
         if words and hasattr(words[0], "_itc_line"):
             return told  # It is traced.
         command = words[place] if len(words) > place else named.get("args", named.get("argv", named.get("command", "")))
-        program = watch.program_of(command, os.fspath(named.get("cwd") or os.getcwd()))
+        program = watch.program_of(command, os.fspath(named.get("cwd") or working_folder()))
         if program is not None:
             tell(
                 Unseen(
@@ -118,7 +118,7 @@ def _wrap_replacement(name: str, tell: Callable[[Unseen], None]) -> None:
     original = getattr(os, name)
 
     def replace(path: Any, words: Any, *environment: Any) -> Any:
-        program = watch.program_of(words, os.getcwd()) if _can_be_run(path) else None
+        program = watch.program_of(words, working_folder()) if _can_be_run(path) else None
         if program is not None:
             tell(
                 Unseen(

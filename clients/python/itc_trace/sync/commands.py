@@ -11,6 +11,7 @@ from collections.abc import Sequence
 from types import ModuleType
 from typing import Any
 
+from ..model.file_names import real_path, working_folder
 from ..record import following
 from .base import Patches
 from .later import once_imported
@@ -54,7 +55,7 @@ def _begun(args: Any, named: dict[str, Any]) -> following.Begun | None:
         return None
     try:
         place = _place_of_program(args)
-        program = following.program_of(args, os.fspath(named.get("cwd") or os.getcwd()))
+        program = following.program_of(args, os.fspath(named.get("cwd") or working_folder()))
     except (TypeError, ValueError):
         return None
     if place is None or program is None:
@@ -64,7 +65,8 @@ def _begun(args: Any, named: dict[str, Any]) -> following.Begun | None:
 
 def _place_of_program(words: Sequence[Any]) -> int | None:
     """Where the program stands in a command that runs it by this Python. None if it is run in another way."""
-    if not words or os.path.realpath(shutil.which(os.fsdecode(words[0])) or "") != os.path.realpath(sys.executable):
+    found = shutil.which(os.fsdecode(words[0])) if words else None
+    if found is None or real_path(found) != real_path(sys.executable):
         return None
     place = 1
     while place < len(words) and os.fsdecode(words[place]).startswith("-") and words[place] != "-m":

@@ -10,7 +10,9 @@ from collections.abc import Callable, Sequence
 from fnmatch import fnmatchcase
 from types import CodeType, ModuleType
 
+from ..model.file_names import real_path
 from ..model.verdict import Cause, Unseen
+from ..sync.base import name_as
 from .decisions import WATCHED
 from .making import kept_code, new_code
 from .stored import imported_by, look_through
@@ -58,7 +60,7 @@ class Selection:
         return any(".".join(parts[: length + 1]) in self.packages for length in range(len(parts)))
 
     def has_own(self, file: str) -> bool:
-        path = os.path.realpath(file)
+        path = real_path(file)
         if any(f"{os.sep}{one}{os.sep}" in path for one in INSTALLED) or path.startswith(LIBRARY_FOLDERS):
             return False
         return any(_is_within(path, folder) for folder in self.folders)
@@ -67,7 +69,7 @@ class Selection:
         """Whether a pattern names the file, by its path within a watched folder."""
         if not self.excluded:
             return False
-        path = os.path.realpath(file)
+        path = real_path(file)
         within = [os.path.relpath(path, folder) for folder in self.folders if _is_within(path, folder)]
         return any(fnmatchcase(one, pattern) for one in within for pattern in self.excluded)
 
@@ -90,7 +92,7 @@ class Selection:
 
 
 def _is_within(file: str, folder: str) -> bool:
-    return os.path.realpath(file).startswith(folder.rstrip(os.sep) + os.sep)
+    return real_path(file).startswith(folder.rstrip(os.sep) + os.sep)
 
 
 class Loader(importlib.machinery.SourceFileLoader):
@@ -103,6 +105,9 @@ class Loader(importlib.machinery.SourceFileLoader):
 
     def get_code(self, fullname: str) -> CodeType | None:
         return self._code
+
+
+name_as(Loader, importlib.machinery.SourceFileLoader.__name__, importlib.machinery.SourceFileLoader.__module__)
 
 
 def with_hooks(

@@ -8,6 +8,7 @@ from types import CodeType, FunctionType
 
 from ..model.frames import line_of
 from ..record.noting import LOST
+from ..model.file_names import real_path
 from ..model.verdict import Cause, Unseen
 from .finder import FILES, LIBRARY_FOLDERS, Selection
 
@@ -16,10 +17,10 @@ def files_without_hooks(selection: Selection) -> list[Unseen]:
     """Each file of the program of which there are functions, none of them has hooks, and nobody was told so."""
     files = {one.__code__.co_filename for one in gc.get_objects() if type(one) is FunctionType} - FILES
     own = _own_folders({os.path.dirname(file) for file in files}, selection)
-    known = {os.path.realpath(file) for file in FILES}
+    known = {real_path(file) for file in FILES}
     left = {
         file for file in files
-        if _is_source(file) and os.path.dirname(file) in own and os.path.realpath(file) not in known
+        if _is_source(file) and os.path.dirname(file) in own and real_path(file) not in known
     }
     return [
         Unseen(Cause.MODULE, f"{os.path.basename(file)} was not watched, as it was not imported from a source file")
