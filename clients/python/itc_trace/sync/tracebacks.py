@@ -8,13 +8,16 @@ import sys
 import threading
 import traceback
 from collections.abc import Callable, Iterator
+from itertools import takewhile
 from types import CodeType, TracebackType
 from typing import Any
 
 from .base import STAND_INS, Patches
 
 FOLDER = os.path.dirname(os.path.abspath(__file__)) + os.sep
-_WALKS = ("walk_tb", "walk_stack", "_walk_tb_with_full_positions")
+LAUNCH = os.path.join(os.path.dirname(os.path.dirname(FOLDER)), "cli", "launch.py")
+OUTWARDS = "walk_stack"
+_WALKS = ("walk_tb", OUTWARDS, "_walk_tb_with_full_positions")
 """Functions of `traceback` that give each frame with its line. All that it shows is of these."""
 
 
@@ -22,6 +25,7 @@ def put(patches: Patches) -> None:
     for name in _WALKS:
         if name in vars(traceback):
             patches.wrap(traceback, name, _without_stand_ins)
+    patches.wrap(traceback, OUTWARDS, _up_to_the_program)
     if "_make_invoke_excepthook" in vars(threading):
         patches.wrap(threading, "_make_invoke_excepthook", _showing_without_stand_ins)
 
@@ -35,6 +39,17 @@ def _without_stand_ins(original: Callable[[Any], Iterator[Any]]) -> Any:
         if start is None:
             return original(start)  # It counts the frames between itself and whoever asked.
         return (one for one in original(start) if not is_stand_in(one[0].f_code))
+
+    return walk
+
+
+def _up_to_the_program(original: Callable[[Any], Iterator[Any]]) -> Any:
+    """From a frame outwards. Behind that of the program's main file there are those by which the package runs it."""
+
+    def walk(start: Any) -> Iterator[Any]:
+        if start is None:
+            return original(start)
+        return takewhile(lambda one: one[0].f_code.co_filename != LAUNCH, original(start))
 
     return walk
 
