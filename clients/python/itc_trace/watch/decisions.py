@@ -43,7 +43,8 @@ def ids_of(kinds: Iterable[type]) -> frozenset[int]:
 
 PLAIN = ids_of({
     str, int, float, bool, complex, bytes, tuple, frozenset, range, slice, type(None), type(...), type(NotImplemented),
-    types.FunctionType, types.BuiltinFunctionType, types.MethodType, super, types.CodeType,
+    types.FunctionType, types.BuiltinFunctionType, types.MethodType, super, types.CodeType, types.FrameType,
+    types.TracebackType,
 })
 """Types whose values cannot change, or are no thing that tasks share by their elements."""
 
