@@ -1,4 +1,4 @@
-"""Small programs that are run each by itself do what they do untraced: their output, standard error and status are the same."""
+"""Small programs that are run by themselves have the same output, standard error and status traced as untraced."""
 
 from __future__ import annotations
 
