@@ -220,9 +220,9 @@ sys.exit(__main__.main())
 """The words `-c PATIENT` do what `-m itc_trace` does, and wait for programs of a machine that is busy."""
 
 
-def run_system(*words: str, **variables: str) -> subprocess.CompletedProcess[str]:
+def run_system(*words: str, cwd: str | None = None, **variables: str) -> subprocess.CompletedProcess[str]:
     """Runs `python3 -m itc_trace system WORDS..`, which waits for its processes as long as it takes."""
-    return run_python("-c", PATIENT, "system", "--all", *words, **variables)
+    return run_python("-c", PATIENT, "system", "--all", *words, cwd=cwd, **variables)
 
 
 def run_traced(*words: str, python: str | None = sys.executable, **variables: str) -> subprocess.CompletedProcess[str]:

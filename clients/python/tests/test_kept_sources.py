@@ -2,6 +2,8 @@
 
 from __future__ import annotations
 
+import contextlib
+import json
 import os
 import shutil
 import subprocess
@@ -52,6 +54,15 @@ class Rows(unittest.TestCase):
         self.assertEqual([one.file for one in source_rows([ROW % (small, 1), ROW % (large, 1)])], [small])
         self.assertEqual(list(source_rows([ROW % (self.write("c.py", "c\n" * (1 << 20)), 1), ROW % (str(self.folder), 1), ROW % ("no", 1)])), [])
 
+    def test_where_a_file_was_found_is_kept_from_the_current_folder(self) -> None:
+        within, outside = self.write("here/src/b.py", "x = 1\n"), self.write("there/c.py", "x = 1\n")
+        large = self.write("here/src/d.py", "#" * (1 << 21))
+        found = {"b.py": within, "c.py": outside, "d.py": large, "src/b.py": within, within: within, "none.py": None}
+        self.enterContext(contextlib.chdir(self.folder / "here"))
+        rows = list(source_rows([ROW % (file, 1) for file in found], found.get))
+        self.assertEqual({row.file: row.path for row in rows}, {"b.py": "src/b.py", "c.py": outside, "d.py": "src/d.py", "src/b.py": "", within: ""})
+        self.assertEqual([read_line(row.row()) for row in rows], rows)
+
     def test_a_journal_with_sources_says_the_same(self) -> None:
         file = self.write("a.py", "x = 1\n")
         journal = self.write("journal", ROW % (file, 1) + END)
@@ -74,6 +85,17 @@ class Rows(unittest.TestCase):
     def test_files_of_one_name_that_say_otherwise_are_left_out(self) -> None:
         told = sources_of([SourceText("a.py", {1: "x"}), SourceText("a.py", {1: "x", 2: "y"}), SourceText("b.py", {1: "x"}), SourceText("b.py", {1: "y"})])
         self.assertEqual(told.kept, {"a.py": {1: "x", 2: "y"}})
+
+    def test_files_of_one_name_have_no_path(self) -> None:
+        told = sources_of([SourceText("a.py", {1: "x"}, "one/a.py"), SourceText("a.py", {9: "y"}, "two/a.py"), SourceText("b.py", {1: "x"}, "one/b.py"),
+                           SourceText("b.py", {9: "y"}, "one/b.py"), SourceText("c.py", {1: "x"}, "one/c.py"), SourceText("c.py", {1: "y"}, "one/c.py")])
+        self.assertEqual([told.path(file) for file in ("a.py", "b.py", "c.py", "d.py")], ["", "one/b.py", "", ""])
+        self.assertEqual(told.kept["a.py"], {1: "x", 9: "y"})
+
+    def test_lines_that_were_not_kept_come_from_where_the_file_was_found(self) -> None:
+        self.enterContext(contextlib.chdir(self.folder))
+        self.write("py/a.py", "of the process\n"), self.write("a.py", "of another\n")
+        self.assertEqual(sources_of([SourceText("a.py", {}, "py/a.py")]).line("a.py", 1), "of the process")
 
     def test_processes_have_their_whole_names_in_whichever_order_they_start(self) -> None:
         told = [ProcessTold("wareh2", "warehouse_go"), ProcessTold("wareh", "warehouse_py")]
@@ -130,6 +152,17 @@ class Files(unittest.TestCase):
 
 
 class Lists(unittest.TestCase):
+    def assert_found_below(self, folder: str, ran: "subprocess.CompletedProcess[str]") -> None:
+        """The list names the file as its process does, and what machines read leads to it from the repository."""
+        self.assertIn("write at shop.py:4 in sell", ran.stderr)
+        written = {name: Path(folder, name).read_text() for name in ("s.sarif", "j")}
+        self.assertIn("::error file=py/shop.py,line=4,", ran.stdout)
+        (result,) = json.loads(written["s.sarif"])["runs"][0]["results"]
+        for place in (*result["locations"], *result["relatedLocations"]):
+            self.assertEqual(place["physicalLocation"]["artifactLocation"], {"uri": "py/shop.py", "uriBaseId": "SRCROOT"})
+        for side in json.loads(written["j"])["findings"][0]["sides"]:
+            self.assertEqual((side["file"], side["path"]), ("shop.py", "py/shop.py"))
+
     def test_a_list_that_is_made_elsewhere_has_the_sources_and_the_identity(self) -> None:
         with tempfile.TemporaryDirectory() as folder, tempfile.TemporaryDirectory() as away:
             (Path(folder) / "py").mkdir()
@@ -142,6 +175,7 @@ class Lists(unittest.TestCase):
 
             first = run(f"{folder}/py", "run", "--export", "../g", "shop.py").stderr
             system = run("/", "system", f"{folder}/shop.toml").stderr
+            self.assert_found_below(folder, run(folder, "system", "--json", "j", "--sarif", "s.sarif", "--github", "shop.toml"))
             self.assertIn('    write at shop.py:4 in sell:  stock["left"] -= 1\n', system)
             self.assertIn("    threads storekeeper_sell_1 and storekeeper_sell_2: nothing orders them", system)
             for name in ("g", "s"):
@@ -150,6 +184,8 @@ class Lists(unittest.TestCase):
                 listed = run(away, "races", name)
                 self.assertEqual((listed.returncode, listed.stderr), (66, ""))
                 self.assertEqual(listed.stdout, first if name == "g" else system)
+                found_at = "shop.py" if name == "g" else "py/shop.py"
+                self.assertIn(f"::error file={found_at},line=4,", run(away, "races", "--github", name).stdout)
             Path(away, "shop.py").write_text("\n" * 9)
             self.assertIn('  stock["left"] -= 1\n', run(away, "races", "g").stdout)
 

@@ -220,15 +220,18 @@ for thread in threads: thread.join()
         subprocess.run(["javac", *quick, "-d", out, *map(str, [*sorted(sources.glob("*.java")), *written])], check=True)
         (self.folder / "conf").mkdir()
         described = {"command": ["java", "-cp", out, "shop.Main"], "directory": "."}
-        ran = run_system("--all", self.written("conf/system.toml", "".join(
+        ran = run_system("--github", "--sarif", "sarif", self.written("conf/system.toml", "".join(
             f"[process.{name}]\n" + "".join(f"{key} = {json.dumps(value)}\n" for key, value in described.items())
             for name in ("warehouse_one", "warehouse_two")
-        )))
+        )), cwd=str(self.folder))
         self.assertEqual(ran.returncode, Verdict.RACES, ran.stderr)
         for package, process in (("a", "one"), ("b", "one"), ("a", "two"), ("b", "two")):
             place = f'write at shop.{package}.Store.put (Store.java:5):  Traced.touch("stock of {package}", true);'
             tasks = rf"threads warehouse_{process}_(left|right) and warehouse_{process}_(left|right): nothing orders them"
             self.assertRegex(ran.stderr, rf"race on stock of {package} of warehouse_{process}\n    {re.escape(place)}\n    {re.escape(place)}\n    {tasks}")
+        due = {f"app/src/shop/{package}/Store.java" for package in "ab"}
+        self.assertEqual(set(re.findall(r"(?m)^::error file=(.*?),", ran.stdout)), due)
+        self.assertEqual(set(re.findall(r'"uri": "(.*Store.java)"', (self.folder / "sarif").read_text())), due)
 
     # Starting and ending
 

@@ -132,7 +132,7 @@ def _found_side(step: Step, kind: str, at: Place, sources: Sources) -> FoundSide
     return FoundSide(
         kind, file, at.line, at.function, sources.task(step.task), step.event, step.part,
         () if step.owes else (step.holds,),
-        bool(step.loop), False, *sources.around(file, at.line),
+        bool(step.loop), False, *sources.around(file, at.line), sources.path(file),
     )
 
 

@@ -6,6 +6,7 @@ import json
 import os
 import re
 from collections.abc import Callable, Iterable, Iterator
+from pathlib import PurePath
 
 from ..model.sources import LINES_AROUND, MOST_LETTERS, Sources
 from ..record.journal import ProcessTold, SourceText
@@ -24,15 +25,26 @@ def here(file: str) -> str | None:
 
 
 def source_rows(lines: Iterable[str], find: Find = here) -> Iterator[SourceText]:
-    """The lines of source that are around the places of a journal's lines, file by file, as long as there is room."""
+    """The lines of source that are around the places of a journal's lines, file by file, as long as there is room.
+
+    Where a file was found is told without its lines, too.
+    """
     room = MOST_KEPT
     for file, numbers in _places(lines).items():
-        kept = _kept(find(file), numbers)
-        room -= sum(map(len, kept.values()))
-        if room < 0:
-            return
-        if kept:
-            yield SourceText(file, kept)
+        path = find(file)
+        if path is not None:
+            kept = _kept(path, numbers)
+            room -= sum(map(len, kept.values()))
+            told = SourceText(file, kept if room >= 0 else {}, _path_beside(file, path))
+            if told.lines or told.path:
+                yield told
+
+
+def _path_beside(file: str, path: str) -> str:
+    """The path from the current folder, so that a copy of the repository has it, too. Empty if the name leads there."""
+    whole, folder = os.path.abspath(path), os.getcwd()
+    within = os.path.relpath(whole, folder) if PurePath(whole).is_relative_to(folder) else whole
+    return "" if os.path.abspath(file) == whole else within
 
 
 def _places(lines: Iterable[str]) -> dict[str, set[int]]:
@@ -44,10 +56,10 @@ def _places(lines: Iterable[str]) -> dict[str, set[int]]:
     return {json.loads(name): numbers for name, numbers in found.items()}
 
 
-def _kept(path: str | None, numbers: set[int]) -> dict[int, str]:
+def _kept(path: str, numbers: set[int]) -> dict[int, str]:
     wanted = {one for number in numbers for one in range(number - LINES_AROUND, number + LINES_AROUND + 1)}
     try:
-        if path is None or os.path.getsize(path) > MOST_FILE:
+        if os.path.getsize(path) > MOST_FILE:
             return {}
         with open(path, encoding="utf-8", errors="replace") as source:
             return {
@@ -59,16 +71,24 @@ def _kept(path: str | None, numbers: set[int]) -> dict[int, str]:
 
 
 def sources_of(told: Iterable[SourceText], processes: Iterable[ProcessTold] = ()) -> Sources:
-    """The sources that journals have kept. Lines of which two say otherwise are left out: they may be of two files."""
+    """The sources that journals have kept.
+
+    Lines of which two say otherwise are left out, and so is where a file was found: it may be two files.
+    """
     sources = Sources(processes={one.tag: one.process for one in processes})
     spoilt: set[str] = set()
+    elsewhere: set[str] = set()
     for one in told:
         known = sources.kept.get(one.file, {})
         if any(known.get(number, text) != text for number, text in one.lines.items()):
             spoilt.add(one.file)
+        if sources.paths.setdefault(one.file, one.path) != one.path:
+            elsewhere.add(one.file)
         sources.add(one.file, one.lines)
     for file in spoilt:
         del sources.kept[file]
+    for file in spoilt | elsewhere:
+        del sources.paths[file]
     return sources
 
 

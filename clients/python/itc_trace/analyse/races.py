@@ -89,7 +89,7 @@ def _found_side(row: Row, side: Side, sources: Sources) -> FoundSide:
     number = int(line) if line.isdigit() else 0
     return FoundSide(
         side.kind, file, number, side.function, sources.task(row.task), row.event, row.part, row.held, bool(row.loop),
-        row.is_write, *sources.around(file, number),
+        row.is_write, *sources.around(file, number), sources.path(file),
     )
 
 

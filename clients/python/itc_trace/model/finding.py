@@ -58,6 +58,13 @@ class FoundSide:
     """The number of the first line of `text`."""
     text: tuple[str, ...] = ()
     """Lines of source around the place. There are none where they are not known."""
+    path: str = ""
+    """Where the file was found, if its name does not lead there, as that of a file of Java."""
+
+    @property
+    def found_at(self) -> str:
+        """The file as it is found from the folder of the report."""
+        return self.path or self.file
 
     @property
     def place(self) -> str:

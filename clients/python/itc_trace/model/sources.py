@@ -18,6 +18,8 @@ class Sources:
     kept: dict[str, dict[int, str]] = field(default_factory=dict)
     processes: dict[str, str] = field(default_factory=dict)
     """The whole name of each process, by what the names of its tasks begin with."""
+    paths: dict[str, str] = field(default_factory=dict)
+    """Where each file was found, if its name does not lead there."""
 
     def task(self, name: str) -> str:
         """The name of a task, with that of its process in full."""
@@ -32,7 +34,11 @@ class Sources:
         kept = self.kept.get(file)
         if kept is not None and number in kept:
             return kept[number]
-        return linecache.getline(file, number).rstrip("\r\n") if file and number > 0 else ""
+        return linecache.getline(self.path(file) or file, number).rstrip("\r\n") if file and number > 0 else ""
+
+    def path(self, file: str) -> str:
+        """Where the file was found. Empty if its name leads there, or if it was not."""
+        return self.paths.get(file, "")
 
     def around(self, file: str, number: int) -> tuple[int, tuple[str, ...]]:
         """The number of the first line, and the lines around one that is known. Else there are none."""

@@ -301,10 +301,13 @@ class SourceText(NamedTuple):
 
     file: str
     lines: dict[int, str]
+    path: str = ""
+    """Where it was found, if its name does not lead there."""
 
     def row(self) -> str:
         lines = {str(number): text for number, text in self.lines.items()}
-        return json.dumps({"source": self.file, "lines": lines}, separators=(",", ":")) + "\n"
+        path = {"path": self.path} if self.path else {}
+        return json.dumps({"source": self.file, **path, "lines": lines}, separators=(",", ":")) + "\n"
 
 
 class ChildTold(NamedTuple):
@@ -394,7 +397,8 @@ def read_line(line: str) -> Read | None:
         if "process" in read:
             return ProcessTold(str(read["tag"]), str(read["process"]))
         if "source" in read:
-            return SourceText(str(read["source"]), {int(one): str(text) for one, text in read["lines"].items()})
+            kept = {int(one): str(text) for one, text in read["lines"].items()}
+            return SourceText(str(read["source"]), kept, str(read.get("path", "")))
         if "end" in read:
             return End(None if read.get("lines") is None else int(read["lines"]))
         return None

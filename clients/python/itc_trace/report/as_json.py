@@ -68,7 +68,7 @@ def _steps(steps: Iterable[Step]) -> list[dict[str, Any]]:
 
 def _side_as_object(side: FoundSide) -> dict[str, Any]:
     told = {key: getattr(side, key) for key in SIDE_KEYS}
-    return {**told, "source": side.source, "text": list(side.text), "held": list(side.held)}
+    return {**told, "source": side.source, "text": list(side.text), "held": list(side.held), "path": side.path}
 
 
 def report_of_json(text: str) -> Report:
@@ -108,4 +108,5 @@ def finding_of_object(told: dict[str, Any]) -> Finding:
 
 
 def _side_of_object(told: dict[str, Any]) -> FoundSide:
-    return FoundSide(**{key: told[key] for key in SIDE_KEYS}, held=tuple(told["held"]), text=tuple(told["text"]))
+    known = {key: told[key] for key in SIDE_KEYS}
+    return FoundSide(**known, held=tuple(told["held"]), text=tuple(told["text"]), path=told.get("path", ""))

@@ -31,7 +31,7 @@ def _lines(report: Report, root: str) -> Iterator[str]:
 def _annotation(finding: Finding, folder: str, root: str) -> str:
     level = "warning" if finding.is_possible else "error"
     side = next((one for one in _best_first(finding) if one.file), None)
-    place = "" if side is None else f"file={_property(_named(side.file, folder, root))},line={max(1, side.line)},"
+    place = "" if side is None else f"file={_property(_named(side.found_at, folder, root))},line={max(1, side.line)},"
     told = "\n".join([finding.title, *finding.told_sides, finding.told_order])
     return f"::{level} {place}title={_property(f'itc-trace {finding.identity}')}::{_data(told)}"
 

@@ -87,7 +87,7 @@ def _location(side: FoundSide, report: Report, number: int | None = None) -> dic
         region: dict[str, Any] = {"startLine": side.line} if side.line > 0 else {}
         if region and side.source:
             region["snippet"] = {"text": side.source}
-        physical: dict[str, Any] = {"artifactLocation": _artifact(side.file, report.folder)}
+        physical: dict[str, Any] = {"artifactLocation": _artifact(side.found_at, report.folder)}
         told["physicalLocation"] = {**physical, **({"region": region} if region else {})}
     if side.function:
         told["logicalLocations"] = [{"fullyQualifiedName": side.function}]

@@ -60,7 +60,7 @@ class TerminalStyle(Style):
             return line
         before, at, behind = line.partition(" at ")
         shown = readable(place)
-        linked = f"\033]8;;file://{uri_of(os.path.join(folder, side.file))}\033\\{shown}\033]8;;\033\\"
+        linked = f"\033]8;;file://{uri_of(os.path.join(folder, side.found_at))}\033\\{shown}\033]8;;\033\\"
         return before + at + re.sub(rf"{re.escape(shown)}(?!\d)", lambda _: linked, behind, count=1)
 
     def summary(self, text: str, is_good: bool) -> str:
