@@ -97,7 +97,7 @@ class Formats(unittest.TestCase):
         whole = json.loads(json_text(stored()))
         spoilt = ["", "[]", "{}", "7", json.dumps({**whole, "version": 2}), json.dumps({**whole, "verdict": "MAYBE"})]
         spoilt += [json.dumps({key: value for key, value in whole.items() if key != left}) for left in whole]
-        spoilt.append(json.dumps({**whole, "findings": [{}]}))
+        spoilt += [json.dumps({**whole, "findings": [{}]}), "[" * 100_000, '{"version":' * 100_000]
         for one in spoilt:
             with self.subTest(one[:60]), self.assertRaises(NoReport):
                 report_of_json(one)

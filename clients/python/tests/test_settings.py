@@ -117,6 +117,10 @@ class Tables(unittest.TestCase):
                 self.read(text)
             self.assertNotIn("\n", str(raised.exception))
 
+    def test_what_is_nested_too_deep_is_no_toml(self) -> None:
+        with self.assertRaisesRegex(Fault, "is no TOML"):
+            self.read("watch = " + "[" * 100_000)
+
     def test_the_nearest_file_above_counts(self) -> None:
         self.read("runs = 2")
         within = self.folder / "a" / "b"
