@@ -235,6 +235,23 @@ class Commands(unittest.TestCase):
         self.assertEqual(ran.returncode, 3, ran.stderr)
         self.assertIn("itc_trace: the output cannot be written: No space left on device\n", ran.stderr)
 
+    @unittest.skipUnless(os.path.exists("/dev/full"), "no disk that is full")
+    def test_a_disk_that_is_full_leaves_what_was_there(self) -> None:
+        """Each new file is one that takes no byte."""
+        files = {option: self.folder / option.strip("-") for option in ("--json", "--sarif", "--write-baseline", "--picture")}
+        for file in files.values():
+            file.write_text("as before")
+            Path(f"{file}.new").symlink_to("/dev/full")
+        ran = self.run_here("run", *(word for option, file in files.items() for word in (option, file.name)), "shop.py")
+        self.assertEqual(ran.returncode, 3, ran.stderr)
+        for file in files.values():
+            self.assertEqual(file.read_text(), "as before")
+            if file.name != "picture":
+                self.assertIn(f"itc_trace: {file.name} cannot be written: No space left on device\n", ran.stderr)
+        self.assertRegex(ran.stderr, "itc_trace: no picture: .*No space left on device")
+        self.assertNotIn("Traceback", ran.stderr)
+        self.assertEqual(list(self.folder.glob("*.new")), [])
+
     def test_what_the_formats_would_overwrite_is_told_first(self) -> None:
         for words, said in (
             (["--json", "shop.py"], "--json shop.py would overwrite the program: name another file"),

@@ -8,6 +8,7 @@ from dataclasses import asdict
 
 from ..model.finding import Known, KnownSide
 from ..record.faults import Fault
+from ..record.whole_file import replacing
 
 VERSION = 1
 
@@ -32,5 +33,5 @@ def read_baseline(file: str) -> list[Known]:
 def write_baseline(file: str, races: Iterable[Known]) -> None:
     """A race an entry, in an order that is the same for the same races."""
     entries = [{"id": one.identity, **asdict(one)} for one in sorted(races, key=lambda one: (one.thing, one.sides))]
-    with open(file, "w", encoding="utf-8", errors="backslashreplace") as written:
+    with replacing(file) as new, open(new, "w", encoding="utf-8", errors="backslashreplace") as written:
         written.write(json.dumps({"version": VERSION, "races": entries}, indent=1, ensure_ascii=False) + "\n")

@@ -255,13 +255,20 @@ def _looked(words: argparse.Namespace, program: list[str]) -> int:
     else:
         status = _system(words) if words.command == "system" else _races(words)
     if words.write_baseline is not None and words.looking.has_looked:
-        write_baseline(words.write_baseline, words.looking.met)
-        count = len(words.looking.met)
-        say(
-            f"itc_trace: {words.write_baseline} has {count} race{'' if count == 1 else 's'}: "
-            f"--baseline {words.write_baseline} fails on others only"
-        )
+        return status if _is_baseline_written(words.write_baseline, words.looking) else UNWRITTEN
     return status
+
+
+def _is_baseline_written(file: str, looking: Looking) -> bool:
+    """Writes the races that were met, and says so."""
+    try:
+        write_baseline(file, looking.met)
+    except OSError as fault:
+        say(f"itc_trace: {file} cannot be written: {fault.strerror}")
+        return False
+    count = len(looking.met)
+    say(f"itc_trace: {file} has {count} race{'' if count == 1 else 's'}: --baseline {file} fails on others only")
+    return True
 
 
 def _read(words: argparse.Namespace) -> list[tuple[str, str]]:

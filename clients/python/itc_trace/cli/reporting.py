@@ -2,13 +2,11 @@
 
 from __future__ import annotations
 
-import contextlib
-import os
-from collections.abc import Iterator
 from dataclasses import dataclass, field
 from typing import TextIO
 
 from ..record.faults import Fault
+from ..record.whole_file import replacing
 from ..report.formats import FORMATS
 from ..report.report import Report
 from ..report.text import Shown
@@ -66,21 +64,9 @@ def _write(text: str, file: str) -> bool:
     if file == STANDARD_OUTPUT:
         return write(told)
     try:
-        with _replacing(file) as new, open(new, "wb") as written:
+        with replacing(file) as new, open(new, "wb") as written:
             written.write(told)
     except OSError as fault:
         say(f"itc_trace: {file} cannot be written: {fault.strerror}")
         return False
     return True
-
-
-@contextlib.contextmanager
-def _replacing(file: str) -> Iterator[str]:
-    """A name beside the file, which takes its place once all is written: nobody reads half of it."""
-    new = f"{file}.new"
-    try:
-        yield new
-        os.replace(new, file)
-    finally:
-        with contextlib.suppress(FileNotFoundError):
-            os.unlink(new)

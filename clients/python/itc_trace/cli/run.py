@@ -27,6 +27,7 @@ from ..record.dividing import LEAVE
 from .ending import Child, Ended, ends_by_signals, is_asked_to_end
 from ..record.environment import OWN_TENANT
 from ..record.faults import WORDS_REFUSED, Fault, look
+from ..record.whole_file import replacing
 from .launch import RAISED, REFUSED
 from .output_files import check_outputs
 from .reporting import Wanted, deliver, is_at_terminal, next_step
@@ -402,7 +403,7 @@ def _keep(asked: Run, port: int, journal: str, work: str, races: Races) -> str |
         return None
     export = asked.export or os.path.join(work, "export")
     try:
-        with open(export, "w", encoding="ascii", newline="\n") as output:
+        with replacing(export) as new, open(new, "w", encoding="ascii", newline="\n") as output:
             snapshot(asked.tenant, port, output, asked.host)
         words = ["--labels", journal, *titled(_name_of(asked))]
         return asked.picture if asked.picture is not None and draw(export, words, asked.picture, races) else None
@@ -434,18 +435,28 @@ def draw(export: str, about: list[str], picture: str, races: Races) -> bool:
     if command is None:
         say("itc_trace: no picture: the command of that name is in the repository of itc_trace")
         return False
-    with tempfile.NamedTemporaryFile("w", suffix=".races", encoding="utf-8") as rows:
-        rows.write(race_rows(report_of(races)))
-        rows.flush()
-        words = [command, *about, "--races", rows.name]
-        with open(export, "rb") as given, open(picture, "wb") as page:
-            drawn = subprocess.run(
-                words, stdin=given, stdout=page, stderr=subprocess.PIPE, encoding="utf-8", errors="replace",
-                check=False,
-            )
+    try:
+        with replacing(picture) as new, tempfile.NamedTemporaryFile("w", suffix=".races", encoding="utf-8") as rows:
+            rows.write(race_rows(report_of(races)))
+            rows.flush()
+            _draw_page(export, [command, *about, "--races", rows.name], new)
+    except _NotDrawn as fault:
+        say(f"itc_trace: no picture: {fault}")
+        return False
+    return True
+
+
+class _NotDrawn(Exception):
+    """Why there is no page."""
+
+
+def _draw_page(export: str, words: list[str], file: str) -> None:
+    with open(export, "rb") as given, open(file, "wb") as page:
+        drawn = subprocess.run(
+            words, stdin=given, stdout=page, stderr=subprocess.PIPE, encoding="utf-8", errors="replace", check=False,
+        )
     if drawn.returncode:
-        say(f"itc_trace: no picture: {(drawn.stderr.splitlines() or [words[0]])[-1]}")
-    return drawn.returncode == 0
+        raise _NotDrawn((drawn.stderr.splitlines() or [words[0]])[-1])
 
 
 def draw_tenant(tenant: str, port: int, host: str, lines: Iterable[str], picture: str, races: Races) -> bool:

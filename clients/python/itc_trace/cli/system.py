@@ -34,6 +34,7 @@ from ..record.collector import HOST
 from ..record.environment import PARTS, Reporting
 from ..record.faults import Fault
 from ..record.journal import NoJournal, read_whole
+from ..record.whole_file import replacing
 from ..report.report import report_of
 from ..report.style import style_of
 from ..report.text import text
@@ -481,7 +482,7 @@ def _keep(system: System, port: int, lines: list[str], folder: str, races: Races
         return None
     export = system.export or os.path.join(folder, "export")
     try:
-        with open(export, "w", encoding="ascii", newline="\n") as output:
+        with replacing(export) as new, open(new, "w", encoding="ascii", newline="\n") as output:
             snapshot(system.tenant, port, output)
         Path(f"{export}.journal").write_text("".join(lines), encoding="utf-8")
         about = ["--labels", f"{export}.journal", *titled(system.name)]
