@@ -9,11 +9,18 @@ import sys
 import tempfile
 import unittest
 from pathlib import Path
+from types import SimpleNamespace
+from typing import Any, cast
 
 from itc_trace.analyse.benign import read_patterns
-from itc_trace.model.finding import RACE, Finding, FoundSide
+from itc_trace.analyse.story import add_stories
+from itc_trace.model.finding import RACE, Finding, FoundSide, Story
+from itc_trace.model.sources import Sources
+from itc_trace.model.verdict import Verdict
+from itc_trace.record.journal import Row
 from itc_trace.report.as_json import finding_of_object, report_of_json
-from itc_trace.report.explaining import benign_line
+from itc_trace.report.explaining import benign_line, explained
+from itc_trace.report.report import Report
 
 from .support import PACKAGE
 
@@ -141,6 +148,34 @@ class Stories(unittest.TestCase):
                 self.assertEqual((ran.returncode, ran.stdout), (2, ""), ran.stderr)
                 self.assertTrue(ran.stderr.startswith(f"itc_trace: {said}"), ran.stderr)
                 self.assertEqual(ran.stderr.count("\n"), 1)
+
+
+class InParts(unittest.TestCase):
+    """A story goes from one part of a run to another, and has only what the program does."""
+
+    def story(self) -> Story:
+        rows = [
+            Row(3, "early", "stock", "write", "shop.py", 4, "write stock"), Row(5, "early", None, "send", "shop.py", 5, "put item"),
+            Row(6, "early", None, "end", None, 0, "end"), Row(9, "ended_threads", None, "join", None, 0, "take result", of="early"),
+            Row(2, "early", None, "send", None, 0, "goes on", part=2, of="item_1"), Row(1, "root", None, "spawn", None, 0, "goes on", part=2, of="slow"),
+            Row(4, "slow", None, "local", None, 0, "goes on", part=2), Row(7, "slow", None, "local", "shop.py", 8, "wait", part=2),
+            Row(8, "slow", "stock", "write", "shop.py", 9, "write stock", part=2), Row(10, "root", None, "join", "shop.py", 12, "join early", part=2, of="early"),
+            Row(3, "slow", None, "end", None, 0, "end", part=3),
+        ]
+        race: Any = SimpleNamespace(example=(rows[0], rows[8]), story=None)
+        add_stories([race], rows, Sources())
+        return cast(Story, race.story)
+
+    def test_what_a_part_begins_with_and_who_keeps_ended_threads_is_left_out(self) -> None:
+        story = self.story()
+        self.assertEqual([[(one.part, one.event) for one in side] for side in (*story.before, *story.after)], [[], [(2, 7)], [(1, 5), (1, 6)], [(3, 3)]])
+        self.assertIn("a join: root joins early at shop.py:12, and before slow touches it would be early enough", story.orders)
+
+    def test_an_event_of_another_part_is_told_with_it(self) -> None:
+        sides = tuple(FoundSide("write", "shop.py", line, task=task, part=part) for line, task, part in ((4, "early", 1), (9, "slow", 2)))
+        told = explained(Finding(RACE, "stock", sides, "nothing orders them", story=self.story()), Report(Verdict.RACES, ""))
+        for line in ("after   event 6: end", "before  event 7: wait at shop.py:8", "after   event 3 of part 3: end"):
+            self.assertIn(f"    {line}\n", told)
 
 
 class Lines(unittest.TestCase):

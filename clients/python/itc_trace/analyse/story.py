@@ -6,7 +6,9 @@ from collections.abc import Callable, Iterable, Iterator
 
 from ..model.conflicts import MAKING
 from ..model.finding import Step, Story
+from ..model.lines import RESULT
 from ..model.sources import Sources
+from ..record.dividing import GOES_ON
 from ..record.journal import Row
 from .races import Race
 
@@ -33,6 +35,8 @@ class _Rows:
         self._joins: dict[str, list[Row]] = {}
         self._spawns: dict[str, Row] = {}
         for row in rows:
+            if _is_own(row):
+                continue
             if row.task in tasks:
                 self._of_task.setdefault(row.task, {}).setdefault(_place(row), []).append(row)
             if row.kind == "join" and _named(row) in tasks:
@@ -124,6 +128,11 @@ def _step(place: tuple[int, int], rows: list[Row]) -> Step:
         return Step(event, part, row.label, row.place if row.file else "")
     more = f" and {len(touches) - MOST_TOUCHES} more" if len(touches) > MOST_TOUCHES else ""
     return Step(event, part, ", ".join(label for label, _ in touches[:MOST_TOUCHES]) + more, touches[0][1])
+
+
+def _is_own(row: Row) -> bool:
+    """Whether no line of the program does this: a part begins with it, or it keeps the order of ended threads."""
+    return not row.file and (row.label == GOES_ON or row.kind == "join" and row.label == RESULT.taking)
 
 
 def _place(row: Row) -> tuple[int, int]:

@@ -11,14 +11,13 @@ import json
 import re
 from collections.abc import Callable
 
-from ..record.dividing import LEAVE, MOST_NEW_TASKS, Border, Divider, Limits, Report
+from ..record.dividing import GOES_ON, LEAVE, MOST_NEW_TASKS, Border, Divider, Limits, Report
 from ..record.journal import border_row
 from ..record.tracer_parts import MOST_ENDED, MOST_OUTSIDE
 
 PARTS, FORGET, LEAVES = b"parts", b"forget ", b"leave "
 TAKEN = b"201 "
 REFUSED = b"421 the trace has several parts, of which this client knows nothing\n"
-GOES_ON = "goes on"
 OUTSIDE = re.compile(r"_out_?\d+$")
 KINDS = frozenset(("local", "spawn", "send", "recv", "end", "join"))
 

@@ -15,6 +15,8 @@ from typing import NamedTuple
 from .collector import MOST_EVENTS, MOST_MESSAGES, MOST_TASKS
 
 ROOT = "root"
+GOES_ON = "goes on"
+"""The label of what a part begins with, and no line of the program does."""
 
 
 def request(kind: str, task: str, name: str) -> str:

@@ -21,6 +21,7 @@ from . import plain
 from .awaited import await_nobody
 from .collector import HOST, MOST_TASKS
 from .connection import Connection
+from .dividing import GOES_ON
 from .faults import FULL, Fault, refusal
 from .following import ChildProcess
 from .journal import Places, ProcessTold, TouchTexts, border_row, text_of
@@ -46,7 +47,6 @@ Whoever waits for an answer ends the rest.
 END_WAIT = 60.0
 GONE_COLLECTOR = "the collector is gone"
 CLOSED_CONNECTION = "the program has closed the connection to the collector"
-GOES_ON = "goes on"
 _now = time.time
 """As it is before any program is traced."""
 

@@ -69,9 +69,9 @@ def _lines(finding: Finding, report: Report) -> Iterator[str]:
 def _side(side: FoundSide, before: tuple[Step, ...], after: tuple[Step, ...]) -> Iterator[str]:
     locks = ", ".join(lock.partition(" ")[2] or lock for lock in side.held)
     yield f"{side.task}: {side.kind} at {side.told_place}, holding {locks or 'no lock'}"
-    yield from (f"    before  {one}" for one in _steps(before))
+    yield from (f"    before  {one}" for one in _steps(before, side.part))
     yield from _source(side)
-    yield from (f"    after   {one}" for one in _steps(after))
+    yield from (f"    after   {one}" for one in _steps(after, side.part))
 
 
 def _source(side: FoundSide) -> Iterator[str]:
@@ -83,9 +83,11 @@ def _source(side: FoundSide) -> Iterator[str]:
         yield "    > its source is not here"
 
 
-def _steps(steps: tuple[Step, ...]) -> Iterator[str]:
+def _steps(steps: tuple[Step, ...], part: int) -> Iterator[str]:
+    """The part is told of those that are in another one than the touch."""
     for step in steps:
-        yield f"event {step.event}: {step.label}{f' at {step.place}' if step.place else ''}"
+        of_part = "" if step.part == part else f" of part {step.part}"
+        yield f"event {step.event}{of_part}: {step.label}{f' at {step.place}' if step.place else ''}"
 
 
 def benign_line(finding: Finding) -> str:
