@@ -1,7 +1,7 @@
 // The checks of the panel of races: from a list of races to the two events and their lines of source.
 import assert from "node:assert/strict";
 import { exportOf, file, pageOf, pictureOf } from "./program.mjs";
-import { chosen, opened, press, text } from "./tab.mjs";
+import { chosen, opened, placeOf, press, text } from "./tab.mjs";
 import { LOST_UPDATE, WITH_LOCK } from "./traces.mjs";
 
 const SOURCE = ["def buy(shop):", "    left = shop.stock", "    shop.stock = left - 1"];
@@ -46,6 +46,8 @@ export async function races(tab) {
   await press(tab, "#fit");
   await pairIsMarked(tab, [4, 7]);
   assert.deepEqual(await pressed(tab), ["true", "false"]);
+  await tab.click(...await placeOf(tab, 7));
+  assert.deepEqual([await chosen(tab), await tab.run(() => location.hash)], ["Race on stock", "#event=7&other=4"], "the other event of a race");
   await press(tab, "#races li:nth-child(2) button");
   assert.deepEqual([await chosen(tab), ...await pressed(tab)], ["Possible race on price", "false", "true"]);
   const once = await tab.run(() => [...document.querySelectorAll("#chosen figcaption")].map((words) => words.textContent));

@@ -2,13 +2,14 @@
 
 /** Chooses events, and keeps the address. */
 const Choosing = (Base) => class extends Base {
-  /** Chooses an event, or a second one beside it. */
+  /** Chooses an event, or a second one beside it. Choosing that second one turns the two around. */
   choose(event, { asOther = false, closer = false, focus = false, stays = false } = {}) {
     const { view, trace } = this;
     if (!this.isShown || event < 1 || event > trace.events) return;
     if ((asOther || this.isPairing) && view.chosen > 0) {
       view.other = event;
     } else {
+      if (view.other === event) view.other = view.chosen;
       view.chosen = event;
       view.standings = trace.standings(event);
     }
