@@ -184,9 +184,32 @@ async function eachClient(tab) {
   }
 }
 
+/** The ruler of the wall clock does not run backwards where a short chain was late, and has the digits that tell its times apart. */
+async function rulerRunsOnward(tab) {
+  const ticks = () => tab.run(() => {
+    const { view } = page, found = [];
+    view.whole();
+    view.context.fillText = (words, x, y) => found.push([words, x, y]);
+    view.draw();
+    delete view.context.fillText;
+    return found.filter(([words, , y]) => y <= view.head && words.includes(":")).sort((one, other) => one[1] - other[1]).map(([words]) => words);
+  });
+  const reports = ["spawn root late", "local late", ...Array(8).fill("local root")], told = { label: "count" };
+  const late = row(2, "late", BEGIN + 0.966, told), early = [3, 4].map((event) => ({ ...row(event, "root", 0, told), time: undefined }));
+  const journal = (step) => [late, ...early, ...[5, 6, 7, 8, 9, 10].map((event) => row(event, "root", BEGIN + 0.677 + event * step, told))];
+  for (const [step, length] of [[0.01, 12], [0.00001, 15]]) {
+    await openedWith(tab, "onward", reports, journal(step));
+    const shown = await ticks();
+    assert.ok(shown.length > 2 && shown.every((words) => words.length === length && words.startsWith("16:53:20.")), shown.join());
+    assert.deepEqual(shown, [...new Set(shown)].sort());
+    assert.ok(!shown.some((words) => words.includes(".966")), shown.join());
+  }
+}
+
 export async function clocks(tab) {
   await eachClient(tab);
   await oneClock(tab);
+  await rulerRunsOnward(tab);
   await skews(tab);
   await bounds(tab);
   await hostileTimes(tab);

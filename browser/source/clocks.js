@@ -130,7 +130,7 @@ function utc(seconds) {
   return `${text.slice(0, 10)} ${text.slice(11, 23)}${String(micros % 1000).padStart(3, "0")} UTC`;
 }
 
-const timeOfDay = (seconds) => utc(seconds).slice(11, 23);
+const timeOfDay = (seconds, isFine = false) => utc(seconds).slice(11, isFine ? 26 : 23);
 
 /** How far a clock is ahead of another, in words, and how sure that is. */
 function skewWords(skew) {

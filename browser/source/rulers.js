@@ -2,6 +2,16 @@
 
 const TICK = 70, CLOCK_TICK = 120;
 
+/** The most of these ticks that do not run backwards. */
+function onward(ticks) {
+  const best = [];
+  for (const tick of ticks) {
+    const behind = best.filter(({ last }) => last.seconds <= tick.seconds).reduce((one, other) => other.length > one.length ? other : one, { length: 0, all: [] });
+    best.push({ last: tick, length: behind.length + 1, all: [...behind.all, tick] });
+  }
+  return best.reduce((one, other) => other.length > one.length ? other : one, { length: 0, all: [] }).all;
+}
+
 /** Draws a ruler of logical time, and one of the wall clock if a journal tells it. */
 const Measuring = (Base) => class extends Base {
   drawRulers() {
@@ -61,7 +71,9 @@ const Measuring = (Base) => class extends Base {
     return layout.stepsShown;
   }
 
-  /** Says when what is in view was, by the clocks: at each place the earliest that is told there. */
+  /** Says when what is in view was, by the clocks: at each place the earliest that is told there. A chain of events may be short though it
+   * was late, so a time that would run backwards is left out. Times that
+   * would read alike have microseconds. */
   drawTimes(y) {
     const { layout, times, context } = this, ticks = [];
     context.fillStyle = palette.pale;
@@ -74,7 +86,9 @@ const Measuring = (Base) => class extends Base {
         if (seconds > 0 && at >= 0 && (ticks[at] === undefined || seconds < ticks[at].seconds)) ticks[at] = { seconds, x: this.x(layout.times[events[place]]) };
       }
     }
-    for (const tick of ticks) if (tick !== undefined) this.tick(tick.x, timeOfDay(tick.seconds), y);
+    const told = onward(ticks.filter((tick) => tick !== undefined));
+    const isFine = told.some(({ seconds }, place) => place > 0 && seconds > told[place - 1].seconds && timeOfDay(seconds) === timeOfDay(told[place - 1].seconds));
+    for (const tick of told) this.tick(tick.x, timeOfDay(tick.seconds, isFine), y);
   }
 
   drawClockRuler(y) {
