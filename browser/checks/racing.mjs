@@ -57,6 +57,19 @@ export async function races(tab) {
   await tab.key("Escape");
   assert.deepEqual([await chosen(tab), ...await pressed(tab)], ["Event 7", "false", "false"]);
   assert.ok((await tab.spokenButtons()).some((name) => name.startsWith("stock read shop.py:11, write shop.py:12 alice, bob")));
+  await lineIsWhole(tab);
+}
+
+/** The line that races is read as a whole, also if it is long: only those around it are scrolled. */
+async function lineIsWhole(tab) {
+  const long = (one) => ({ ...one, text: SOURCE.map((line) => `${line}  # ${"and so on, ".repeat(9)}`) });
+  const sides = [long(side(4, "alice", "read", 11)), long(side(7, "bob", "write", 12))];
+  await opened(tab, pictureOfRaces("long_line", LOST_UPDATE, [race("stock", sides)]));
+  const beyond = await tab.run(() => [...document.querySelectorAll("#chosen pre")].map((lines) => {
+    const { right } = lines.getBoundingClientRect(), isBeyond = (part) => [...part.getClientRects()].some((box) => box.right > right);
+    return [isBeyond(lines.querySelector("strong")), isBeyond(lines.querySelector("span"))];
+  }));
+  assert.deepEqual(beyond, [[false, true], [false, true]]);
 }
 
 const lockSide = (event, task, kind, line) => ({ ...side(event, task, kind, line), kind });
