@@ -1,8 +1,8 @@
 // The checks of why two events are ordered or not.
 import assert from "node:assert/strict";
-import { answers, inWork, lists } from "./program.mjs";
+import { answers, exportOf, file, inWork, lists, pictureOf } from "./program.mjs";
 import { opened } from "./tab.mjs";
-import { BUSY, seeded, WORKED } from "./traces.mjs";
+import { BUSY, LOST_UPDATE, seeded, TOPIC, WITH_LOCK, WORKED } from "./traces.mjs";
 
 const PAIRS = 120;
 
@@ -62,6 +62,7 @@ export async function why(tab) {
   const { free, chains, longest } = await areTold(tab, BUSY, Array.from({ length: PAIRS }, () => [some(), some()]));
   assert.ok(free > 20 && chains > 20, `${free} ${chains}`);
   await isDrawn(tab, longest);
+  await otherEnds(tab);
   return `${free} concurrent pairs, ${chains} ordered ones`;
 }
 
@@ -123,4 +124,23 @@ async function isDrawn(tab, [one, other]) {
   const [lines, places, starts] = drawn;
   assert.deepEqual(lines.filter((place) => places.includes(place)), places);
   assert.equal(lines.length, places.length + starts);
+}
+
+/** Beside what each event last and next had to do with others stands with whom: nobody has to follow an arrow for it. */
+async function otherEnds(tab) {
+  const told = async (reports, one, other, words = []) => {
+    await opened(tab, pictureOf("ends_of.html", exportOf(reports), words), `#event=${one}&other=${other}`);
+    return tab.run(() => [...document.querySelectorAll("#freedom dd")].slice(1).map((part) =>
+      [part.querySelector(".quiet")?.textContent ?? "", part.querySelector(".quiet + button")?.textContent ?? ""].join(" ").trim()));
+  };
+  assert.deepEqual(await told(WORKED, 3, 4), ["", "received by 6 root", "", "sent by 5 a"]);
+  assert.deepEqual(await told(LOST_UPDATE, 9, 10), ["waited for by 11 root", "waited for by 11 root", "waits for 8 alice", "waits for 8 alice"]);
+  assert.deepEqual(await told(TOPIC, 10, 12), ["sent by 6 prices", "received by 14 till", "sent by 6 prices", "sent by 6 prices"]);
+  assert.deepEqual(await told(["spawn root a", "local a", "end a", "local root", "send root lost"], 2, 4), ["", "waited for by nobody", "", "received by nobody"]);
+  assert.deepEqual(await told(["spawn root a", "spawn root b", "spawn root c", "local root", "send root m", "recv a m", "recv b m", "local c"], 4, 8),
+    ["", "received by 6 a and 1 more", "", ""]);
+  const release = { event: 6, task: "alice", thing: null, kind: "send", file: "shop.py", line: 6, label: "release stock", lock: "#1 stock" };
+  const journal = ["--labels", file("lock.journal", `${JSON.stringify(release)}\n`)];
+  assert.deepEqual(await told([...WITH_LOCK, "local alice"], 8, 10, journal), ["released by 6 alice", "", "next acquired by 7 bob", ""]);
+  assert.deepEqual(await told(WITH_LOCK.slice(0, 6), 3, 5, journal), ["", "", "", "acquired by nobody since"]);
 }

@@ -240,6 +240,27 @@ export async function parts(tab) {
   await opened(tab, path, "#part=9");
   assert.equal(await tab.run(() => page.part), 1);
   await firstRaceOfALaterPart(tab, exports);
+  await goesOn(tab);
+}
+
+/** What stands for the part before is no start of a task, and no task of which nobody knows the end. */
+async function goesOn(tab) {
+  const label = (event, task, kind) => ({ event, task, thing: null, kind, file: null, line: 0, label: "goes on" });
+  const border = [label(1, "root", "spawn"), label(2, "root", "spawn"), label(3, "root", "local")];
+  [["spawn root alice", "spawn root bob"], ["spawn root alice", "spawn root bob", "local root", "local alice", "local bob", "end alice", "end bob"]].forEach((reports, place) => {
+    file(`on.part-${place + 1}`, exportOf(reports));
+    file(`on.part-${place + 1}.journal`, rows(place === 0 ? [{ ...label(1, "root", "spawn"), label: "start alice" }] : border));
+  });
+  const sides = [side(4, "alice", "write", 12), side(5, "bob", "write", 12)].map((one) => ({ ...one, part: 2 }));
+  const list = file("on.races", rows([{ races: 1, possible: 0, unseen: [] }, race("stock", sides)]));
+  await opened(tab, pictureOf("on.html", "", ["--parts", file("on", "on.part-1\non.part-2\n"), "--races", list]));
+  const told = await tab.run(() => [...document.querySelectorAll("#freedom dd button:first-child")].map((button) => button.textContent));
+  assert.deepEqual(told, ["1 in part 1, or earlier", "1 alice goes on from part 1", "6 alice ends", "2 bob goes on from part 1", "7 bob ends"]);
+  assert.deepEqual(await tab.run(() => page.eventTip(2)), ["bob goes on from part 1", "Event 2"]);
+  assert.equal(await text(tab, "#open summary"), "Tasks that did not end: 1");
+  await tab.key("[");
+  await tab.until(() => page.part === 1 && page.verdict !== null);
+  assert.equal(await text(tab, "#open summary"), "Tasks that did not end in this part: 3");
 }
 
 /** The page of a run in parts opens on its first race, also if the first part has none. An event of the address is of the first part. */

@@ -16,7 +16,8 @@ function objectIn(line) {
 }
 
 // What the tool itself does, which is no part of the program: the runs of its loops, and what a part of a run takes over from the one before.
-const OWN_LABELS = new Set(["run loop", "run in loop", "run until loop stops", "loop has stopped", "goes on", "border"]);
+const GOES_ON = "goes on";
+const OWN_LABELS = new Set(["run loop", "run in loop", "run until loop stops", "loop has stopped", GOES_ON, "border"]);
 const OWN_TASKS = new Set(["ended_threads", "ended_tasks", "keeper", "itc_nursery", "itc_border"]);
 // Labels that say nothing of the program, and those of touches that a person would say in other words.
 const BARE_LABELS = new Set(["touch", "send to another process", "receive from another process"]);

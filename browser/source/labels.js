@@ -49,6 +49,16 @@ const WithLabels = (Base) => class extends Base {
     return found;
   }
 
+  /** Whether the event only stands for what an earlier part of the run did. */
+  goesOn(event) {
+    return this.labels.get(event)?.lines.some(({ label }) => label === GOES_ON) === true;
+  }
+
+  /** Whether the event releases a lock. */
+  isRelease(event) {
+    return this.labels.get(event)?.lines.some(({ isLock }) => isLock) === true;
+  }
+
   isOwn(event) {
     return this.own !== null && this.own[event] === 1;
   }

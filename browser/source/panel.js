@@ -5,11 +5,22 @@ const Panel = (Base) => class extends Base {
   /** What an event was in the program, as its journal says it, or what it did. */
   wordsOf(event) {
     const { trace } = this, lines = this.labels.get(event)?.lines ?? [];
+    if (this.goesOn(event)) return this.wordsOfBorder(event);
     if (lines.length === 0 || this.isOwn(event)) return deed(trace, event);
     const touches = this.chosenRace()?.sides.map((side) => this.touchOf(side, event)) ?? [];
     const line = touches.find((touch) => touch !== undefined) ?? bestLine(lines), more = lines.length > 1 ? ` and ${lines.length - 1} more` : "";
     if (line.words === "") return deed(trace, event) + (line.place === "" ? "" : `, ${line.place}`);
     return `${trace.taskName(event)}: ${labelAndPlace(line)}${more}`;
+  }
+
+  /** Whose event stands for what he did in the part before. A start stands for the task that it names. */
+  wordsOfBorder(event) {
+    const { trace } = this, name = trace.kinds[event] === SPAWN ? trace.nameOf[event] : trace.taskName(event);
+    return `${name} goes on from ${this.partBefore()}`;
+  }
+
+  partBefore() {
+    return this.part > 1 ? `part ${this.part - 1}` : "the part before";
   }
 
   /** The line of the journal that tells of this touch of a race. */
@@ -153,8 +164,10 @@ const Panel = (Base) => class extends Base {
   /** Says why nothing orders two events: between which synchronizations each of them stands, and what happened before both. */
   describeFreedom(section, one, other) {
     const { trace } = this, list = element("dl", { id: "freedom" });
-    const add = (term, event, none) => list.append(element("dt", {}, term), element("dd", {}, event > 0 ? this.eventButton(event) : none));
-    add("last before both", trace.latestBeforeBoth(one, other), "nothing happened before both");
+    const add = (term, event, none, words) => list.append(element("dt", {}, term),
+      element("dd", {}, ...event > 0 ? [this.eventButton(event, words), ...this.otherEnd(event)] : [none]));
+    const latest = trace.latestBeforeBoth(one, other);
+    add("last before both", latest, "nothing happened before both", this.goesOn(latest) ? `in ${this.partBefore()}, or earlier` : undefined);
     for (const event of [one, other]) {
       const before = trace.synchronizationBefore(event), after = trace.synchronizationAfter(event), name = trace.taskName(event);
       add(`${name} came from`, before, "nothing");
@@ -162,6 +175,23 @@ const Panel = (Base) => class extends Base {
     }
     section.append(element("h2", {}, "Why nothing orders them"), list, element("p", { className: "quiet" },
       "Only what tasks do with one another orders their events: starts, messages, locks, ends and joins. None of it stands between the two."));
+  }
+
+  /** The other end of what the event does with another task: who sent or received a message, acquired a lock next, or waited for an end. */
+  otherEnd(event) {
+    const { trace } = this, kind = trace.kinds[event], name = trace.nameOf[event], quiet = (words) => element("span", { className: "quiet" }, words);
+    const button = (end, more = 0) => this.eventButton(end, `${trace.taskName(end)}${more > 0 ? ` and ${more} more` : ""}`);
+    if (this.goesOn(event)) return [];
+    if (kind === SEND || kind === RECV) {
+      const { sent, receipts } = trace.message(name), isLock = this.isRelease(sent);
+      if (kind === RECV) return sent > 0 ? [quiet(isLock ? "released by" : "sent by"), button(sent)] : [];
+      if (receipts.length === 0) return [quiet(isLock ? "acquired by nobody since" : "received by nobody")];
+      return [quiet(isLock ? "next acquired by" : "received by"), button(receipts[0], receipts.length - 1)];
+    }
+    if (kind !== END && kind !== JOIN) return [];
+    const { ended, joined } = trace.tasks[trace.taskPlaces.get(kind === END ? trace.taskName(event) : name)];
+    if (kind === JOIN) return ended > 0 ? [quiet("waits for"), button(ended)] : [];
+    return joined > 0 ? [quiet("waited for by"), button(joined)] : [quiet("waited for by nobody")];
   }
 
   /** Lists the edges of a chain. What follows in one task is one step. */
@@ -223,15 +253,15 @@ const Panel = (Base) => class extends Base {
     marks.append(element("li", {}, raceIcon(), "race"));
     for (const [standing, words] of STANDINGS) marks.append(element("li", {}, standingIcon(standing), words));
     const alone = [...trace.messages.values()].filter(({ sent, receipts }) => sent > 0 && receipts.length === 0 && !this.isOwn(sent));
-    const isLock = ({ sent }) => this.labels.get(sent)?.lines.some((line) => line.isLock) === true;
-    const unread = alone.filter((message) => !isLock(message)), free = alone.filter(isLock);
+    const isLock = ({ sent }) => this.isRelease(sent), unread = alone.filter((message) => !isLock(message)), free = alone.filter(isLock);
     const isOfTool = ({ name, started }) => this.own !== null && started > 0 && OWN_TASKS.has(stemOf(name));
     const open = this.tasks().filter((task) => task.ended === 0 && !this.processes.haveEnded(task.name) && !isOfTool(task));
     const sent = (message) => this.eventButton(message.sent);
     const last = (task) => this.eventButton(task.last || task.started, `${task.name}, last event`);
     section.append(this.list("unread", `Messages that nobody received: ${unread.length}`, unread, sent));
     if (free.length > 0) section.append(this.list("free", `Locks that nobody took again: ${free.length}`, free, sent, false));
-    section.append(this.list("open", `Tasks that did not end: ${open.length}`, open, last));
+    const where = this.part < this.partCount ? "Tasks that did not end in this part" : "Tasks that did not end";
+    section.append(this.list("open", `${where}: ${open.length}`, open, last));
     this.describeClocks(section);
   }
 

@@ -31,6 +31,7 @@ const Tips = (Base) => class extends Base {
     const told = lines.filter(({ words }) => words !== "").slice(0, MOST_TIPS).map(labelAndPlace);
     const more = lines.length > MOST_TIPS ? [`and ${lines.length - MOST_TIPS} more`] : [];
     const time = this.timeWords(event);
+    if (this.goesOn(event)) return [this.wordsOfBorder(event), `Event ${event}`];
     return [...told, ...more, `Event ${event}, ${deed(trace, event)}`, ...time === "" ? [] : [time]];
   }
 
