@@ -58,6 +58,23 @@ export async function races(tab) {
   assert.deepEqual([await chosen(tab), ...await pressed(tab)], ["Event 7", "false", "false"]);
   assert.ok((await tab.spokenButtons()).some((name) => name.startsWith("stock read shop.py:11, write shop.py:12 alice, bob")));
   await lineIsWhole(tab);
+  await locksAreTold(tab);
+}
+
+/** Whether a lock was held tells why it kept nothing in order. Nothing is said where the journal does not tell it of both sides. */
+async function locksAreTold(tab) {
+  const row = (event, task, kind, line, held = undefined) =>
+    ({ event, task, thing: "#1", name: "stock", kind, file: "/home/ann/shop.py", line, label: `${kind} stock`, held });
+  const lock = ["#2 lock (/home/ann/shop.py:4)"], read = row(4, "alice", "read", 11), write = row(7, "bob", "write", 12);
+  const held = async (journal) => {
+    await opened(tab, pictureOfRaces("held", LOST_UPDATE, [RACES[0]], ["--labels", file("held.journal", rows(journal))]));
+    return text(tab, "#held");
+  };
+  assert.equal(await held([{ ...read, held: lock }, write]), "alice held lock (shop.py:4), bob held no lock.");
+  assert.equal(await held([{ ...read, held: [...lock, "#1 gate"] }, { ...write, held: ["#1 door"] }]), "alice held gate, lock (shop.py:4), bob held door.");
+  for (const journal of [[read, write], [{ ...read, held: lock }], [{ ...read, held: lock }, read, write], [{ ...read, held: 7 }, { ...write, held: [7, null] }]]) {
+    assert.equal(await held(journal), "", JSON.stringify(journal));
+  }
 }
 
 /** The line that races is read as a whole, also if it is long: only those around it are scrolled. */

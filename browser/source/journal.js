@@ -33,6 +33,14 @@ function programWords(label) {
   return BARE_LABELS.has(label) ? "" : to + rest;
 }
 
+const MOST_HELD = 8;
+
+/** The locks that a row says were held, as `#2 lock (/home/x/shop.py:4)`, in few words. */
+function heldIn(row) {
+  const names = Array.isArray(row.held) ? row.held.slice(0, MOST_HELD).filter((name) => typeof name === "string") : [];
+  return names.map((name) => programWords(readable(name.replace(/^#\d+ /, "")))).sort().join(", ");
+}
+
 /** What a message carries, by the label of who sends it, or nothing where that says only that it is sent. */
 const wordsOfMessage = (label) => programWords(label).replace(/^(send|put|post) /, "");
 
@@ -50,7 +58,7 @@ function labelOf(row, events = Infinity) {
   return { event: row.event, label, words: programWords(label), kind: row.kind, isOwn: isBare || OWN_LABELS.has(label),
     name: typeof row.name === "string" ? row.name : row.thing, place: isPlaced ? `${readable(fileName(row.file))}:${row.line}` : "",
     source: isPlaced ? `${row.file}:${row.line}` : "", isTouch,
-    thing: isTouch ? row.thing : null, isLock: typeof row.lock === "string" };
+    thing: isTouch ? row.thing : null, held: heldIn(row), isLock: typeof row.lock === "string" };
 }
 
 /** The line that tells most of an event: a write before a read, and both before what looks a thing up or makes it. */

@@ -116,8 +116,23 @@ const Racing = (Base) => class extends Base {
   describeRace(section, race) {
     const { thing, made, why, sides } = race;
     section.append(element("h2", {}, `${capital(nameOfRace(race))} on ${thing}`), element("p", { id: "reason" }, `${capital(why)}.`),
-      element("ul", { id: "sides" }, ...sides.map((side) => element("li", {}, this.sideButton(side)))),
+      element("ul", { id: "sides" }, ...sides.map((side) => element("li", {}, this.sideButton(side)))), ...this.locksHeld(race),
       element("p", { className: "quiet" }, `Seen ${timesOf(race)}${made === "" ? "" : race.isDeadlock ? `, with locks ${made}` : `, on ${made}`}`));
+  }
+
+  /** Which locks each side held, if the journal tells it of both and one held some. A deadlock names them already. */
+  locksHeld({ sides, isDeadlock }) {
+    const held = isDeadlock ? [] : sides.map((side) => this.heldBy(side));
+    if (held.includes(null) || held.every((names) => names === "")) return [];
+    const words = sides.map(({ task }, place) => `${task} held ${held[place] === "" ? "no lock" : held[place]}`).join(", ");
+    return [element("p", { id: "held" }, `${words}.`)];
+  }
+
+  /** The locks that a side held, or null if the journal does not tell, or tells of several such touches with other locks. */
+  heldBy({ part, event, kind, file, line }) {
+    const lines = part === this.part ? this.labels.get(event)?.lines ?? [] : [];
+    const held = new Set(lines.filter((one) => one.isTouch && one.kind === kind && one.source === `${file}:${line}`).map((one) => one.held));
+    return held.size === 1 ? [...held][0] : null;
   }
 
   sideButton(side) {
