@@ -37,8 +37,8 @@ def _left(found: Races) -> Iterator[str]:
 def missing_sources(found: Races) -> Iterator[str]:
     """Why lines have no source, where races are listed that were kept."""
     sources = found.sources
-    named = [file for file in _files(found) if file not in sources.kept]
-    missing = [file for file in named if not os.path.isfile(sources.path(file) or file)]
+    unkept = (file for file in _files(found) if file not in sources.kept)
+    missing = [file for file in unkept if not os.path.isfile(sources.path(file) or file)]
     if missing:
         named = ", ".join(missing)
         yield f"no line of {named} is shown, as it is not here: list the races in the folder of the run to see them"
