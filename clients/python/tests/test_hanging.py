@@ -315,6 +315,17 @@ class Confirmed(ProgramCase):
         self.assertRegex(ran.stdout, r"\A::error file=[^,]+,line=5,title=itc-trace \w+::confirmed deadlock on one_lock")
         self.assertEqual([json.loads(row).get("confirmed") for row in rows.splitlines()], [None, True])
 
+    def test_the_picture_of_each_of_several_runs_says_that_it_is_confirmed(self) -> None:
+        program = self.program(LUCKY)
+        drawing, rows = (os.path.join(os.path.dirname(program), name) for name in ("draw", "rows"))
+        Path(drawing).write_text('#!/bin/sh\nfor word; do last=$word; done\ncat > /dev/null\ncat "$last"\n')
+        os.chmod(drawing, 0o700)
+        ran = run_traced("--confirm", "--runs", "2", "--no-shake", "--picture", rows, program, ITC_PICTURE=drawing)
+        self.assertEqual(ran.returncode, Verdict.RACES, ran.stderr)
+        for number in (1, 2):
+            told = Path(f"{rows}.{number}").read_text(encoding="utf-8").splitlines()
+            self.assertEqual([json.loads(row).get("confirmed") for row in told], [None, True], told)
+
     def test_without_it_the_deadlock_is_possible(self) -> None:
         ran = run_traced(self.program(LUCKY))
         self.assertEqual(ran.returncode, 0, ran.stderr)

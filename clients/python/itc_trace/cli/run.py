@@ -14,8 +14,9 @@ import sys
 import tempfile
 import time
 import warnings
-from collections.abc import Collection, Iterable, Iterator
+from collections.abc import Callable, Collection, Iterable, Iterator
 from dataclasses import dataclass, field, replace
+from functools import partial
 from pathlib import Path
 from typing import IO, Protocol
 
@@ -115,6 +116,8 @@ class Outcome:
     races: Races
     has_raised: bool
     """Whether an error of the program ended it."""
+    draw: Callable[[], str | None]
+    """Draws the picture, as long as the files of the run are there. Gives where it is."""
     picture: str | None = None
 
 
@@ -215,15 +218,15 @@ class _Tried(Protocol):
         """Those of these keys have been."""
 
 
-def _confirm(asked: Run, found: _Tried) -> None:
+def _confirm(asked: Run, found: _Tried) -> set[object]:
     """Runs the program again if a deadlock is possible, and has each task wait before its inner lock. What came of it
-    is told.
+    is told. Gives the keys of those that it met.
 
     A wait for a queue is not tried: nobody would see that it has closed.
     """
     cycles = [[one.places for one in deadlock.steps] for deadlock in found.tried]
     if not cycles or is_asked_to_end():
-        return
+        return set()
     if not asked.quiet:
         say("itc_trace: --confirm runs the program again, and holds its tasks before their inner locks")
     tried = replace(
@@ -231,10 +234,12 @@ def _confirm(asked: Run, found: _Tried) -> None:
         is_confirmed=False, looking=Looking(asked.looking.strict), label="--confirm: ",
     )
     outcome = _outcome(tried, None)
-    found.confirm(() if outcome is None else {deadlock.key for deadlock in outcome.races.deadlocks})
+    met: set[object] = set() if outcome is None else {deadlock.key for deadlock in outcome.races.deadlocks}
+    found.confirm(met)
     count = len(found.tried)
     if count and not asked.quiet:
         say(f"itc_trace: --confirm: {count} possible deadlock{'' if count == 1 else 's'} did not come about")
+    return met
 
 
 def _is_told(asked: Run, report: Report, status: int) -> bool:
@@ -262,14 +267,23 @@ def _kept(asked: Run, report: Report, status: int, is_delivered: bool) -> int:
 
 def _run_often(asked: Run) -> int:
     """Runs it several times, and tells what was found in all of them together."""
+    with contextlib.closing(contextlib.ExitStack()) as files:
+        return _run_each(asked, files)
+
+
+def _run_each(asked: Run, files: contextlib.ExitStack) -> int:
+    """The files of the runs go with the stack, if pictures of them are drawn again."""
     merged, begun = Merged(), time.monotonic()
+    drawn: list[Outcome] | None = [] if asked.is_confirmed and asked.picture is not None else None
     first_seed = random.SystemRandom().randrange(MOST_SEED) if asked.seed is None else asked.seed
     for number in range(1, asked.runs + 1):
         is_shaken = asked.seed is not None or asked.is_shaken and number > 1
         seed = (first_seed + number - 1) % MOST_SEED if is_shaken else None
-        outcome = _outcome(asked.of(number), seed)
+        outcome = _outcome(asked.of(number), seed, None if drawn is None else files)
         if outcome is None:
             return WORDS_REFUSED
+        if drawn is not None:
+            drawn.append(outcome)
         merged.add(outcome.races, outcome.status, seed)
         if not asked.quiet:
             left = left_in_words(time.monotonic() - begun, number, asked.runs) if is_at_terminal(sys.stderr) else ""
@@ -277,9 +291,17 @@ def _run_often(asked: Run) -> int:
         if is_asked_to_end():
             break
     if asked.is_confirmed:
-        _confirm(asked, merged)
+        _draw_confirmed(drawn or (), _confirm(asked, merged))
     report = merged.report(asked.looking, asked.fail_on_possible)
     return _kept(asked, report, merged.status, _tell(asked, report, merged.status))
+
+
+def _draw_confirmed(outcomes: Iterable[Outcome], met: set[object]) -> None:
+    """Draws the runs anew in which a deadlock of these keys was possible only."""
+    for outcome in outcomes:
+        if any(deadlock.key in met for deadlock in outcome.races.possible_deadlocks):
+            outcome.races.confirm(met)
+            outcome.draw()
 
 
 def _size_in_words(journal: str) -> str:
@@ -294,9 +316,13 @@ def _by_seed(seed: int | None) -> str:
     return "" if seed is None else f" (--shake={seed})"
 
 
-def _outcome(asked: Run, seed: int | None) -> Outcome | None:
-    """What became of one run. None where the program could not be started, which was told."""
-    with tempfile.TemporaryDirectory(prefix="itc_trace_") as work, _collectors(asked) as collectors:
+def _outcome(asked: Run, seed: int | None, files: contextlib.ExitStack | None = None) -> Outcome | None:
+    """What became of one run. None where the program could not be started, which was told.
+
+    Its files go at once, or with the stack that is given.
+    """
+    with contextlib.closing(contextlib.ExitStack()) as own, _collectors(asked) as collectors:
+        work = (own if files is None else files).enter_context(tempfile.TemporaryDirectory(prefix="itc_trace_"))
         journal = asked.journal or (f"{asked.export}.journal" if asked.export else os.path.join(work, "journal"))
         Path(journal).write_bytes(b"")
         with ticking(None if asked.quiet else sys.stderr, lambda: f"{asked.label}{_size_in_words(journal)}"):
@@ -328,10 +354,13 @@ def _outcome(asked: Run, seed: int | None) -> Outcome | None:
         if asked.is_confirmed and asked.runs == 1:
             _confirm(asked, races)
         if is_divided:
-            picture = draw_parts(parts, asked.picture, races, _name_of(asked))
+            drawing = partial(draw_parts, parts, asked.picture, races, _name_of(asked))
+            is_kept = True
         else:
-            picture = _keep(asked, port, journal, work, races)
-        return Outcome(child.status, races, child.told == RAISED, picture)
+            export = asked.export or os.path.join(work, "export")
+            drawing = partial(_draw_whole, asked, export, journal, races)
+            is_kept = _keep(asked, port, export, races)
+        return Outcome(child.status, races, child.told == RAISED, drawing, drawing() if is_kept else None)
 
 
 def _opened(journal: str) -> IO[str]:
@@ -397,19 +426,23 @@ def environment_of_package() -> dict[str, str]:
     return environment
 
 
-def _keep(asked: Run, port: int, journal: str, work: str, races: Races) -> str | None:
-    """Writes the export and the picture, where they are asked for. Gives where the picture is."""
+def _keep(asked: Run, port: int, export: str, races: Races) -> bool:
+    """Writes the export if it or a picture is asked for. Gives whether it did."""
     if asked.export is None and asked.picture is None:
-        return None
-    export = asked.export or os.path.join(work, "export")
+        return False
     try:
         with replacing(export) as new, open(new, "w", encoding="ascii", newline="\n") as output:
             snapshot(asked.tenant, port, output, asked.host)
-        words = ["--labels", journal, *titled(_name_of(asked))]
-        return asked.picture if asked.picture is not None and draw(export, words, asked.picture, races) else None
     except (OSError, Refused) as fault:  # The collector is gone, say.
         races.unseen.append(Unseen(Cause.COLLECTOR, f"the trace cannot be kept ({fault})"))
-        return None
+        return False
+    return True
+
+
+def _draw_whole(asked: Run, export: str, journal: str, races: Races) -> str | None:
+    """Draws a run that is not divided, if a picture is asked for. Gives where the picture is."""
+    words = ["--labels", journal, *titled(_name_of(asked))]
+    return asked.picture if asked.picture is not None and draw(export, words, asked.picture, races) else None
 
 
 def _name_of(asked: Run) -> str:
@@ -429,6 +462,10 @@ def draw_parts(parts: str | None, picture: str | None, races: Races, name: str) 
     return picture if draw(os.devnull, ["--parts", parts, *titled(name)], picture, races) else None
 
 
+class _NotDrawn(Exception):
+    """Why there is no page."""
+
+
 def draw(export: str, about: list[str], picture: str, races: Races) -> bool:
     """Draws the trace with its races, and what the words name beside. Gives whether it did."""
     command = os.environ.get("ITC_PICTURE") or find_in_repository("picture")
@@ -440,14 +477,10 @@ def draw(export: str, about: list[str], picture: str, races: Races) -> bool:
             rows.write(race_rows(report_of(races)))
             rows.flush()
             _draw_page(export, [command, *about, "--races", rows.name], new)
-    except _NotDrawn as fault:
-        say(f"itc_trace: no picture: {fault}")
+    except (_NotDrawn, OSError) as fault:
+        say(f"itc_trace: no picture: {getattr(fault, 'strerror', None) or fault}")
         return False
     return True
-
-
-class _NotDrawn(Exception):
-    """Why there is no page."""
 
 
 def _draw_page(export: str, words: list[str], file: str) -> None:
