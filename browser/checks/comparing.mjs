@@ -22,7 +22,7 @@ export async function beside(tab) {
   const fixed = exportOf([...WITH_LOCK, "spawn root dave", "local dave"]);
   await pickedBeside(tab, file("fixed.export", fixed), () => page.beside.verdict.startsWith("Checked"));
   assert.deepEqual([await text(tab, "#aboutBeside h2"), await text(tab, "#besideVerdict"), await text(tab, "#besideWords")],
-    ["Beside: fixed.export", "11 events. Checked: 11 lines, all right.", "Event 5 happened before event 9."]);
+    ["Beside: fixed.export", "11 events. Checked: 11 lines of the export, all right.", "Event 5 happened before event 9."]);
   const lanes = await tab.run(() => [[page.trace, page.view], [page.beside.trace, page.beside.view]].map(([trace, { layout }]) =>
     trace.tasks.map(({ name }, place) => `${name} ${layout.laneOf[place]}`)));
   assert.deepEqual(lanes, [["root 0", "alice 1", "bob 2", "carol 3"], ["root 0", "alice 1", "bob 2", "dave 4"]]);

@@ -47,7 +47,7 @@ export async function opening(tab) {
   await tab.open(TEMPLATE);
   assert.equal(await notice(tab), "No export is open.");
   await picked(tab, file("lost.export", lost));
-  assert.equal(await notice(tab), "lost.export: 11 events, 3 tasks, 0 messages, 12 edges. Checked: 11 lines, all right.");
+  assert.equal(await notice(tab), "lost.export: 11 events, 3 tasks, 0 messages, 12 edges. Checked: 11 lines of the export, all right.");
   await picked(tab, file("wrong.export", wrong));
   assert.match(await notice(tab), /^wrong\.export: no 8 6\. Line 8 is faulty, reason 6: The trees of this event and of an earlier one /);
   await picked(tab, file("cut.export", lost.subarray(0, 300)));
@@ -71,7 +71,7 @@ async function isNobodyInvited() {
 export async function versions(tab) {
   const whole = exportOf(LOST_UPDATE), behind = whole.indexOf(10) + 1;
   const limits = "Limits: 16384 events, 2048 tasks, 16384 messages.";
-  const counts = "11 events, 3 tasks, 0 messages, 12 edges. Checked: 11 lines, all right.";
+  const counts = "11 events, 3 tasks, 0 messages, 12 edges. Checked: 11 lines of the export, all right.";
   const cases = [[whole, counts, "Tenant x", limits], [whole.subarray(behind), counts, "", ""]];
   for (const [bytes, told, ...about] of cases) {
     await opened(tab, pictureOf("version.html", bytes));
@@ -127,7 +127,7 @@ function refusals(lost) {
 /** Words that mean something elsewhere are names. */
 export async function names(tab) {
   await opened(tab, pictureOf("names.html", exportOf(NAMES)));
-  assert.match(await notice(tab), /^15 events, 5 tasks, 4 messages, .* Checked: 15 lines, all right\.$/);
+  assert.match(await notice(tab), /^15 events, 5 tasks, 4 messages, .* Checked: 15 lines of the export, all right\.$/);
   assert.deepEqual(await tab.run(() => page.tasks().map(({ name }) => name)), ["root", "__proto__", "constructor", "local", "7"]);
   const found = new Map([["__proto__", [2, 7, 8]], ["constructor", [5]], ["toString", [5, 6]], ["hasOwnProperty", [9]],
     ["local", [6]], ["7", [7, 7]], ["1", [1, 13]]]);
@@ -141,7 +141,7 @@ export async function names(tab) {
 export async function hostileText(tab) {
   const json = JSON.stringify(HOSTILE).slice(1, -1);
   await opened(tab, pictureOf("hostile.html", LINE.replace("{", `{"task":"${json}",`)));
-  assert.match(await notice(tab), /^1 event, 1 task, .* Checked: 1 line, all right\.$/);
+  assert.match(await notice(tab), /^1 event, 1 task, .* Checked: 1 line of the export, all right\.$/);
   const scripts = await tab.run(() => document.querySelectorAll("script").length);
   await picked(tab, file("<img src=x onerror=alert(1)>.export", LINE.replace("root", json)));
   assert.match(await notice(tab), /^<img src=x onerror=alert\(1\)>\.export: no 1 2\./);

@@ -61,7 +61,7 @@ export async function worker(tab) {
       return { verdict: page.verdict, bar: bar.hidden, text: progress.textContent };
     });
     assert.deepEqual([meanwhile.verdict, meanwhile.bar], [null, false]);
-    assert.match(meanwhile.text, /^Not yet checked: \d+ of 3000 lines compared\.$/);
+    assert.match(meanwhile.text, /^Still being checked: \d+ of 3000 lines of the export\.$/);
     await tab.run(() => page.view.zoom(2));
     await tab.until(() => page.verdict !== null);
     assert.equal(await tab.run(() => page.verdict), verdictOf(bytes), name);

@@ -46,7 +46,7 @@ export async function svg(tab) {
   assert.ok(texts.some((text) => text.startsWith(`4 read ${told.slice(0, 30)}`)), texts.join());
   assert.equal(rect, onCanvas.counts.rect);
   assert.ok(path > 12 && path <= onCanvas.counts.path, `${path} of ${onCanvas.counts.path}`);
-  assert.equal(said, "11 events, 3 tasks, 0 messages, 12 edges. Checked: 11 lines, all right. "
+  assert.equal(said, "11 events, 3 tasks, 0 messages, 12 edges. Checked: 11 lines of the export, all right. "
     + "Event 4 and event 7 are concurrent: nothing kept them in order. Nothing is hidden.");
   assert.ok(saved.includes('stroke-dasharray="7 5"') && saved.includes("#b00020"), "the pair is marked");
   assert.equal(await tab.run(() => window.wasRead ?? "nothing"), "nothing");

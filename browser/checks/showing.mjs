@@ -9,7 +9,7 @@ const upTo = (most) => Array.from({ length: most }, (_, place) => place + 1);
 export async function workedExport(tab) {
   await opened(tab, inWork("worked.html"));
   assert.deepEqual(await tab.run(() => [page.view.layout.lanes, page.trace.events, page.trace.edges]), [2, 8, 9]);
-  assert.equal(await notice(tab), "8 events, 2 tasks, 1 message, 9 edges. Checked: 8 lines, all right.");
+  assert.equal(await notice(tab), "8 events, 2 tasks, 1 message, 9 edges. Checked: 8 lines of the export, all right.");
   await marksAndLines(tab);
   await names(tab);
   const events = upTo(8), past = lists(WORKED, "past", events), concurrent = lists(WORKED, "concurrent", events);
@@ -177,7 +177,7 @@ async function orderOfPairs(tab, reports, pairs) {
 /** A message that three receive has an arrow to each of them, and is not among those that nobody received. */
 export async function topic(tab) {
   await opened(tab, pictureOf("topic.html", exportOf(TOPIC)));
-  assert.equal(await notice(tab), "16 events, 5 tasks, 3 messages, 19 edges. Checked: 16 lines, all right.");
+  assert.equal(await notice(tab), "16 events, 5 tasks, 3 messages, 19 edges. Checked: 16 lines of the export, all right.");
   const heads = await tab.run(() => {
     const { view } = page, shown = [];
     view.addHead = (edge) => shown.push(`${view.layout.trace.nameOf[view.layout.edgeEvents[edge]]} ${view.layout.edgeEvents[edge]}`);

@@ -22,7 +22,7 @@ function headerWords({ tenant, events, tasks, messages }) {
 }
 
 /** Says of an export that each line of it was found right. */
-const checkedWords = ({ events }) => `Checked: ${counted(events, "line")}, all right.`;
+const checkedWords = ({ events }) => `Checked: ${counted(events, "line")} of the export, all right.`;
 
 /** The answer to an export with this fault, and what it means. */
 const wordsOfFault = ({ line, reason }) => `no ${line} ${reason}. Line ${line} is faulty, reason ${reason}: ${REASONS[reason]}`;

@@ -82,7 +82,7 @@ const Opening = (Base) => class extends Base {
     const isEmpty = trace.fault === null && trace.events === 0;
     const checked = verdict === null ? "" : ` ${checkedWords(trace)}`;
     const words = isEmpty ? "the export has no event, so nothing is drawn." : isFaulty ? this.faultWords() : this.countWords() + checked;
-    const progress = verdict === null ? `Not yet checked: ${this.compared} of ${trace.events} lines compared.` : "";
+    const progress = verdict === null ? `Still being checked: ${this.compared} of ${trace.events} lines of the export.` : "";
     if (verdict !== null && fault !== null && this.isShown) at("title").classList.add("racy");
     tell(name === "" ? words[0].toUpperCase() + words.slice(1) : `${name}: ${words}`, progress, this.compared / Math.max(1, trace.events));
     at("notice").classList.toggle("faulty", isFaulty);
