@@ -70,8 +70,8 @@ async function locksAreTold(tab) {
     await opened(tab, pictureOfRaces("held", LOST_UPDATE, [RACES[0]], ["--labels", file("held.journal", rows(journal))]));
     return text(tab, "#held");
   };
-  assert.equal(await held([{ ...read, held: lock }, write]), "alice held lock (shop.py:4), bob held no lock.");
-  assert.equal(await held([{ ...read, held: [...lock, "#1 gate"] }, { ...write, held: ["#1 door"] }]), "alice held gate, lock (shop.py:4), bob held door.");
+  assert.equal(await held([{ ...read, held: lock }, write]), "alice held lock (shop.py:4); bob held no lock.");
+  assert.equal(await held([{ ...read, held: [...lock, "#1 gate"] }, { ...write, held: ["#1 door"] }]), "alice held gate, lock (shop.py:4); bob held door.");
   for (const journal of [[read, write], [{ ...read, held: lock }], [{ ...read, held: lock }, read, write], [{ ...read, held: 7 }, { ...write, held: [7, null] }]]) {
     assert.equal(await held(journal), "", JSON.stringify(journal));
   }

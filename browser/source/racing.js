@@ -124,7 +124,7 @@ const Racing = (Base) => class extends Base {
   locksHeld({ sides, isDeadlock }) {
     const held = isDeadlock ? [] : sides.map((side) => this.heldBy(side));
     if (held.includes(null) || held.every((names) => names === "")) return [];
-    const words = sides.map(({ task }, place) => `${task} held ${held[place] === "" ? "no lock" : held[place]}`).join(", ");
+    const words = sides.map(({ task }, place) => `${task} held ${held[place] === "" ? "no lock" : held[place]}`).join("; ");
     return [element("p", { id: "held" }, `${words}.`)];
   }
 
