@@ -8,9 +8,11 @@ from typing import Any, TypeVar
 
 Made = TypeVar("Made", bound=ast.AST)
 Place = dict[str, Any]
-AST, Call, Constant, Name = ast.AST, ast.Call, ast.Constant, ast.Name
+Call, Constant, If, Name = ast.Call, ast.Constant, ast.If, ast.Name
 LOAD = ast.Load()
-_new = AST.__new__
+VALUES = frozenset((int, str, tuple))
+"""The types of what becomes a constant."""
+_new = ast.AST.__new__
 
 
 def new_node(kind: type[Made], parts: dict[str, Any]) -> Made:
@@ -27,12 +29,21 @@ def copied(node: Made) -> Made:
     return made
 
 
+def with_ends(tree: ast.Module) -> None:
+    """Has each node that has a place tell where it ends, even if that is not known."""
+    for node in ast.walk(tree):
+        names = node.__dict__
+        if "lineno" in names:
+            names.setdefault("end_lineno", None)
+            names.setdefault("end_col_offset", None)
+
+
 def place_of(node: Any) -> Place:
     """Where a node stands. The end may not be known."""
     place = node.__dict__
     return {
-        "lineno": place["lineno"], "col_offset": place["col_offset"], "end_lineno": place.get("end_lineno"),
-        "end_col_offset": place.get("end_col_offset"),
+        "lineno": place["lineno"], "col_offset": place["col_offset"], "end_lineno": place["end_lineno"],
+        "end_col_offset": place["end_col_offset"],
     }
 
 
@@ -42,7 +53,7 @@ def name_at(node: Any, name: str) -> ast.Name:
     made = _new(Name)
     made.__dict__ = {
         "id": name, "ctx": LOAD, "lineno": place["lineno"], "col_offset": place["col_offset"],
-        "end_lineno": place.get("end_lineno"), "end_col_offset": place.get("end_col_offset"),
+        "end_lineno": place["end_lineno"], "end_col_offset": place["end_col_offset"],
     }
     return made
 
@@ -54,10 +65,10 @@ def call_of(name: str, words: tuple[Any, ...], node: Any) -> ast.Call:
     """
     place = node.__dict__
     line, column = place["lineno"], place["col_offset"]
-    last_line, last_column = place.get("end_lineno"), place.get("end_col_offset")
+    last_line, last_column = place["end_lineno"], place["end_col_offset"]
     given = []
     for word in words:
-        if not isinstance(word, AST):
+        if type(word) in VALUES:
             constant = _new(Constant)
             constant.__dict__ = {
                 "value": word, "lineno": line, "col_offset": column, "end_lineno": last_line,
@@ -79,7 +90,18 @@ def call_of(name: str, words: tuple[Any, ...], node: Any) -> ast.Call:
 
 
 def as_statement(expression: ast.expr, node: Any) -> ast.Expr:
-    return at(node, ast.Expr(expression))
+    return new_node(ast.Expr, {"value": expression, **place_of(node)})
+
+
+def chosen(test: ast.expr, body: list[ast.stmt], otherwise: list[ast.stmt], node: Any) -> ast.If:
+    """The statements of which one list runs, at the place of a node."""
+    place = node.__dict__
+    made = _new(If)
+    made.__dict__ = {
+        "test": test, "body": body, "orelse": otherwise, "lineno": place["lineno"], "col_offset": place["col_offset"],
+        "end_lineno": place["end_lineno"], "end_col_offset": place["end_col_offset"],
+    }
+    return made
 
 
 def at(node: Any, made: Made) -> Made:
@@ -88,8 +110,7 @@ def at(node: Any, made: Made) -> Made:
     if "lineno" not in names:
         place = node.__dict__
         names["lineno"], names["col_offset"] = place["lineno"], place["col_offset"]
-        if "end_lineno" in place:
-            names["end_lineno"], names["end_col_offset"] = place["end_lineno"], place["end_col_offset"]
+        names["end_lineno"], names["end_col_offset"] = place["end_lineno"], place["end_col_offset"]
     return made
 
 

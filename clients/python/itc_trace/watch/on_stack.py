@@ -97,13 +97,18 @@ def form_of_argument(kept: int, hooked: int) -> str:
 
 def with_copies(code: CodeType) -> CodeType:
     """The code with instructions that copy where constants stand for them, and so all code within it."""
-    made = tuple([with_copies(one) if type(one) is CodeType else one for one in code.co_consts])
-    depths = {place: one[1] for place, one in enumerate(made) if type(one) is tuple and one[:1] == (MARK,)}
+    made = [*code.co_consts]
+    depths: dict[int, int] = {}
+    is_changed = False
+    for place, one in enumerate(code.co_consts):
+        if type(one) is CodeType:
+            made[place] = with_copies(one)
+            is_changed = is_changed or made[place] is not one
+        elif type(one) is tuple and one[:1] == (MARK,):
+            depths[place], made[place] = one[1], None
     if depths:
-        plain = tuple([None if place in depths else one for place, one in enumerate(made)])
-        return code.replace(co_code=_copying(code.co_code, depths), co_consts=plain)
-    is_changed = any([one is not other for one, other in zip(made, code.co_consts)])
-    return code.replace(co_consts=made) if is_changed else code
+        return code.replace(co_code=_copying(code.co_code, depths), co_consts=tuple(made))
+    return code.replace(co_consts=tuple(made)) if is_changed else code
 
 
 def _copying(code: bytes, depths: dict[int, int]) -> bytes:

@@ -110,7 +110,7 @@ _BY_CODE = frozenset((
     "__class__", "__bases__", "__code__", "__defaults__", "__kwdefaults__", "__closure__", "__del__", "__match_args__",
 ))
 """Attributes that the interpreter looks at by itself."""
-_PAST_HOOKS = frozenset((
+PAST_HOOKS = frozenset((
     "cell_contents", "__globals__", "f_globals", "f_locals", "f_builtins", "__builtins__", "__set__", "__delete__",
 ))
 """Attributes by which variables and fields are reached past all hooks."""
@@ -128,9 +128,9 @@ def look_at_attribute(
 
     So it is with another method that the language calls by itself, and with what goes past all hooks.
     """
-    is_stored, name = not isinstance(node.ctx, ast.Load), node.attr
+    is_stored, name = type(node.ctx) is not ast.Load, node.attr
     is_replaced = is_in_function and (_is_special(name) or of == "builtins")
-    if is_stored and (name == "__dict__" or is_replaced) or name in _PAST_HOOKS and not is_of_base:
+    if is_stored and (name == "__dict__" or is_replaced) or name in PAST_HOOKS and not is_of_base:
         learned.passed_over.append((name, node.lineno))
 
 

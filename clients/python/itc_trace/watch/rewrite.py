@@ -21,12 +21,13 @@ from .kinds import (
 )
 from .patterns import Patterns
 from .learned import Learned
-from .nodes import as_statement, at, call_of, compiled, copied, name_at, new_node, place_of
+from .nodes import LOAD, as_statement, at, call_of, chosen, compiled, copied, name_at, new_node, place_of, with_ends
 from .places import DELETED, LOOPS, MADE_HERE, OF_BASE, OF_OTHERS, STATE_OF_PROCESS
 from .placing import placed
 from .process_state import CHANGED_STATE, LEVEL, LEVELS, PRINTED, touched_by
 from .scopes import (
-    CLASS, COMPREHENSION, DELEGATING, FUNCTION, LATE, MODULE, OF_EXCEPTIONS, SCOPED, Scope, Scopes, fields_of,
+    CLASS, COMPREHENSION, DELEGATING, FIELDS, FUNCTION, LATE, MODULE, OF_EXCEPTIONS, SCOPED, Scope, Scopes,
+    arguments_of,
 )
 from .templates import field_paths
 
@@ -63,6 +64,7 @@ OF_OBJECT = {"__getattribute__": "r", "__setattr__": "w", "__delattr__": "w"}
 """Methods of `object` that do the same for a class with methods of its own."""
 WORDS_OF_OBJECT = {"__getattribute__": 1, "__setattr__": 2, "__delattr__": 1}
 """What each is given behind the object. If the class is named in front of it, the object comes first."""
+OF_METHODS = frozenset(("self", "cls"))
 TAKING = frozenset(("get", "setdefault"))
 TEMPLATES = frozenset(("substitute", "safe_substitute"))
 MAKERS_OF_MODULES = frozenset("deque defaultdict OrderedDict Counter StringIO BytesIO".split())
@@ -83,17 +85,17 @@ GIVERS = frozenset("getattr next vars globals max min iter reversed".split())
 CONTAINER_CLASSES = frozenset(
     f"collections.{name}" for name in "deque defaultdict OrderedDict Counter UserDict UserList".split()
 )
-DISPLAYS = (ast.Dict, ast.List, ast.Set, ast.DictComp, ast.ListComp, ast.SetComp)
+DISPLAYS = frozenset((ast.Dict, ast.List, ast.Set, ast.DictComp, ast.ListComp, ast.SetComp))
+ROWS = frozenset((ast.Tuple, ast.List))
 VIEWS = frozenset(("items", "keys", "values"))
-PARTS = (ast.Starred,)
-REACHED = (ast.Name, ast.Attribute, ast.Subscript)
-GIVEN = (*REACHED, ast.Call, ast.IfExp, ast.BoolOp, ast.NamedExpr, ast.Await)
+REACHED = frozenset((ast.Name, ast.Attribute, ast.Subscript))
+GIVEN = REACHED | {ast.Call, ast.IfExp, ast.BoolOp, ast.NamedExpr, ast.Await}
 """What may give something that others can reach."""
-GIVEN_OR_STARRED = (*GIVEN, ast.Starred)
-SHOWN_ARGUMENTS = (*GIVEN, ast.List, ast.Tuple, ast.Dict)
-COMPARED_AS_A_WHOLE = (*DISPLAYS, ast.Tuple)
-ASKED_FOR_TRUTH = (*REACHED, ast.Call, ast.NamedExpr)
-JOINING = (ast.Add, ast.Sub, ast.BitOr, ast.BitAnd, ast.BitXor)
+GIVEN_OR_STARRED = GIVEN | {ast.Starred}
+SHOWN_ARGUMENTS = GIVEN | {ast.List, ast.Tuple, ast.Dict}
+COMPARED_AS_A_WHOLE = DISPLAYS | {ast.Tuple}
+ASKED_FOR_TRUTH = REACHED | {ast.Call, ast.NamedExpr}
+JOINING = frozenset((ast.Add, ast.Sub, ast.BitOr, ast.BitAnd, ast.BitXor))
 """Operators that make a container of two others."""
 NUMBERS = (int, float, complex)
 IN_PLACE: dict[type[ast.operator], str] = {
@@ -120,36 +122,40 @@ def written(
     tree = ast.parse(source, file)
     if prepare is not None:
         prepare(tree, source if isinstance(source, bytes) else source.encode(), file)
+        with_ends(tree)
     return on_stack.with_copies(compiled(Rewriter(Scopes(tree, learned), file).module(tree), file))
 
 
 def _is_new(value: Any) -> bool:
     """Whether the expression makes a container."""
-    if not isinstance(value, ast.Call):
-        return isinstance(value, DISPLAYS)
+    if type(value) is not ast.Call:
+        return type(value) in DISPLAYS
     func = value.func
-    if isinstance(func, ast.Attribute):
+    if type(func) is ast.Attribute:
         return func.attr in MAKERS_OF_MODULES
-    return isinstance(func, ast.Name) and func.id in MAKERS
+    return type(func) is ast.Name and func.id in MAKERS
 
 
 def _is_super(node: Any) -> bool:
-    return isinstance(node, ast.Call) and isinstance(node.func, ast.Name) and node.func.id == "super" and not node.args
+    return type(node) is ast.Call and type(node.func) is ast.Name and node.func.id == "super" and not node.args
 
 
 def _makes(node: ast.Assign) -> bool:
+    if type(node.value) is not ast.Tuple:
+        return _is_new(node.value) and type(node.targets[0]) in REACHED
     pairs = _pairs_of(node) or [(node.targets[0], node.value)]
-    return any(isinstance(target, REACHED) and _is_new(value) for target, value in pairs)
+    return any(type(target) in REACHED and _is_new(value) for target, value in pairs)
 
 
 def _pairs_of(node: ast.Assign) -> list[tuple[Any, Any]]:
     """The targets and the values of an assignment of several at once, as `a, b = [], {}`. None of another one."""
-    target, value = node.targets[0], node.value
+    target: Any = node.targets[0]
+    value = node.value
     if type(value) is not ast.Tuple:
         return []
-    is_paired = isinstance(target, (ast.Tuple, ast.List)) and len(target.elts) == len(value.elts)
-    pairs = [*zip(target.elts, value.elts)] if is_paired else []  # type: ignore[attr-defined]
-    return [] if any(isinstance(one, ast.Starred) for pair in pairs for one in pair) else pairs
+    is_paired = type(target) in ROWS and len(target.elts) == len(value.elts)
+    pairs = [*zip(target.elts, value.elts)] if is_paired else []
+    return [] if any(type(one) is ast.Starred for pair in pairs for one in pair) else pairs
 
 
 class Rewriter:
@@ -248,21 +254,21 @@ class Rewriter:
         """
         visit = visit or self._visit
         before = self._is_guarding, self._hooks
-        is_whole = not node.inside & SCOPED and not isinstance(node, PARTS)
+        is_whole = not node.inside & SCOPED and type(node) is not ast.Starred
         self._is_guarding = not is_whole
         made = visit(node)
         self._is_guarding = before[0]
-        if not is_whole or self._hooks == before[1] or not isinstance(getattr(node, "ctx", ast.Load()), ast.Load):
+        if not is_whole or self._hooks == before[1] or type(getattr(node, "ctx", LOAD)) is not ast.Load:
             return made
         return self._choice(made, node)
 
     # Names
 
     def _mangled(self, name: str) -> str:
-        owner = self._scope.class_name
-        if owner is None or not name.startswith("__") or name.endswith("__"):
+        if not name.startswith("__") or name.endswith("__"):
             return name
-        return f"_{owner.lstrip('_')}{name}"
+        owner = self._scope.class_name
+        return name if owner is None else f"_{owner.lstrip('_')}{name}"
 
     def _is_shared(self, name: str) -> bool:
         known = self._scope.shared.get(name)
@@ -283,9 +289,9 @@ class Rewriter:
 
     def _is_simple(self, node: Any) -> bool:
         """Whether it may be looked at twice, and gives the same without any code of the program."""
-        if isinstance(node, ast.UnaryOp) and isinstance(node.op, ast.USub):
+        if type(node) is ast.UnaryOp and type(node.op) is ast.USub:
             node = node.operand
-        return isinstance(node, ast.Constant) or isinstance(node, ast.Name)
+        return type(node) is ast.Constant or type(node) is ast.Name
 
     def _import_of(self, node: Any) -> str | None:
         """The dotted name of what is imported and not bound to anything else.
@@ -303,7 +309,7 @@ class Rewriter:
         known = self._scope.dotted.get(node.id)
         if known is None:
             owner = self._scope.owner(node.id)
-            is_import = node.id in owner.imported and owner.bound[node.id] == 1
+            is_import = node.id in owner.imported and owner.bound.get(node.id) == 1
             known = self._scope.dotted[node.id] = owner.imported[node.id] if is_import else ""
         return known + fields if known else None
 
@@ -313,7 +319,9 @@ class Rewriter:
         if kind is ast.Name:
             known = self._scope.foreign.get(node.id)
             if known is None:
-                known = self._scope.foreign[node.id] = self._is_builtin(node.id) or self._is_of_foreign_module(node)
+                is_import = node.id in self._scope.owner(node.id).imported
+                is_foreign = self._is_builtin(node.id) or is_import and self._is_of_foreign_module(node)
+                known = self._scope.foreign[node.id] = is_foreign
             return known
         if kind is ast.Attribute:
             return self._is_of_foreign_module(node)
@@ -327,29 +335,29 @@ class Rewriter:
         """The same of what is looked at as a container, which a module of the library may well have."""
         if not self._is_foreign(node):
             return False
-        return not isinstance(node, ast.Attribute) and self._import_of(node) not in OF_SYSTEM
+        return type(node) is not ast.Attribute and self._import_of(node) not in OF_SYSTEM
 
     def _is_builtin(self, name: str) -> bool:
         known = self._scope.builtin.get(name)
         if known is None:
             owner = self._scope.owner(name)
-            is_free = owner.kind == MODULE and not owner.bound[name]
+            is_free = owner.kind is MODULE and name not in owner.bound
             known = self._scope.builtin[name] = is_free and self._learned.is_builtin(name)
         return known
 
     def _text(self, node: Any) -> str:
         """How a person would write it, in short. `self` is known by its class."""
-        if isinstance(node, ast.Name):
-            owner = self._scope.class_name
-            return owner if node.id in ("self", "cls") and owner is not None else node.id
-        if isinstance(node, ast.Attribute):
+        kind = type(node)
+        if kind is ast.Name:
+            return (self._scope.class_name if node.id in OF_METHODS else None) or node.id
+        if kind is ast.Attribute:
             return f"{self._text(node.value)}.{node.attr}"
-        if isinstance(node, ast.Subscript):
-            inside = repr(node.slice.value) if isinstance(node.slice, ast.Constant) else ".."
+        if kind is ast.Subscript:
+            inside = repr(node.slice.value) if type(node.slice) is ast.Constant else ".."
             return f"{self._text(node.value)}[{inside}]"
-        func = node.func if isinstance(node, ast.Call) else None
-        if isinstance(func, ast.Attribute) and func.attr in TAKING and node.args:
-            inside = repr(node.args[0].value) if isinstance(node.args[0], ast.Constant) else ".."
+        func = node.func if kind is ast.Call else None
+        if type(func) is ast.Attribute and func.attr in TAKING and node.args:
+            inside = repr(node.args[0].value) if type(node.args[0]) is ast.Constant else ".."
             whole = self._text(func.value)
             return f"{whole}[{inside}]" if whole else ""
         return ""
@@ -371,7 +379,7 @@ class Rewriter:
         if kind is ast.Attribute and type(target.value) is ast.Name:
             return
         for one in [target] if kind is ast.Name else ast.walk(target):
-            if isinstance(one, ast.Name) and not isinstance(one.ctx, ast.Load) and self._is_shared(one.id):
+            if type(one) is ast.Name and type(one.ctx) is not ast.Load and self._is_shared(one.id):
                 yield one
 
     def _stores(self, targets: list[Any], node: Any, kinds: str = "w") -> list[ast.stmt]:
@@ -387,7 +395,7 @@ class Rewriter:
         return self._only_on(made, node)
 
     def _only_on(self, statements: list[ast.stmt], node: ast.AST) -> list[ast.stmt]:
-        return [at(node, ast.If(self._is_on(node), statements, []))] if statements else []
+        return [chosen(self._is_on(node), statements, [], node)] if statements else []
 
     # Statements
 
@@ -396,12 +404,10 @@ class Rewriter:
 
     def _statement(self, node: Any) -> list[ast.stmt]:
         kind = type(node)
-        compound = _COMPOUND.get(kind)
-        if compound is not None:
-            return compound(self, node)
         simple = _SIMPLE.get(kind)
         if simple is None:
-            return [node]
+            compound = _COMPOUND.get(kind)
+            return [node] if compound is None else compound(self, node)
         before_hooks, self._before, self._after = self._hooks, [], []
         is_twice = not node.inside & SCOPED and kind is not ast.AnnAssign and not (kind is ast.Assign and _makes(node))
         self._is_guarding = not is_twice
@@ -410,12 +416,12 @@ class Rewriter:
         if self._hooks == before_hooks:
             return [node]
         if is_twice:
-            return [at(node, ast.If(self._is_on(node), [*self._before, made, *self._after], [node]))]
+            return [chosen(self._is_on(node), [*self._before, made, *self._after], [node], node)]
         return [*self._only_on(self._before, node), made, *self._only_on(self._after, node)]
 
     def _do_Import(self, node: Any) -> list[ast.stmt]:
         passed_over.look_at_import(node, self._learned)
-        if isinstance(node, ast.ImportFrom) and node.module == "__future__":
+        if type(node) is ast.ImportFrom and node.module == "__future__":
             return [node]  # No other statement may stand before the next one of these.
         return [node, *self._stored([one.asname or one.name.partition(".")[0] for one in node.names], node)]
 
@@ -431,19 +437,18 @@ class Rewriter:
 
     def _simple_Assign(self, node: ast.Assign) -> ast.stmt:
         pairs = _pairs_of(node)
-        if any(_is_new(value) for _, value in pairs):
+        if pairs and any(_is_new(value) for _, value in pairs):
             values: Any = copied(node.value)
             values.elts = [self._made_or_visited(value, target) for target, value in pairs]
             node.value = values
             self._store_targets(node)
             return node
         node.value = self._made(node.value, node.targets[0])
-        if any(isinstance(target, (ast.Tuple, ast.List)) or _is_slice(target) for target in node.targets):
-            node.value = node.value if _is_hook(node.value) else self._whole(node.value, KEYS)
-        else:
-            node.value = node.value if _is_hook(node.value) else self._child(node.value)
+        if not _is_hook(node.value):
+            is_apart = any([type(target) in ROWS or _is_slice(target) for target in node.targets])
+            node.value = self._whole(node.value, KEYS) if is_apart else self._child(node.value)
         self._store_targets(node)
-        if isinstance(node.value, ast.Constant) and node.value.value is None:
+        if type(node.value) is ast.Constant and node.value.value is None:
             self._after.append(as_statement(self._hook("after_letting_go", node), node))
         return node
 
@@ -470,7 +475,7 @@ class Rewriter:
     def _simple_AugAssign(self, node: ast.AugAssign) -> ast.stmt:
         target = node.target = copied(node.target)
         is_late = node.value.inside & LATE != 0  # type: ignore[attr-defined]
-        if isinstance(target, ast.Name):
+        if type(target) is ast.Name:
             if self._is_shared(target.id):
                 self._before.append(as_statement(self._variable(target, target.id, "r"), node))
                 self._after += self._stores([target], node)
@@ -480,9 +485,9 @@ class Rewriter:
                 hook = self._hook(self._named_for("before_whole", target), node, name_at(target, target.id), site)
                 self._before.append(as_statement(hook, node))
             node.value = self._added(node)
-        elif isinstance(target, ast.Attribute):
+        elif type(target) is ast.Attribute:
             self._augment_attribute(node, target, is_late)
-        elif isinstance(target, ast.Subscript):
+        elif type(target) is ast.Subscript:
             self._augment_subscript(node, target, is_late)
         return node
 
@@ -492,8 +497,8 @@ class Rewriter:
 
         No number can be added to one, and it can be multiplied by a whole one alone.
         """
-        value = node.value.value if isinstance(node.value, ast.Constant) else None
-        is_number = type(value) in (NUMBERS[1:] if isinstance(node.op, ast.Mult) else NUMBERS)
+        value = node.value.value if type(node.value) is ast.Constant else None
+        is_number = type(value) in (NUMBERS[1:] if type(node.op) is ast.Mult else NUMBERS)
         return type(node.op) in IN_PLACE and not is_number
 
     def _added(self, node: ast.AugAssign) -> Any:
@@ -514,7 +519,7 @@ class Rewriter:
             return
         reads = self._site(node, "field", "r", name, in_place)
         writes = self._site(node, "field", "w", name, text)
-        if isinstance(owner, ast.Name):
+        if type(owner) is ast.Name:
             target.value = self._operand(owner, "before_attribute", reads)
             node.value = self._behind("after_value", owner, self._added(node), writes)
         else:
@@ -525,7 +530,7 @@ class Rewriter:
     def _augment_subscript(self, node: ast.AugAssign, target: ast.Subscript, is_late: bool) -> None:
         owner: Any = target.value
         text = self._text(owner)
-        if isinstance(target.slice, ast.Slice):
+        if type(target.slice) is ast.Slice:
             target.value = self._operand(owner, "before_whole", self._site(node, "whole", REWRITE, "", text))
             target.slice, node.value = self._child(target.slice), self._added(node)
             return
@@ -536,7 +541,7 @@ class Rewriter:
             return
         key: Any = target.slice
         reads, writes = self._site(node, "element", "r", "", text), self._site(node, "element", "w", "", text)
-        if isinstance(owner, ast.Name) and self._is_simple(key):
+        if type(owner) is ast.Name and self._is_simple(key):
             self._element(target, reads)
             node.value = self._hook("after_value_of_element", node.value, self._added(node), owner, key, writes)
         else:
@@ -559,9 +564,9 @@ class Rewriter:
 
     def _made(self, value: Any, target: Any) -> Any:
         """A new container, passed through a hook that keeps where it was made, and for which name."""
-        if not _is_new(value) or not isinstance(target, REACHED):
+        if not _is_new(value) or type(target) not in REACHED:
             return value
-        is_variable_of_class = isinstance(target, ast.Name) and self._scope.kind == CLASS
+        is_variable_of_class = type(target) is ast.Name and self._scope.kind == CLASS
         name = f"{self._scope.class_name}.{self._text(target)}" if is_variable_of_class else self._text(target)
         return self._hook("after_making", value, self._child(value), self._site(value, "made", "", "", name))
 
@@ -609,9 +614,8 @@ class Rewriter:
         """What is written behind arguments is looked at when a function is defined, unless it is kept as a text."""
         if self._has_texts_of_annotations:
             return
-        arguments = node.args
-        for one in (*arguments.posonlyargs, *arguments.args, *arguments.kwonlyargs, arguments.vararg, arguments.kwarg):
-            if one is not None and one.annotation is not None:
+        for one in arguments_of(node.args):
+            if one.annotation is not None:
                 one.annotation = self._guarded(one.annotation)
         if node.returns is not None:
             node.returns = self._guarded(node.returns)
@@ -651,7 +655,7 @@ class Rewriter:
         """
         iterated = node.iter
         self._iterated_by_loops.add((iterated.lineno, iterated.col_offset))
-        is_shared = isinstance(iterated, GIVEN) and not self._is_foreign_container(iterated)
+        is_shared = type(iterated) in GIVEN and not self._is_foreign_container(iterated)
         if not is_shared or _function_of(iterated) == "range":
             return None
         site = self._site(iterated, "whole", KEYS, "", self._text(self._gone_through_by(iterated)))
@@ -669,7 +673,7 @@ class Rewriter:
 
     def _gone_through_by(self, node: Any) -> Any:
         """The container that a view of it, or one of the language's own iterators, goes through."""
-        if isinstance(node, ast.Call) and isinstance(node.func, ast.Attribute) and node.func.attr in VIEWS:
+        if type(node) is ast.Call and type(node.func) is ast.Attribute and node.func.attr in VIEWS:
             return node.func.value
         is_iterator = _function_of(node) in ("enumerate", "zip", "iter", "reversed")
         return node.args[0] if is_iterator and node.args else node
@@ -677,9 +681,9 @@ class Rewriter:
     def _do_For(self, node: Any) -> list[ast.stmt]:
         target = node.target
         body: list[Any] = node.body
-        is_calling = isinstance(node, ast.For) and any(one.inside & LATE for one in body)
+        is_calling = type(node) is ast.For and any(one.inside & LATE for one in body)
         asked = self._asked_if_begun(node, node.body[-1], node) if is_calling else None
-        node.iter = self._gone_through(node.iter, target) if isinstance(node, ast.For) else self._guarded(node.iter)
+        node.iter = self._gone_through(node.iter, target) if type(node) is ast.For else self._guarded(node.iter)
         node.target = self._visit_target(target)
         made = self._bind_and_go_on(node, [target])
         if asked is not None:
@@ -705,8 +709,8 @@ class Rewriter:
     def _state_of_context(self, item: ast.withitem) -> tuple[str, str] | None:
         """What the library keeps for all threads, if this changes it for as long as the block lasts."""
         one = item.context_expr
-        name = self._import_of(one.func) if isinstance(one, ast.Call) else None
-        return touched_by(name, len(one.args)) if name is not None and isinstance(one, ast.Call) else None
+        name = self._import_of(one.func) if type(one) is ast.Call else None
+        return touched_by(name, len(one.args)) if name is not None and type(one) is ast.Call else None
 
     def _do_With(self, node: Any) -> list[ast.stmt]:
         states = [state for state in map(self._state_of_context, node.items) if state is not None]
@@ -762,7 +766,8 @@ class Rewriter:
         if kind is ast.Constant:
             return node
         if kind is ast.Name:
-            return self._visit_Name(node) if self._scope.shared.get(node.id) is not False else node
+            is_touched = type(node.ctx) is ast.Load and self._is_shared(node.id)
+            return self._behind_note(node, node.id, "r") if is_touched else node
         visit = _VISITS.get(kind)
         if visit is None:
             visit = _VISITS[kind] = getattr(Rewriter, f"_visit_{kind.__name__}", Rewriter._generic)
@@ -774,7 +779,7 @@ class Rewriter:
         return made
 
     def _generic(self, node: Any) -> Any:
-        for name in fields_of(type(node)):
+        for name in FIELDS[type(node)]:
             one = getattr(node, name, None)
             if isinstance(one, ast.expr):
                 setattr(node, name, self._child(one))
@@ -786,14 +791,14 @@ class Rewriter:
         """One of several parts. A keyword is no expression itself, but has one."""
         if isinstance(node, ast.expr):
             return self._child(node)
-        return self._keyword(node) if isinstance(node, ast.keyword) else node
+        return self._keyword(node) if type(node) is ast.keyword else node
 
     def _keyword(self, node: ast.keyword, is_of_print: bool = False) -> ast.keyword:
         node = copied(node)
-        if is_of_print and node.arg == "file" and isinstance(node.value, GIVEN) and not self._is_foreign(node.value):
+        if is_of_print and node.arg == "file" and type(node.value) in GIVEN and not self._is_foreign(node.value):
             site = self._site(node.value, "method", "", "write", self._text(node.value))
             node.value = self._operand(node.value, "before_method", site)
-        elif node.arg == "key" and isinstance(node.value, GIVEN):
+        elif node.arg == "key" and type(node.value) in GIVEN:
             node.value = self._handed(node.value)
         elif node.arg is None:
             node.value = self._whole(node.value, ITERATION)
@@ -801,28 +806,24 @@ class Rewriter:
             node.value = self._child(node.value)
         return node
 
-    def _visit_Name(self, node: ast.Name) -> ast.expr:
-        if type(node.ctx) is not ast.Load or not self._is_shared(node.id):
-            return node
-        return self._behind_note(node, node.id, "r")
-
     def _behind_note(self, node: ast.expr, name: str, kinds: str) -> ast.expr:
         """The expression, behind a hook that notes a touch of a variable."""
         return at(node, ast.BoolOp(ast.Or(), [self._variable(node, name, kinds), node]))
 
     def _visit_Attribute(self, node: ast.Attribute) -> ast.expr:
-        is_in_function, is_of_base = self._scope.kind == FUNCTION, _is_super(node.value)
-        passed_over.look_at_attribute(node, self._learned, is_in_function, is_of_base, self._import_of(node.value))
+        if type(node.ctx) is not ast.Load or node.attr in passed_over.PAST_HOOKS:
+            is_in_function, is_of_base = self._scope.kind is FUNCTION, _is_super(node.value)
+            passed_over.look_at_attribute(node, self._learned, is_in_function, is_of_base, self._import_of(node.value))
         if node.attr == "__dict__":
-            if isinstance(node.ctx, ast.Load):
+            if type(node.ctx) is ast.Load:
                 node.value = self._operand(node.value, "before_fields")
             else:
                 node.value = self._operand(node.value, "before_new_fields", self._site(node, "field", "w"))
         elif self._is_of_language(node.attr) or self._is_never_changed(node):
             node.value = self._child(node.value)
         else:
-            kinds = "r" if isinstance(node.ctx, ast.Load) else "w"
-            words = DELETED if isinstance(node.ctx, ast.Del) else None
+            kinds = "r" if type(node.ctx) is ast.Load else "w"
+            words = DELETED if type(node.ctx) is ast.Del else None
             site = self._site(node, "field", kinds, self._mangled(node.attr), words=words)
             node.value = self._operand(node.value, "before_attribute", site)
         return node
@@ -838,15 +839,15 @@ class Rewriter:
 
         What `super()` finds is the program's.
         """
-        if not self._is_foreign(node.value) or not isinstance(node.ctx, ast.Load):
+        if not self._is_foreign(node.value) or type(node.ctx) is not ast.Load:
             return False
         return not self._learned.is_stored_elsewhere(node.attr) and not self._is_super_of_any(node.value)
 
     def _visit_Subscript(self, node: ast.Subscript) -> ast.expr:
-        kinds = "r" if isinstance(node.ctx, ast.Load) else "d" if isinstance(node.ctx, ast.Del) else "w"
+        kinds = "r" if type(node.ctx) is ast.Load else "d" if type(node.ctx) is ast.Del else "w"
         if self._is_foreign_container(node.value):
             return self._generic(node)  # type: ignore[no-any-return]
-        if isinstance(node.slice, ast.Slice):
+        if type(node.slice) is ast.Slice:
             whole, methods = ITERATION if kinds == "r" else REWRITE, METHODS_OF_SLICES[kinds]
             site = self._site(node, "whole", whole, "", self._text(node.value), methods)
             node.value = self._operand(node.value, "before_whole", site)
@@ -862,7 +863,7 @@ class Rewriter:
         if self._is_simple(key):
             node.value = self._operand(owner, "before_element", key, site)
             node.slice = self._child(key)
-        elif isinstance(owner, ast.Name):
+        elif type(owner) is ast.Name:
             node.value = self._child(owner)
             node.slice = self._key_of(owner, key, site)
         else:
@@ -893,10 +894,10 @@ class Rewriter:
         made = None if name is None else self._call_imported(node, name)
         if made is not None:
             return made
-        if isinstance(node.func, ast.Attribute):
+        if type(node.func) is ast.Attribute:
             node.func = copied(node.func)
             return self._call_method(node, node.func)
-        if isinstance(node.func, ast.Name) and self._is_builtin(node.func.id):
+        if type(node.func) is ast.Name and self._is_builtin(node.func.id):
             if node.func.id == "globals" and not node.args:
                 return self._hook("after_variables", node, node)
             self._arguments_of_builtin(node, node.func.id)
@@ -915,7 +916,7 @@ class Rewriter:
         """
         if name in STEPPING:
             return self._call_stepping(node)
-        if name == "os.getenv" and node.args and not isinstance(node.args[0], ast.Starred):
+        if name == "os.getenv" and node.args and type(node.args[0]) is not ast.Starred:
             node.args = [self._child(one) for one in node.args]
             site = self._site(node, "method", "", "get", "os.environ")
             node.args[0] = self._hook("before_environment", node.args[0], node.args[0], site)
@@ -923,7 +924,7 @@ class Rewriter:
         known = known_function(name)
         if known is not None:
             return self._call_known(node, known, depth_of(name), name)
-        if name in OPERATORS and len(node.args) > 1 and not any(isinstance(one, ast.Starred) for one in node.args[:2]):
+        if name in OPERATORS and len(node.args) > 1 and not any(type(one) is ast.Starred for one in node.args[:2]):
             node.args = self._given_first(node, OPERATORS[name])
             return node
         return None
@@ -940,18 +941,18 @@ class Rewriter:
         return self._hook("at_variable", node, self._site(node, STATE_OF_PROCESS, kinds, thing))
 
     def _is_print(self, node: ast.Call) -> bool:
-        return isinstance(node.func, ast.Name) and node.func.id == "print" and self._is_builtin("print")
+        return type(node.func) is ast.Name and node.func.id == "print" and self._is_builtin("print")
 
     def _name_handed(self, node: ast.Call) -> None:
         """Keeps the names of containers whose methods are arguments, and of what a function that is one looks at."""
         for one in [*node.args, *[keyword.value for keyword in node.keywords]] if node.keywords else node.args:
-            if isinstance(one, ast.Call) and self._import_of(one.func) == "operator.itemgetter":
+            if type(one) is ast.Call and self._import_of(one.func) == "operator.itemgetter":
                 self._name_elements(node, one, "__getitem__")
-            elif isinstance(one, ast.Attribute) and one.attr in METHODS and self._is_container_class(one.value):
+            elif type(one) is ast.Attribute and one.attr in METHODS and self._is_container_class(one.value):
                 self._name_elements(node, one, one.attr)
-            elif isinstance(one, ast.Attribute) and one.attr in METHODS:
+            elif type(one) is ast.Attribute and one.attr in METHODS:
                 self._learned.handed[node.lineno, one.attr] = self._text(one.value)
-            elif isinstance(one, ast.Name) and one.id in READERS and self._is_builtin(one.id):
+            elif type(one) is ast.Name and one.id in READERS and self._is_builtin(one.id):
                 self._name_elements(node, one, f"builtins.{one.id}")
 
     def _name_elements(self, node: ast.Call, function: Any, name: str) -> None:
@@ -960,25 +961,25 @@ class Rewriter:
         So it is in `map(len, queues)`.
         """
         given: Any = next((other for other in node.args if other is not function), getattr(node.func, "value", None))
-        if isinstance(given, GIVEN):
+        if type(given) in GIVEN:
             self._learned.handed[node.lineno, name] = f"{self._text(given)}[..]"
 
     def _handed(self, node: Any) -> Any:
         """What is called by its name, or handed to a function that calls it: it may be a method of a container."""
         if known_function(self._import_of(node)) is not None:
             is_handed = True
-        elif isinstance(node, ast.Name):
+        elif type(node) is ast.Name:
             owner = self._scope.owner(node.id)
             is_known = node.id in owner.defined or node.id in owner.imported
             is_handed = node.id in CALLED_BY_OTHERS if self._is_builtin(node.id) else not is_known
-        elif isinstance(node, ast.Attribute):
+        elif type(node) is ast.Attribute:
             is_handed = node.attr in METHODS or self._learned.is_field(node.attr)
         else:
-            is_handed = isinstance(node, GIVEN)
+            is_handed = type(node) in GIVEN
         return self._operand(node, "before_call") if is_handed else self._child(node)
 
     def _is_called_by_others(self, node: Any) -> bool:
-        return isinstance(node, ast.Name) and node.id in CALLED_BY_OTHERS and self._is_builtin(node.id)
+        return type(node) is ast.Name and node.id in CALLED_BY_OTHERS and self._is_builtin(node.id)
 
     def _call_known(self, node: ast.Call, kinds: str, depth: str, name: str) -> ast.expr:
         """A function of the library that looks at its arguments, or changes the first one."""
@@ -989,7 +990,7 @@ class Rewriter:
         is_joined = is_reduced and any((self._import_of(one) or "").startswith("operator.") for one in node.args[:1])
         node.args = [*node.args]
         for place, one in enumerate(node.args):
-            if place == changed and not isinstance(one, ast.Starred):
+            if place == changed and type(one) is not ast.Starred:
                 node.args[place] = self._operand(one, "before_whole", self._site_of_whole(one, kinds, depth))
             elif place == 0 and is_reduced:
                 node.args[0] = self._handed(one)
@@ -1004,7 +1005,7 @@ class Rewriter:
         `default` may be their text, all of their fields, or the program's own code.
         """
         for one in [keyword.value for keyword in node.keywords if keyword.arg == "default"]:
-            if isinstance(one, ast.Name) and one.id in SHOWING and self._is_builtin(one.id):
+            if type(one) is ast.Name and one.id in SHOWING and self._is_builtin(one.id):
                 return WRITTEN
             words = {getattr(part, "id", getattr(part, "attr", "")) for part in ast.walk(one)}
             return STATE if words & WHOLE_OBJECTS else depth
@@ -1014,11 +1015,11 @@ class Rewriter:
         """A function that goes through what it is given as others go through what it gives. It may call some of it."""
         node.args = [*node.args]
         for place, one in enumerate(node.args):
-            if isinstance(one, ast.Attribute) and one.attr in METHODS or self._is_called_by_others(one):
+            if type(one) is ast.Attribute and one.attr in METHODS or self._is_called_by_others(one):
                 node.args[place] = self._handed(one)
-            elif isinstance(one, ast.Starred):
+            elif type(one) is ast.Starred:
                 node.args[place] = self._starred(one, KEYS, EACH)
-            elif isinstance(one, GIVEN):
+            elif type(one) in GIVEN:
                 node.args[place] = self._operand(one, "before_loop", self._site_of_whole(one, KEYS))
             else:
                 node.args[place] = self._child(one)
@@ -1034,7 +1035,7 @@ class Rewriter:
     def _arguments_of_builtin(self, node: ast.Call, name: str) -> None:
         if name in OF_ATTRIBUTES and len(node.args) > 1:
             self._attribute_by_name(node, OF_ATTRIBUTES[name])
-        elif name == "vars" and len(node.args) == 1 and not isinstance(node.args[0], ast.Starred):
+        elif name == "vars" and len(node.args) == 1 and type(node.args[0]) is not ast.Starred:
             node.args = [self._operand(node.args[0], "before_fields")]
         elif name in READERS or name in STEPPERS:
             is_called = name in ("map", "filter") or name == "iter" and len(node.args) > 1
@@ -1049,7 +1050,7 @@ class Rewriter:
         """Keeps where something in C may call the program at each step through a container, as `list(map(f, jobs))`."""
         function: Any = node.args[0] if node.args else None
         is_of_program = isinstance(function, (ast.Name, ast.Attribute, ast.Lambda)) and not self._is_foreign(function)
-        is_shared = any(isinstance(one, REACHED) and not self._is_foreign(one) for one in node.args[1:])
+        is_shared = any(type(one) in REACHED and not self._is_foreign(one) for one in node.args[1:])
         if is_called and is_shared and is_of_program and (node.lineno, node.col_offset) not in self._iterated_by_loops:
             self._learned.loops.append((OF_OTHERS, node.lineno, node.end_lineno or node.lineno))
 
@@ -1058,14 +1059,14 @@ class Rewriter:
 
         A name that is computed is computed once.
         """
-        site = self._site(node, "field", kinds, words=OF_BASE if isinstance(node.func, ast.Attribute) else None)
+        site = self._site(node, "field", kinds, words=OF_BASE if type(node.func) is ast.Attribute else None)
         name: Any = node.args[1]
         if self._is_simple(name):
             owner = self._operand(node.args[0], "before_named_attribute", name, site)
             node.args = [owner, *(self._child(one) for one in node.args[1:])]
             return
         node.args = [self._child(one) for one in node.args]
-        if not any(isinstance(one, ast.Starred) for one in node.args):
+        if not any(type(one) is ast.Starred for one in node.args):
             place = len(node.args) - 1
             last = node.args[place]
             kept = [on_stack.copy(on_stack.form_of_argument(one, place), last) for one in range(min(place, 2))]
@@ -1073,17 +1074,17 @@ class Rewriter:
 
     def _is_made(self, node: Any) -> bool:
         """Whether it is a call of a function of the language that gives something new."""
-        is_builtin = isinstance(node, ast.Call) and isinstance(node.func, ast.Name) and self._is_builtin(node.func.id)
+        is_builtin = type(node) is ast.Call and type(node.func) is ast.Name and self._is_builtin(node.func.id)
         return is_builtin and node.func.id not in GIVERS
 
     def _looked_at(self, node: Any, name: str, depth: str) -> ast.expr:
-        if name in STEPPERS and isinstance(node, GIVEN) and not self._is_made(node):
+        if name in STEPPERS and type(node) in GIVEN and not self._is_made(node):
             return self._operand(node, "before_loop", self._site_of_whole(node, READERS[name]))
-        if isinstance(node, ast.Starred) and name in STEPPERS:
+        if type(node) is ast.Starred and name in STEPPERS:
             return self._starred(node, KEYS, EACH)
-        if isinstance(node, ast.Starred) and name in SHOWING and isinstance(node.value, GIVEN):
+        if type(node) is ast.Starred and name in SHOWING and type(node.value) in GIVEN:
             return self._starred(node, ITERATION, SHOWING[name])
-        if isinstance(node, ast.Starred) or name in STEPPERS:
+        if type(node) is ast.Starred or name in STEPPERS:
             return self._child(node)  # type: ignore[no-any-return]
         looked_at: ast.expr = self._whole(node, READERS[name], SHOWING.get(name, depth), METHODS_OF_READERS.get(name))
         return looked_at
@@ -1091,7 +1092,7 @@ class Rewriter:
     def _call_method(self, node: ast.Call, func: ast.Attribute) -> ast.expr:
         name, owner = func.attr, func.value
         is_late = any([one.inside & LATE for one in node.args])  # type: ignore[attr-defined]
-        has_first = bool(node.args) and not isinstance(node.args[0], ast.Starred)
+        has_first = bool(node.args) and type(node.args[0]) is not ast.Starred
         if name in METHODS and _is_super(owner) and self._scope.first:
             self._call_of_base(node, func)
         elif name in METHODS and has_first and self._is_container_class(owner):
@@ -1165,10 +1166,10 @@ class Rewriter:
 
     def _is_of_fields(self, node: Any) -> bool:
         """Whether it gives the fields of an object as a dictionary."""
-        if isinstance(node, ast.Attribute):
+        if type(node) is ast.Attribute:
             return node.attr == "__dict__"
-        func = node.func if isinstance(node, ast.Call) else None
-        return isinstance(func, ast.Name) and func.id in ("vars", "globals") and self._is_builtin(func.id)
+        func = node.func if type(node) is ast.Call else None
+        return type(func) is ast.Name and func.id in ("vars", "globals") and self._is_builtin(func.id)
 
     def _is_foreign_module(self, node: Any) -> bool:
         return self._import_of(node) is not None and self._is_foreign(node)
@@ -1181,7 +1182,7 @@ class Rewriter:
         node.args = [self._child(one) for one in given]
         if _is_super(owner) and self._scope.function.first:
             me: Any = name_at(node, self._scope.function.first)
-        elif isinstance(owner, ast.Name):
+        elif type(owner) is ast.Name:
             me = owner
         else:
             func.value = self._child(owner)
@@ -1189,18 +1190,18 @@ class Rewriter:
         node.args[0] = self._hook("given_name", given[0], node.args[0], me, site)
 
     def _is_super_of_any(self, node: Any) -> bool:
-        return isinstance(node, ast.Call) and isinstance(node.func, ast.Name) and node.func.id == "super"
+        return type(node) is ast.Call and type(node.func) is ast.Name and node.func.id == "super"
 
     def _call_format(self, node: ast.Call, func: ast.Attribute) -> ast.expr:
         """What a text shows of what it is formatted with: a field of it, an element, or all."""
         owner: Any = func.value
         is_known = func.attr == "format" and isinstance(owner, (ast.Constant, ast.Name))
-        template = None if not is_known else owner.value if isinstance(owner, ast.Constant) else owner
+        template = None if not is_known else owner.value if type(owner) is ast.Constant else owner
         if not is_known:
             given = node.args
             node.func = self._called(func)
             node.args = [self._argument(one, func, owner) for one in given]
-        elif any(isinstance(one, ast.Starred) for one in node.args):
+        elif any(type(one) is ast.Starred for one in node.args):
             node.args = [self._child(one) for one in node.args]
         else:
             node.args = [self._shown(one, template, place) for place, one in enumerate(node.args)]
@@ -1219,7 +1220,7 @@ class Rewriter:
 
     def _shown(self, node: Any, template: Any, name: int | str) -> Any:
         """What a text puts in at a place of its own, or by a name."""
-        if not isinstance(node, SHOWN_ARGUMENTS):
+        if type(node) not in SHOWN_ARGUMENTS:
             return self._child(node)
         site = self._site(node, "whole", ITERATION, SHOWN, self._text(node))
         if isinstance(template, str):
@@ -1233,7 +1234,7 @@ class Rewriter:
         me = name_at(node, self._scope.first)
         given: list[Any] = node.args
         node.args = [self._child(one) for one in given]
-        if func.attr in KEYED and given and not isinstance(given[0], ast.Starred):
+        if func.attr in KEYED and given and type(given[0]) is not ast.Starred:
             node.args[0] = self._hook("before_key", given[0], me, node.args[0], site)
         elif given and not isinstance(given[-1], ast.Starred):
             node.args[-1] = self._hook("after_value", given[-1], node.args[-1], me, site)
@@ -1248,9 +1249,9 @@ class Rewriter:
         owner: Any = node.args[0]
         site = self._site(node, "base", "", name, self._text(owner))
         given: list[Any] = node.args
-        is_keyed = name in KEYED and len(given) > 1 and not isinstance(given[1], ast.Starred)
+        is_keyed = name in KEYED and len(given) > 1 and type(given[1]) is not ast.Starred
         rest = [self._child(one) for one in given[2 if is_keyed else 1:]]
-        if is_keyed and isinstance(owner, ast.Name):
+        if is_keyed and type(owner) is ast.Name:
             return [self._child(owner), self._key_of(owner, given[1], site), *rest]
         if is_keyed:
             key: Any = given[1]
@@ -1258,7 +1259,7 @@ class Rewriter:
         return [self._operand(owner, "before_method", site), *rest]
 
     def _is_container_class(self, node: Any) -> bool:
-        if isinstance(node, ast.Name) and self._is_builtin(node.id):
+        if type(node) is ast.Name and self._is_builtin(node.id):
             return node.id in MAKERS
         return self._import_of(node) in CONTAINER_CLASSES
 
@@ -1269,24 +1270,24 @@ class Rewriter:
         """
         name = func.attr
         if passed_over.is_changing(node) and name not in passed_over.FOLLOWED_METHODS and not self._is_foreign(owner):
-            me = owner if isinstance(owner, ast.Name) else self._owner_wanted(node)
+            me = owner if type(owner) is ast.Name else self._owner_wanted(node)
             return self._hook("before_handed", node, self._child(node), me, self._site(node, "handed", "", node.attr))
         kinds = CONSUMING.get(name)
         if kinds is None:
             return self._child(node)
-        is_bytes = isinstance(owner, ast.Constant) and type(owner.value) is bytes
-        is_given = isinstance(node, GIVEN_OR_STARRED) or is_bytes or name == "update" and self._is_of_fields(owner)
+        is_bytes = type(owner) is ast.Constant and type(owner.value) is bytes
+        is_given = type(node) in GIVEN_OR_STARRED or is_bytes or name == "update" and self._is_of_fields(owner)
         is_of_others = not is_given or self._is_foreign(node) or self._is_made(node)
         if is_of_others or self._import_of(owner) is not None:
             return self._child(node)
-        if isinstance(node, ast.Starred):
+        if type(node) is ast.Starred:
             return self._starred(node, kinds, EACH)
-        is_builtin = isinstance(owner, ast.Name) and self._is_builtin(owner.id)
+        is_builtin = type(owner) is ast.Name and self._is_builtin(owner.id)
         if is_builtin or isinstance(owner, (ast.Constant, ast.JoinedStr)):
             return self._whole(node, kinds, EACH if is_bytes else DEPTHS_OF_METHODS.get(name, ""))
         words = OF_KEYS if kinds == KEYS or name == "update" else None
         site = self._site(node, "given", kinds, name, self._text(node), words)
-        if isinstance(owner, ast.Name):
+        if type(owner) is ast.Name:
             return self._hook("before_argument", node, self._child(node), owner, site)
         return self._hook("before_argument", node, self._child(node), self._owner_wanted(node), site)
 
@@ -1336,23 +1337,23 @@ class Rewriter:
 
         Of an object nothing is looked at if a class of the program has one of the methods.
         """
-        is_looked_at = isinstance(node, GIVEN) and not self._is_foreign_container(node) and not self._is_made(node)
-        if is_looked_at or depth and isinstance(node, COMPARED_AS_A_WHOLE):
+        is_looked_at = type(node) in GIVEN and not self._is_foreign_container(node) and not self._is_made(node)
+        if is_looked_at or depth and type(node) in COMPARED_AS_A_WHOLE:
             return self._operand(node, "before_whole", self._site_of_whole(node, kinds, depth, methods))
         return self._child(node)
 
     def _site_of_whole(self, node: Any, kinds: str, depth: str = "", methods: tuple[str, ...] | None = None) -> int:
         """The site of something that is looked at as a whole. A view that is made there is known by its container."""
-        func = node.func if isinstance(node, ast.Call) else None
-        is_view = isinstance(func, ast.Attribute) and func.attr in VIEWS
-        is_iterator = isinstance(func, ast.Name) and func.id in ("iter", "reversed")
+        func = node.func if type(node) is ast.Call else None
+        is_view = type(func) is ast.Attribute and func.attr in VIEWS
+        is_iterator = type(func) is ast.Name and func.id in ("iter", "reversed")
         text = self._text(node.func.value if is_view else node)
         methods = methods or METHODS_OF_DEPTHS.get(depth) or (OF_KEYS[:1] if kinds == KEYS else None)
         return self._site(node, "whole", kinds, depth, text, MADE_HERE if is_view or is_iterator else methods)
 
     def _visit_BinOp(self, node: ast.BinOp) -> ast.expr:
         sides: list[Any] = [node.left, node.right]
-        if isinstance(node.op, ast.Mod) and not _is_number(node.left):
+        if type(node.op) is ast.Mod and not _is_number(node.left):
             node.left, node.right = self._child(node.left), self._formatted(node.right)
         elif self._makes_a_container(node):
             methods = METHODS_OF_OPERATORS[type(node.op)]
@@ -1365,13 +1366,13 @@ class Rewriter:
     def _makes_a_container(node: ast.BinOp) -> bool:
         """Whether it may make a container of its sides."""
         sides = (node.left, node.right)
-        if isinstance(node.op, ast.Mult):
+        if type(node.op) is ast.Mult:
             return not any(_is_text(side) or _is_fraction(side) for side in sides)
-        return isinstance(node.op, JOINING) and not any(_is_number(side) or _is_text(side) for side in sides)
+        return type(node.op) in JOINING and not any(_is_number(side) or _is_text(side) for side in sides)
 
     def _formatted(self, node: Any) -> Any:
         """What `%` puts into a text."""
-        if isinstance(node, ast.Tuple):
+        if type(node) is ast.Tuple:
             node = copied(node)
             node.elts = [self._whole(one, ITERATION, SHOWN) for one in node.elts]
             return node
@@ -1404,7 +1405,7 @@ class Rewriter:
         if self._is_simple(first):
             func.value = self._operand(owner, "before_element", first, site)
             node.args = [self._child(first), *rest]
-        elif isinstance(owner, ast.Name):
+        elif type(owner) is ast.Name:
             func.value = self._child(owner)
             node.args = [self._key_of(owner, first, site), *rest]
         else:
@@ -1417,7 +1418,7 @@ class Rewriter:
         owner: Any = func.value
         last = node.args[-1]
         rest = [self._child(one) for one in node.args[:-1]]
-        if isinstance(owner, ast.Name):
+        if type(owner) is ast.Name:
             func.value = self._child(owner)
             node.args = [*rest, self._behind("after_value", owner, self._argument(last, func, owner), site)]
         else:
@@ -1430,13 +1431,13 @@ class Rewriter:
             return self._compare_values(node)
         left: Any = node.left
         owner: Any = node.comparators[0]
-        if not isinstance(owner, GIVEN):
+        if type(owner) not in GIVEN:
             return self._generic(node)  # type: ignore[no-any-return]
         site = self._site(node, "element", "c", "", self._text(owner))
         if self._is_simple(left):
             node.left = self._child(left)
             node.comparators = [self._operand(owner, "before_element", left, site)]
-        elif isinstance(owner, ast.Name):
+        elif type(owner) is ast.Name:
             node.left = self._hook("before_key", left, owner, self._child(left), site)
             node.comparators = [self._child(owner)]
         else:
@@ -1462,10 +1463,10 @@ class Rewriter:
 
     def _truth(self, node: Any) -> Any:
         """An expression whose truth is asked for: that of a container is its length."""
-        if isinstance(node, ASKED_FOR_TRUTH) and not self._is_foreign(node) and not self._is_made(node):
+        if type(node) in ASKED_FOR_TRUTH and not self._is_foreign(node) and not self._is_made(node):
             site = self._site(node, "whole", LENGTH, "", self._text(node), METHODS_OF_READERS["bool"])
             return self._operand(node, "before_whole", site)
-        if isinstance(node, ast.BoolOp):
+        if type(node) is ast.BoolOp:
             node = copied(node)
             node.values = [self._part(one, self._truth) for one in node.values]
             return node
@@ -1480,10 +1481,10 @@ class Rewriter:
         return self._guarded(node, visit) if self._is_guarding else visit(node)
 
     def _visit_UnaryOp(self, node: ast.UnaryOp) -> ast.expr:
-        if isinstance(node.op, (ast.UAdd, ast.USub)) and isinstance(node.operand, GIVEN):
+        if isinstance(node.op, (ast.UAdd, ast.USub)) and type(node.operand) in GIVEN:
             node.operand = self._whole(node.operand, ITERATION, methods=("__pos__", "__neg__"))
             return node
-        node.operand = self._part(node.operand, self._truth if isinstance(node.op, ast.Not) else self._visit)
+        node.operand = self._part(node.operand, self._truth if type(node.op) is ast.Not else self._visit)
         return node
 
     def _visit_IfExp(self, node: ast.IfExp) -> ast.expr:
@@ -1498,11 +1499,11 @@ class Rewriter:
         return node
 
     def _visit_JoinedStr(self, node: ast.JoinedStr) -> ast.expr:
-        node.values = [self._visit(one) if isinstance(one, ast.FormattedValue) else one for one in node.values]
+        node.values = [self._visit(one) if type(one) is ast.FormattedValue else one for one in node.values]
         return node
 
     def _visit_Starred(self, node: ast.Starred) -> ast.expr:
-        is_looked_at = isinstance(node.ctx, ast.Load) and isinstance(node.value, GIVEN)
+        is_looked_at = type(node.ctx) is ast.Load and type(node.value) in GIVEN
         node.value = self._whole(node.value, KEYS) if is_looked_at else self._child(node.value)
         return node
 
@@ -1532,7 +1533,7 @@ class Rewriter:
                 if place > 0:
                     part.iter = self._iterated(part)
                 target = part.target
-                if not isinstance(target, ast.Name):
+                if type(target) is not ast.Name:
                     part.target = self._visit_target(target)
                 conditions = [self._guarded(one, self._truth) for one in part.ifs]
                 part.ifs = [*begun[place], *self._bound_in(target), *conditions]
@@ -1564,7 +1565,7 @@ class Rewriter:
 
     def _iteration(self, node: Any) -> Any:
         """What a loop goes through: each step is a look at it."""
-        if isinstance(node, GIVEN) and not self._is_foreign_container(node) and not self._is_made(node):
+        if type(node) in GIVEN and not self._is_foreign_container(node) and not self._is_made(node):
             return self._operand(node, "before_loop", self._site_of_whole(node, KEYS))
         return self._visit(node)
 
@@ -1597,7 +1598,7 @@ _VISITS: dict[type, Callable[[Rewriter, Any], Any]] = {}
 
 def _function_of(node: Any) -> str:
     """The name of the function that is called, if it is a name."""
-    return node.func.id if isinstance(node, ast.Call) and isinstance(node.func, ast.Name) else ""
+    return node.func.id if type(node) is ast.Call and type(node.func) is ast.Name else ""
 
 
 _WITH = (ast.With, ast.AsyncWith)
@@ -1613,7 +1614,7 @@ def _before_continue(body: list[Any], asked: Callable[[int], ast.expr], further:
     """The body of a loop, with a statement before each that goes on with the loop."""
     found: list[Any] = []
     for one in body:
-        if isinstance(one, ast.Continue):
+        if type(one) is ast.Continue:
             found.append(as_statement(asked(further), one))
         elif isinstance(one, _OWN_LOOPS):
             one.orelse = _before_continue(one.orelse, asked, further)
@@ -1627,7 +1628,7 @@ def _before_continue_inside(one: Any, asked: Callable[[int], ast.expr], further:
     for part in ("body", "orelse"):
         if isinstance(getattr(one, part, None), list):
             setattr(one, part, _before_continue(getattr(one, part), asked, further))
-    for handler in one.handlers if isinstance(one, ast.Try) else ():
+    for handler in one.handlers if type(one) is ast.Try else ():
         handler.body = _before_continue(handler.body, asked, further + 1)
     for case in getattr(one, "cases", ()):
         case.body = _before_continue(case.body, asked, further)
@@ -1641,31 +1642,31 @@ def _taken_apart(target: Any, path: tuple[int, ...]) -> Iterator[tuple[int, ...]
     if isinstance(target, (ast.Tuple, ast.List)):
         yield path
         for place, one in enumerate(target.elts):
-            if isinstance(one, ast.Starred):
+            if type(one) is ast.Starred:
                 return
             yield from _taken_apart(one, (*path, place))
 
 
 def _is_slice(node: Any) -> bool:
-    return isinstance(node, ast.Subscript) and isinstance(node.slice, ast.Slice)
+    return type(node) is ast.Subscript and type(node.slice) is ast.Slice
 
 
 def _is_plain(node: Any) -> bool:
     """Whether it is no container, and equal to none. Bytes may be equal to a `bytearray`."""
-    return isinstance(node, ast.Constant) and type(node.value) is not bytes
+    return type(node) is ast.Constant and type(node.value) is not bytes
 
 
 def _is_number(node: Any) -> bool:
-    return isinstance(node, ast.Constant) and type(node.value) in NUMBERS
+    return type(node) is ast.Constant and type(node.value) in NUMBERS
 
 
 def _is_fraction(node: Any) -> bool:
-    return isinstance(node, ast.Constant) and type(node.value) in NUMBERS[1:]
+    return type(node) is ast.Constant and type(node.value) in NUMBERS[1:]
 
 
 def _is_text(node: Any) -> bool:
-    return isinstance(node, ast.JoinedStr) or isinstance(node, ast.Constant) and type(node.value) is str
+    return type(node) is ast.JoinedStr or type(node) is ast.Constant and type(node.value) is str
 
 
 def _is_hook(node: Any) -> bool:
-    return isinstance(node, ast.Call) and isinstance(node.func, ast.Name) and node.func.id.startswith(PREFIX)
+    return type(node) is ast.Call and type(node.func) is ast.Name and node.func.id.startswith(PREFIX)

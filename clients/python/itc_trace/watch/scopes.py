@@ -4,8 +4,7 @@ and who captures it."""
 from __future__ import annotations
 
 import ast
-from collections import Counter
-from collections.abc import Callable, Iterator
+from collections.abc import Callable
 from typing import Any
 
 from .kinds import METHODS
@@ -51,7 +50,8 @@ class Scope:
         self.kind = kind
         self.parent = parent
         self.name = name
-        self.bound: Counter[str] = Counter()
+        self.bound: dict[str, int] = {}
+        """How often each name is bound there."""
         self.globals: set[str] = set()
         self.nonlocals: set[str] = set()
         self.used: set[str] = set()
@@ -125,6 +125,8 @@ class Scope:
     @property
     def function(self) -> Scope:
         """The scope itself, or the one that a comprehension stands in."""
+        if self.kind is not COMPREHENSION:
+            return self
         scope = self
         while scope.kind == COMPREHENSION and scope.parent is not None:
             scope = scope.parent
@@ -136,7 +138,10 @@ class Scope:
         One that stands in a loop, or in another scope than the variable's own, counts as several.
         """
         owner = self.owner(name) if name in self.globals or name in self.nonlocals else self
-        owner.bound[name] += LATER_BINDING if is_repeated or owner is not self else FIRST_BINDING
+        owner.add_bindings(name, LATER_BINDING if is_repeated or owner is not self else FIRST_BINDING)
+
+    def add_bindings(self, name: str, count: int) -> None:
+        self.bound[name] = self.bound.get(name, 0) + count
 
 
 class Scopes:
@@ -174,46 +179,45 @@ class Scopes:
         function = scope.function
         for name in scope.used:
             owner = scope.owner(name)
-            if owner.function is not function:
+            if owner is not scope and owner.function is not function:
                 owner.captured.add(name)
 
     def may_be_shared(self, scope: Scope, name: str) -> bool:
         """Whether the variable is bound more than once, and more than its own scope uses it."""
         owner = scope.owner(name)
         if owner.kind == MODULE and self.learned.is_stored_elsewhere(name):
-            return owner.bound[name] > 0
+            return name in owner.bound
         if owner.kind == MODULE and owner.is_open and name not in owner.defined and name not in owner.imported:
-            return owner.bound[name] > 0 or not self.learned.is_builtin(name)
+            return name in owner.bound or not self.learned.is_builtin(name)
         return name in owner.captured and (
-            owner.kind == COMPREHENSION or owner.kind != CLASS and owner.bound[name] > FIRST_BINDING
+            owner.kind == COMPREHENSION or owner.kind != CLASS and owner.bound.get(name, 0) > FIRST_BINDING
         )
 
     # The walk
 
     def _walk(self, node: Any) -> int:
         """Looks at a node and all that is inside. Gives what it has."""
-        kind = type(node)
-        node.inside = inside = (_VISITS.get(kind) or _visit_of(kind))(self, node)
+        node.inside = inside = _VISITS[type(node)](self, node)
         return inside
 
     def _walk_all(self, nodes: list[Any]) -> int:
         inside = 0
         for node in nodes:
             if node is not None:
-                kind = type(node)
-                node.inside = found = (_VISITS.get(kind) or _visit_of(kind))(self, node)
+                node.inside = found = _VISITS[type(node)](self, node)
                 inside |= found
         return inside
 
     def _walk_inside(self, node: Any) -> int:
         """Looks at all that is inside of a node."""
         inside = 0
-        for name in fields_of(type(node)):
-            one = getattr(node, name, None)
+        for name in FIELDS[type(node)]:
+            one: Any = getattr(node, name, None)
             if type(one) is list:
                 inside |= self._walk_all(one)
-            elif isinstance(one, ast.AST):
-                inside |= self._walk(one)
+            elif type(one) in FIELDS:
+                one.inside = found = _VISITS[type(one)](self, one)
+                inside |= found
         return inside
 
     def _walk_leaf(self, node: Any) -> int:
@@ -245,7 +249,7 @@ class Scopes:
         if type(node.ctx) is ast.Load:
             scope.used.add(node.id)
         elif scope.kind == COMPREHENSION and self._is_target:
-            scope.bound[node.id] += FIRST_BINDING
+            scope.add_bindings(node.id, FIRST_BINDING)
         else:
             self._bind(node.id)
             if scope.kind == CLASS:
@@ -307,10 +311,10 @@ class Scopes:
     def _visit_Attribute(self, node: ast.Attribute) -> int:
         if type(node.ctx) is not ast.Load:
             self._note_stored(node.attr, node.value)
-            whole: ast.expr = node.value
-            while isinstance(whole, ast.Attribute):
+            whole: Any = node.value
+            while type(whole) is ast.Attribute:
                 whole = whole.value
-            if isinstance(whole, ast.Name) and whole.id in self._scope.owner(whole.id).imported:
+            if type(whole) is ast.Name and whole.id in self._scope.owner(whole.id).imported:
                 self.learned.add_elsewhere(node.attr)
         elif node.attr == "modules" and isinstance(node.value, ast.Name) and node.value.id == "sys":
             self.module.is_open = True
@@ -410,12 +414,13 @@ class Scopes:
 
     def _walk_function(self, node: Any, name: str) -> int:
         before = self._scope, self._loops
-        inside = _mark_annotations(node)
+        arguments = arguments_of(node.args)
+        inside = _mark_annotations(node, arguments)
         self._scope, self._loops = self._with_type_parameters(node), 0
         self._scope = self._opened(node, FUNCTION, name)
-        for one in _arguments(node.args):
-            self._scope.bind(one.arg, False)
-        is_lambda = isinstance(node, ast.Lambda)
+        for one in arguments:
+            self._scope.add_bindings(one.arg, FIRST_BINDING)
+        is_lambda = type(node) is ast.Lambda
         inside |= self._walk(node.body) if is_lambda else self._walk_all(node.body)
         self._scope, self._loops = before
         return inside
@@ -486,31 +491,19 @@ def _visit_slice(scopes: Scopes, node: Any) -> int:
     return scopes._walk_inside(node) | SCOPED
 
 
+_KINDS = [kind for kind in vars(ast).values() if isinstance(kind, type) and issubclass(kind, ast.AST)]
+FIELDS = {kind: tuple([name for name in kind._fields if name not in WITHOUT_NODES]) for kind in _KINDS}
+"""Of each kind of node the fields that may have other nodes."""
 _VISITS: dict[type, Visit] = {
+    **{kind: getattr(Scopes, f"_visit_{kind.__name__}", Scopes._walk_inside) for kind in _KINDS},
     **dict.fromkeys(_LEAVES, Scopes._walk_leaf), **dict.fromkeys(LATE_KINDS[1:], _visit_late), ast.Slice: _visit_slice,
 }
-_FIELDS: dict[type, tuple[str, ...]] = {}
-
-
-def _visit_of(kind: type) -> Visit:
-    visit = _VISITS.get(kind)
-    if visit is None:
-        visit = _VISITS[kind] = getattr(Scopes, f"_visit_{kind.__name__}", Scopes._walk_inside)
-    return visit
-
-
-def fields_of(kind: type[ast.AST]) -> tuple[str, ...]:
-    """The fields of a node that may have other nodes."""
-    names = _FIELDS.get(kind)
-    if names is None:
-        names = _FIELDS[kind] = tuple(name for name in kind._fields if name not in WITHOUT_NODES)
-    return names
 
 
 def mark(node: Any) -> int:
     """Tells of each node what it has inside, with no look at scopes: those of annotations are others."""
     inside = 0
-    for name in fields_of(type(node)):
+    for name in FIELDS[type(node)]:
         one = getattr(node, name, None)
         for child in one if isinstance(one, list) else (one,):
             if isinstance(child, ast.AST):
@@ -519,9 +512,9 @@ def mark(node: Any) -> int:
     return inside
 
 
-def _mark_annotations(node: Any) -> int:
+def _mark_annotations(node: Any, arguments: list[ast.arg]) -> int:
     inside = 0
-    for one in _arguments(node.args):
+    for one in arguments:
         if one.annotation is not None:
             inside |= mark(one.annotation)
     returns = getattr(node, "returns", None)
@@ -533,7 +526,7 @@ def _count_later(scope: Scope, starting: set[str]) -> None:
     is_after = False
     for is_call, name in scope.calls_and_bindings:
         if not is_call and is_after:
-            scope.bound[name] += LATER_BINDING - FIRST_BINDING
+            scope.add_bindings(name, LATER_BINDING - FIRST_BINDING)
         is_after = is_after or is_call and name in starting
 
 
@@ -548,6 +541,10 @@ def _starting_functions(called_by: dict[str, set[str]]) -> set[str]:
     return found
 
 
-def _arguments(arguments: ast.arguments) -> Iterator[ast.arg]:
-    yield from (*arguments.posonlyargs, *arguments.args, *arguments.kwonlyargs)
-    yield from (one for one in (arguments.vararg, arguments.kwarg) if one is not None)
+def arguments_of(arguments: ast.arguments) -> list[ast.arg]:
+    found = [*arguments.posonlyargs, *arguments.args, *arguments.kwonlyargs]
+    if arguments.vararg is not None:
+        found.append(arguments.vararg)
+    if arguments.kwarg is not None:
+        found.append(arguments.kwarg)
+    return found
