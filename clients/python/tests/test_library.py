@@ -21,7 +21,8 @@ class Library(unittest.TestCase):
     def assert_passing(self, *modules: str) -> None:
         ran = run_traced("-m", "unittest", *modules)
         self.assertEqual(ran.returncode, 0, ran.stderr[-2000:])
-        self.assertRegex(ran.stderr, r"\nOK[^\n]*\nitc_trace: no race in this run: 0 places of 0 things, \d+ events")
+        left = r"(itc_trace: left at the end: [^\n]*\n)?"
+        self.assertRegex(ran.stderr, rf"\nOK[^\n]*\n{left}itc_trace: no race in this run: 0 places of 0 things, \d+ events")
 
 
 if __name__ == "__main__":
