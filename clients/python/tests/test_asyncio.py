@@ -399,6 +399,49 @@ class Futures(Asynchronous):
 
                 self.ordered(main)
 
+    def test_who_sees_it_cancelled_comes_after_who_cancelled_it(self) -> None:
+        for steps, is_ordered in (("write cancel", True), ("cancel write", False)):
+            with self.subTest(steps=steps):
+
+                async def main() -> None:
+                    future = asyncio.get_running_loop().create_future()
+                    do = {"write": write, "cancel": future.cancel}
+
+                    async def give() -> None:
+                        for step in steps.split():
+                            do[step]()
+
+                    async def take() -> None:
+                        self.assertTrue(future.cancelled())
+                        write()
+
+                    await one_after_another(give, take)
+
+                (self.ordered if is_ordered else self.race)(main)
+
+    def test_who_sees_a_task_cancelled_comes_after_its_end(self) -> None:
+        async def main() -> None:
+            async def give() -> None:
+                write()
+                raise asyncio.CancelledError
+
+            task = asyncio.create_task(give())
+            while not task.cancelled():
+                await asyncio.sleep(0)
+            write()
+
+        self.ordered(main)
+
+    def test_who_sees_a_gathering_done_comes_after_all_of_it(self) -> None:
+        async def main() -> None:
+            gathering = asyncio.gather(writing("x"), writing("y"))
+            while not gathering.done():
+                await asyncio.sleep(0)
+            write("x")
+            write("y")
+
+        self.ordered(main)
+
     def test_a_later_callback_comes_after_who_asked_for_it(self) -> None:
         for name in ("call_later", "call_at"):
             with self.subTest(name=name):

@@ -304,6 +304,18 @@ class Pools(TracedCase):
 
         self.assert_ordered(scenario)
 
+    def test_who_asks_whether_a_future_is_cancelled_comes_after_who_cancelled_it(self) -> None:
+        def after() -> None:
+            future: Future[int] = Future()
+            in_turn(lambda: (write(), future.cancel()), lambda: future.cancelled() and write())
+
+        def too_late() -> None:
+            future: Future[int] = Future()
+            in_turn(lambda: (future.cancel(), write()), lambda: future.cancelled() and write())
+
+        self.assert_ordered(after)
+        self.assert_race(too_late)
+
     def test_the_end_of_a_pool_comes_after_its_jobs(self) -> None:
         def scenario() -> None:
             kept = []

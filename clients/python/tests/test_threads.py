@@ -140,6 +140,35 @@ class Threads(TracedCase):
 
         self.assert_ordered(scenario)
 
+    def test_who_sees_a_timer_finished_comes_after_what_it_did(self) -> None:
+        def polls() -> None:
+            timer = threading.Timer(0.01, write)
+            timer.start()
+            while not timer.finished.is_set():
+                time.sleep(0.001)
+            write()
+            timer.join()
+
+        def waits() -> None:
+            timer = threading.Timer(0.01, write)
+            timer.start()
+            self.assertTrue(timer.finished.wait(WAIT))
+            write()
+            timer.join()
+
+        for scenario in (polls, waits):
+            with self.subTest(scenario=scenario):
+                self.assert_ordered(scenario)
+
+    def test_who_sees_a_timer_cancelled_is_not_ordered_with_another_thread(self) -> None:
+        def scenario() -> None:
+            timer = threading.Timer(WAIT, write)
+            timer.start()
+            in_turn(lambda: (timer.cancel(), write()), lambda: timer.finished.is_set() and write())
+            timer.join()
+
+        self.assert_race(scenario)
+
     def test_a_plain_thread_comes_after_its_start(self) -> None:
         def scenario() -> None:
             step = Step()

@@ -164,17 +164,17 @@ def _take_called(future: Any) -> None:
         take(token, 3)
 
 
-def _seeing(plain: Any) -> Any:
-    """A `done` after which whoever sees that it is done comes after the result."""
-    original = plain.done
+def _seeing(plain: Any, name: str) -> Any:
+    """A `done` or a `cancelled` after which whoever sees that it is so comes after the result."""
+    original = getattr(plain, name)
 
-    def done(self: Any) -> bool:
-        is_done = bool(original(self))
-        if is_done and state.note is not None and not is_internal(frame_at(1)):
+    def see(self: Any) -> bool:
+        is_so = bool(original(self))
+        if is_so and state.note is not None and not is_internal(frame_at(1)):
             take_any(self)
-        return is_done
+        return is_so
 
-    return like(original, done)
+    return like(original, see)
 
 
 class TracedTask(_PlainTask, metaclass=_LikePlain):  # type: ignore[misc]
@@ -200,7 +200,8 @@ class TracedTask(_PlainTask, metaclass=_LikePlain):  # type: ignore[misc]
     __iter__ = __await__
     result = _looking(_PlainTask, "result")
     exception = _looking(_PlainTask, "exception")
-    done = _seeing(_PlainTask)
+    done = _seeing(_PlainTask, "done")
+    cancelled = _seeing(_PlainTask, "cancelled")
     add_done_callback = _adding(_PlainTask)
     remove_done_callback = _removing(_PlainTask)
 
@@ -265,7 +266,8 @@ class TracedFuture(_PlainFuture, metaclass=_LikePlain):  # type: ignore[misc]
     __iter__ = __await__
     result = _looking(_PlainFuture, "result")
     exception = _looking(_PlainFuture, "exception")
-    done = _seeing(_PlainFuture)
+    done = _seeing(_PlainFuture, "done")
+    cancelled = _seeing(_PlainFuture, "cancelled")
     add_done_callback = _adding(_PlainFuture)
     remove_done_callback = _removing(_PlainFuture)
 
@@ -284,7 +286,7 @@ class TracedGathering(_PlainGathering, metaclass=_LikePlain):  # type: ignore[mi
 
     @property
     def _itc_sources(self) -> list[Any]:
-        error = None if self.cancelled() else _PlainGathering.exception(self)
+        error = None if _PlainGathering.cancelled(self) else _PlainGathering.exception(self)
         done = [child for child in self._children if child.done()]
         if error is None:
             return done
@@ -294,6 +296,8 @@ class TracedGathering(_PlainGathering, metaclass=_LikePlain):  # type: ignore[mi
     __iter__ = __await__
     result = _looking(_PlainGathering, "result")
     exception = _looking(_PlainGathering, "exception")
+    done = _seeing(_PlainGathering, "done")
+    cancelled = _seeing(_PlainGathering, "cancelled")
     add_done_callback = _adding(_PlainGathering)
     remove_done_callback = _removing(_PlainGathering)
 

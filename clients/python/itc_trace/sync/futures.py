@@ -35,7 +35,8 @@ def put(patches: Patches) -> None:
         patches.wrap(future, name, _result)
     patches.wrap(future, "cancel", _cancel)
     patches.wrap(future, "_invoke_callbacks", _invoke_callbacks)
-    patches.wrap(future, "done", _done)
+    for name in ("done", "cancelled"):
+        patches.wrap(future, name, _seeing)
     patches.wrap(future, "add_done_callback", _add_done_callback)
     _put_pools(patches)
     patches.replace(concurrent.futures, "wait", like(base.wait, _wait(base.wait)))
@@ -151,14 +152,16 @@ def _result(original: Any) -> Any:
     return result
 
 
-def _done(original: Any) -> Any:
-    def done(self: Any) -> bool:
-        is_done = bool(original(self))
-        if is_done and not is_internal(frame_at(1)):
-            take_result(self)
-        return is_done
+def _seeing(original: Any) -> Any:
+    """A `done` or a `cancelled` after which whoever sees that it is so comes after the result."""
 
-    return done
+    def see(self: Any) -> bool:
+        is_so = bool(original(self))
+        if is_so and not is_internal(frame_at(1)):
+            take_result(self)
+        return is_so
+
+    return see
 
 
 def _add_done_callback(original: Any) -> Any:

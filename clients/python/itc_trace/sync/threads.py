@@ -89,6 +89,8 @@ def _begin_timer(original: Any) -> Any:
     def __init__(self: Any, interval: Any, function: Any, *words: Any, **named: Any) -> None:
         original(self, interval, function, *words, **named)
         self.__dict__["_itc_handed"] = handed_at(function)
+        if type(self.finished) is threading.Event:
+            _be_of_the_program(self.finished)
 
     return __init__
 
@@ -301,6 +303,12 @@ def _event_begin(original: Any) -> Any:
             self._cond._waiters = _EventWaiters()
 
     return __init__
+
+
+def _be_of_the_program(event: Any) -> None:
+    """An event that the library has made for the program: nobody has it yet."""
+    event._itc_is_silent = False
+    event._cond._waiters = _EventWaiters()
 
 
 def _is_noted(event: Any) -> bool:
