@@ -149,7 +149,6 @@ class Run:
                 if not (possible and self.is_race(first, second) and first.loop != second.loop):
                     _count(found, first, second)
         return found
-
     def _splits(self, touches: list[Row], is_one: object) -> set[tuple[Row, Row]]:
         """Between tasks of one loop: all triples of a read, a change that goes back to it, and a change in between."""
         found = set()
@@ -165,11 +164,19 @@ class Run:
             own = [row for row in touches[: touches.index(change)] if row.task == change.task and row.kind not in CHANGING]
             if not own or own[-1].turn == change.turn or read not in own or read.turn != own[-1].turn:
                 continue
+            if change.kind == ADDITION and self._is_acted_on(own[-1], touches[: touches.index(change)]):
+                continue
             if conflicts(read.kind, between.kind) and apart(read, between) and apart(change, between):
                 found.add(_by_event(read, between))
                 if conflicts(change.kind, between.kind):
                     found.add(_by_event(change, between))
         return found
+
+    @staticmethod
+    def _is_acted_on(read: Row, touches: list[Row]) -> bool:
+        """Whether its task made a change behind it in the same turn."""
+        behind = touches[touches.index(read) + 1:]
+        return any((row.task, row.turn) == (read.task, read.turn) and row.kind in CHANGING for row in behind)
 
 
 class RandomRun(Run):

@@ -234,6 +234,18 @@ def _split_in_one_turn(rows: list[Row]) -> Iterator[Any]:
             yield racing_pairs._Split(reads[:1], row)
 
 
+def _split_behind_any_step(rows: list[Row]) -> Iterator[Any]:
+    """As if nothing that follows a look and a change of one turn was made from that look."""
+    reads: list[Row] = []
+    for row in rows:
+        if row.kind not in CHANGING:
+            reads = [row]
+        elif reads and reads[0].turn == row.turn:
+            reads = []
+        elif reads:
+            yield racing_pairs._Split(reads, row)
+
+
 def _no_signals(trace: Trace, steps: Steps) -> Told:
     """As if a task knew by signals only what its own task did."""
     told = [0]
@@ -271,6 +283,7 @@ WRONG: list[tuple[Any, str, Any]] = [
     (Trace, "before", _before_without("join")),
     (racing_pairs, "_splits", _no_split),
     (racing_pairs, "_splits", _split_in_one_turn),
+    (racing_pairs, "_splits", _split_behind_any_step),
     (racing_pairs._SplitPairs, "_told_twice", lambda *_: 0),
     (racing_pairs._SplitPairs, "_unordered_later", lambda *_: {}),
     (racing_pairs._SplitPairs, "_between", lambda pairs, split, read, other: other.events & ~pairs._own[read.task]),

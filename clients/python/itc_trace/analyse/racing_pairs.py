@@ -13,7 +13,7 @@ from itertools import count
 from typing import NamedTuple
 
 from .bit_matrix import transposed
-from ..model.conflicts import CHANGING, CONFLICTING, ITERATION, KEYS, STEP
+from ..model.conflicts import ADDITION, CHANGING, CONFLICTING, ITERATION, KEYS, STEP
 from ..record.journal import Row
 from .trace import Events, Unordered, lowest
 
@@ -125,19 +125,28 @@ def _tasks_by_loop(touches: list[Row]) -> Iterable[dict[str, list[Row]]]:
 
 
 def _splits(rows: list[Row]) -> Iterator[_Split]:
-    """Each change by a task that has no read of its own turn before it, with the last reads of an earlier turn."""
+    """Each change by a task that has no read of its own turn before it, with the last reads of an earlier turn.
+
+    A read and a change within one turn are one step. What is only added or taken away in a later turn, as by
+    `busy.remove(key)`, is not made from a read that was acted on in its own turn.
+    """
     yield from _iterations(rows)
     reads: list[Row] = []
+    are_acted_on = False
     for row in rows:
+        is_of_turn = bool(reads) and reads[-1].turn == row.turn
         if row.kind in CHANGING:
-            if reads and reads[-1].turn < row.turn:
+            if reads and reads[-1].turn < row.turn and not (are_acted_on and row.kind == ADDITION):
                 yield _Split(reads, row)
+            are_acted_on = are_acted_on or is_of_turn
         elif row.kind == STEP:
             pass
-        elif reads and reads[-1].turn == row.turn:
+        elif is_of_turn:
             reads.append(row)
+            are_acted_on = False
         else:
             reads = [row]
+            are_acted_on = False
 
 
 def _iterations(rows: list[Row]) -> Iterator[_Split]:
