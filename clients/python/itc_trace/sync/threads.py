@@ -90,7 +90,8 @@ def _begin_timer(original: Any) -> Any:
     def __init__(self: Any, interval: Any, function: Any, *words: Any, **named: Any) -> None:
         original(self, interval, function, *words, **named)
         self.__dict__["_itc_handed"] = handed_at(function)
-        if type(self.finished) is threading.Event and hasattr(self.finished, "_itc_is_silent"):  # Others may stand for it.
+        # Another library may have put an event of its own in its place.
+        if type(self.finished) is threading.Event and hasattr(self.finished, "_itc_is_silent"):
             _be_of_the_program(self.finished)
 
     return __init__
