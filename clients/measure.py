@@ -80,7 +80,7 @@ def build(language: str, folder: Path) -> None:
     """Builds the programs of the language, with all optimizations."""
     source = CLIENTS / language
     if language == "java":
-        sources = [*source.glob("src/main/java/itctrace/*.java"), *source.glob("examples/*.java")]
+        sources = [*source.glob("src/main/java/example/hometturi/itctrace/*.java"), *source.glob("examples/*.java")]
         subprocess.run(["javac", "-nowarn", "-d", folder / "java", *sources], check=True)
     elif language == "rust":
         words = ["cargo", "build", "--quiet", "--offline", "--release", "--examples", "--target-dir", folder / "rust"]

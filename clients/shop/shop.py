@@ -17,7 +17,7 @@ CLIENTS = Path(__file__).resolve().parent.parent
 
 
 def build(folder: Path) -> None:
-    sources = [*(CLIENTS / "java/src/main/java/itctrace").glob("*.java"), CLIENTS / "java/examples/Sales.java"]
+    sources = [*(CLIENTS / "java/src/main/java/example/hometturi/itctrace").glob("*.java"), CLIENTS / "java/examples/Sales.java"]
     subprocess.run(["javac", "-d", folder / "java", *sources], check=True)
     subprocess.run(["go", "build", "-o", folder / "truck", "./truck"], cwd=CLIENTS / "go", check=True)
 

@@ -1,4 +1,4 @@
-import itctrace.Session;
+import example.hometturi.itctrace.Session;
 import java.io.IOException;
 
 /**

@@ -1,4 +1,4 @@
-import itctrace.Session;
+import example.hometturi.itctrace.Session;
 import java.io.IOException;
 import java.io.UncheckedIOException;
 import java.util.concurrent.locks.ReentrantLock;

@@ -1,4 +1,4 @@
-import itctrace.Traced;
+import example.hometturi.itctrace.Traced;
 import java.io.IOException;
 import java.nio.file.Files;
 import java.nio.file.Path;

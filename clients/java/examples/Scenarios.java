@@ -1,12 +1,12 @@
-import static itctrace.Traced.touch;
+import static example.hometturi.itctrace.Traced.touch;
 
-import itctrace.Traced;
-import itctrace.TracedBoolean;
-import itctrace.TracedFuture;
-import itctrace.TracedInteger;
-import itctrace.TracedMonitor;
-import itctrace.TracedRecursiveTask;
-import itctrace.TracedThread;
+import example.hometturi.itctrace.Traced;
+import example.hometturi.itctrace.TracedBoolean;
+import example.hometturi.itctrace.TracedFuture;
+import example.hometturi.itctrace.TracedInteger;
+import example.hometturi.itctrace.TracedMonitor;
+import example.hometturi.itctrace.TracedRecursiveTask;
+import example.hometturi.itctrace.TracedThread;
 import java.util.ArrayList;
 import java.util.List;
 import java.util.Map;

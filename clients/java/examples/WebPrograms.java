@@ -1,8 +1,8 @@
 import com.sun.net.httpserver.HttpContext;
 import com.sun.net.httpserver.HttpExchange;
 import com.sun.net.httpserver.HttpServer;
-import itctrace.Traced;
-import itctrace.TracedWeb;
+import example.hometturi.itctrace.Traced;
+import example.hometturi.itctrace.TracedWeb;
 import java.io.IOException;
 import java.io.InputStream;
 import java.io.OutputStream;

@@ -1,9 +1,9 @@
-import itctrace.Reporter;
-import itctrace.Traced;
-import itctrace.TracedFuture;
-import itctrace.TracedMonitor;
-import itctrace.TracedRequest;
-import itctrace.TracedThread;
+import example.hometturi.itctrace.Reporter;
+import example.hometturi.itctrace.Traced;
+import example.hometturi.itctrace.TracedFuture;
+import example.hometturi.itctrace.TracedMonitor;
+import example.hometturi.itctrace.TracedRequest;
+import example.hometturi.itctrace.TracedThread;
 import java.nio.file.Files;
 import java.nio.file.Path;
 import java.util.ArrayList;

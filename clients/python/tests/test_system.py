@@ -31,7 +31,8 @@ import itc_trace
 itc_trace.install(watched=None)
 itc_trace.touch("x", write=True)
 """
-JAVA = """import itctrace.Reporter;
+JAVA_PACKAGE = CLIENTS / "java/src/main/java/example/hometturi/itctrace"
+JAVA = """import example.hometturi.itctrace.Reporter;
 
 public final class Seller {
     public static void main(String[] words) throws Exception {
@@ -49,18 +50,19 @@ public final class Seller {
 }
 """
 JAVA_MAIN = """package shop;
+import example.hometturi.itctrace.*;
 
 public final class Main {
     public static void main(String[] words) throws InterruptedException {
-        itctrace.TracedThread left = itctrace.Traced.start("left", () -> { shop.a.Store.put(); shop.b.Store.put(); });
-        itctrace.TracedThread right = itctrace.Traced.start("right", () -> { shop.a.Store.put(); shop.b.Store.put(); });
+        TracedThread left = Traced.start("left", () -> { shop.a.Store.put(); shop.b.Store.put(); });
+        TracedThread right = Traced.start("right", () -> { shop.a.Store.put(); shop.b.Store.put(); });
         left.join();
         right.join();
     }
 }
 """
 JAVA_STORE = """package shop.PACKAGE;
-import itctrace.Traced;
+import example.hometturi.itctrace.Traced;
 public final class Store {
     public static void put() {
         Traced.touch("stock of PACKAGE", true);
@@ -178,7 +180,7 @@ for thread in threads: thread.join()
 
     @unittest.skipUnless(shutil.which("javac") and shutil.which("java"), "no Java")
     def test_a_lost_update_between_python_and_java(self) -> None:
-        out, sources = str(self.folder / "out"), CLIENTS / "java" / "src" / "main" / "java" / "itctrace"
+        out, sources = str(self.folder / "out"), JAVA_PACKAGE
         seller = self.written("Seller.java", JAVA)
         quick = ("-J-XX:TieredStopAtLevel=1", "-J-XX:+UseSerialGC")
         subprocess.run(["javac", *quick, "-d", out, *map(str, sorted(sources.glob("*.java"))), seller], check=True)
@@ -215,7 +217,7 @@ for thread in threads: thread.join()
             (app / "shop" / package).mkdir()
             written.append(app / "shop" / package / "Store.java")
             written[-1].write_text(JAVA_STORE.replace("PACKAGE", package))
-        sources = CLIENTS / "java" / "src" / "main" / "java" / "itctrace"
+        sources = JAVA_PACKAGE
         quick = ("-J-XX:TieredStopAtLevel=1", "-J-XX:+UseSerialGC")
         subprocess.run(["javac", *quick, "-d", out, *map(str, [*sorted(sources.glob("*.java")), *written])], check=True)
         (self.folder / "conf").mkdir()

@@ -1,0 +1,50 @@
+package example.hometturi.itctrace;
+
+import java.lang.ref.Reference;
+import java.lang.ref.ReferenceQueue;
+import java.lang.ref.WeakReference;
+import java.util.Map;
+import java.util.concurrent.ConcurrentHashMap;
+import java.util.function.Supplier;
+
+/** What is kept of objects of the program, as long as they live. An object is told by what it is, and not by what it equals. */
+final class Keyed<V> {
+    private final Map<Object, V> values = new ConcurrentHashMap<>();
+    private final ReferenceQueue<Object> gone = new ReferenceQueue<>();
+
+    /** An object, which this keeps from nothing. */
+    private static final class Key extends WeakReference<Object> {
+        private final int hash;
+
+        Key(Object object, ReferenceQueue<Object> gone) {
+            super(object, gone);
+            hash = System.identityHashCode(object);
+        }
+
+        @Override
+        public boolean equals(Object other) {
+            return this == other || other instanceof Key key && get() != null && get() == key.get();
+        }
+
+        @Override
+        public int hashCode() {
+            return hash;
+        }
+    }
+
+    /** Null if nothing is kept of the object. */
+    V known(Object object) {
+        return values.get(new Key(object, null));
+    }
+
+    V of(Object object, Supplier<V> make) {
+        V known = known(object);
+        if (known != null) {
+            return known;
+        }
+        for (Reference<?> old = gone.poll(); old != null; old = gone.poll()) {
+            values.remove(old);
+        }
+        return values.computeIfAbsent(new Key(object, gone), key -> make.get());
+    }
+}

@@ -1,0 +1,93 @@
+package example.hometturi.itctrace;
+
+import example.hometturi.itctrace.Place.Gives;
+import example.hometturi.itctrace.Place.Noted;
+import example.hometturi.itctrace.Row.Site;
+import example.hometturi.itctrace.Task.HeldLock;
+
+/** What a lock is called, in labels and as one of those that a task holds. It is looked at with the lock held. */
+final class LockName {
+    /** After so many turns of one task alone, nobody looks for the line that releases the lock any more. */
+    static final int FEW_TURNS = 16;
+
+    private final Site made = Traced.site();
+    private String name;
+    private Gives luck;
+    private Gives guard;
+    private Gives signal;
+    /** Whether others wait for more than the lock, as for a condition. */
+    private volatile boolean isGuard;
+    /** Whether it keeps nobody out: it was released while one was held that was acquired later. */
+    private volatile boolean isSignal;
+    /** Whether another one was acquired while it was held. Then it is looked where each task acquires it. */
+    private volatile boolean isNested;
+
+    private String name() {
+        if (name == null) {
+            name = Traced.lockName(made);
+            String told = "lock (" + made + ")";
+            luck = new Gives("lock" + made.line(), "release " + told, "acquire " + told, name, true);
+            guard = new Gives("lock" + made.line(), "release " + told, "acquire " + told, name, false);
+            signal = Gives.order("lock" + made.line(), "release " + told, "acquire " + told);
+        }
+        return name;
+    }
+
+    /** Has its name be known. */
+    void prepare() {
+        name();
+    }
+
+    /** Whether a release would give this now. */
+    boolean gives(Noted noted) {
+        return noted.gives() == gives();
+    }
+
+    private Gives gives() {
+        return isSignal ? signal : isGuard ? guard : luck;
+    }
+
+    /** Others wait for more than the lock, as for a condition. Then its hand-over is meant, and no luck. */
+    void becomeGuard() {
+        isGuard = true;
+    }
+
+    /** Where this thread acquires it. Nobody looks if its task alone acquires it again and again, and no other one with it. */
+    Site acquiredAt(Traced.Own own, int turns) {
+        return turns < FEW_TURNS || isNested || own.holdsAny() ? Traced.site() : Site.NONE;
+    }
+
+    /** This thread's task holds it from now on. It has waited for it, if it would have. */
+    void hold(Traced.Own own, Site at, boolean isShared, boolean hasWaited) {
+        own.hold(this, new HeldLock(name(), at, isShared), hasWaited && !isSignal);
+    }
+
+    /** Another one was acquired while it was held. */
+    void becomeNested() {
+        isNested = true;
+    }
+
+    /** This thread's task no longer holds it. */
+    void letGo(Traced.Own own) {
+        if (own.letGo(name()) && !isSignal) {
+            isSignal = true; // One that was acquired later stays, as in a lock made of two.
+            Traced.tellSignal(name());
+        }
+    }
+
+    /**
+     * Notes that this thread releases the lock here. If its task alone has acquired the lock for many turns, the line of an earlier
+     * release stands for this one.
+     */
+    Noted release(Place here, Noted last, int turns) {
+        name();
+        Gives gives = gives();
+        Place.Slot slot = here.slot(gives.isLuck());
+        if (turns < FEW_TURNS || last == null) {
+            slot.noted = new Noted(gives, Traced.site(), Row.now());
+        } else if (slot.noted == null || slot.noted.gives() != gives) {
+            slot.noted = new Noted(gives, last.site(), 0);
+        }
+        return slot.noted;
+    }
+}

@@ -1,0 +1,95 @@
+package example.hometturi.itctrace;
+
+import example.hometturi.itctrace.Row.Handed;
+import example.hometturi.itctrace.Row.Site;
+import java.util.concurrent.atomic.AtomicIntegerFieldUpdater;
+
+/** A place in a task, behind all that it did until then. Somebody may come after it as long as it has marks. */
+final class Place {
+    /** What an order is called: its message, its giving and its taking. A lock is named. It is luck if nobody waits for its hand-over. */
+    record Gives(String hint, String giving, String taking, String lock, boolean isLuck) {
+        static Gives order(String hint, String giving, String taking) {
+            return new Gives(hint, giving, taking, null, false);
+        }
+
+        /** What a row names of it. */
+        Handed handed() {
+            return lock == null ? null : new Handed(lock, isLuck);
+        }
+    }
+
+    /** What has marked a place last, and where and when. The time is 0 if nobody has asked for it. */
+    record Noted(Gives gives, Site site, long time) {}
+
+    /** One of the two messages that a place may be sent as. */
+    static final class Slot {
+        volatile Noted noted;
+        /** Once it is sent. */
+        volatile String message;
+
+        /** What has marked the place, if that is not sent yet. */
+        Noted unsent() {
+            return message == null ? noted : null;
+        }
+    }
+
+    private static final AtomicIntegerFieldUpdater<Place> MARKS = AtomicIntegerFieldUpdater.newUpdater(Place.class, "marks");
+
+    final Task task;
+    final Slot luck = new Slot();
+    final Slot meant = new Slot();
+    private volatile int marks;
+    /** How many places of the task were sent up to this one. It is 0 as long as it is not sent. */
+    volatile long position;
+
+    Place(Task task) {
+        this.task = task;
+    }
+
+    Slot slot(boolean isLuck) {
+        return isLuck ? luck : meant;
+    }
+
+    boolean hasMark() {
+        return marks > 0;
+    }
+
+    void addMark() {
+        MARKS.getAndIncrement(this);
+    }
+
+    void removeMark() {
+        MARKS.getAndDecrement(this);
+    }
+
+    boolean hasUnsent() {
+        return luck.unsent() != null || meant.unsent() != null;
+    }
+
+    /** A place that somebody may come after, and what has marked it. It counts up to its end. */
+    static final class Mark {
+        final Place place;
+        final Noted noted;
+        private boolean isOver;
+
+        Mark(Place place, Noted noted) {
+            this.place = place;
+            this.noted = noted;
+            place.addMark();
+        }
+
+        /** Nobody comes after it any more. */
+        synchronized void end() {
+            if (!isOver) {
+                isOver = true;
+                place.removeMark();
+            }
+        }
+
+        static void endIfAny(Mark mark) {
+            if (mark != null) {
+                mark.end();
+            }
+        }
+    }
+}

@@ -1,0 +1,203 @@
+package example.hometturi.itctrace;
+
+import example.hometturi.itctrace.Place.Mark;
+import java.util.ArrayList;
+import java.util.HashMap;
+import java.util.List;
+import java.util.Map;
+
+/**
+ * A task of the program, and what it did that the collector does not know yet. All but its name and {@code here} is looked at with the
+ * tracer's lock held.
+ *
+ * <p>A task's touches are noted in segments. Each segment ends at a place. If somebody may come after that place, later touches go into
+ * another segment. If nobody may any more, the two become one. So a lock that one task alone acquires leaves nothing in the trace.
+ */
+final class Task {
+    /** From so many segments on, a task looks whether some can become one. */
+    private static final int MANY = 32;
+    /** So many tasks are known at most. What is forgotten may be told once more. */
+    private static final int MOST_KNOWN = 512;
+
+    private static int numbers;
+
+    final String name;
+    final int number;
+    /** The place at the end of the last segment. Only the task's own thread changes it. */
+    Place here;
+
+    /** What is not reported yet, in order. The last one grows. */
+    List<Segment> open = new ArrayList<>();
+    /** How many of its places were sent. */
+    long position;
+    /** The time of its last event. */
+    long time;
+    /** Whether it does nothing more. */
+    volatile boolean isEnded;
+    /** The place at the end, for those who wait for a task that another one has joined. Null if nobody waits. */
+    Mark end;
+
+    Task joinedBy;
+    private int many = MANY;
+    private Map<Integer, Long> meant = new HashMap<>();
+    private Map<Integer, Long> luck = new HashMap<>();
+
+    Task(String name) {
+        this.name = name;
+        synchronized (Task.class) {
+            number = ++numbers;
+        }
+        here = new Place(this);
+        open.add(new Segment(here));
+    }
+
+    /** What tells one of the things that a task did from the others. */
+    sealed interface Deed permits Touch, Acquisition {}
+
+    /** A read or a write. */
+    record Touch(String thing, boolean writes, boolean isAcross, Row.Site site, Held held) implements Deed {}
+
+    /** The task has waited for the last of these locks while it held the others. */
+    record Acquisition(List<HeldLock> locks) implements Deed {}
+
+    /** A lock, where it was acquired, and whether others may read under it meanwhile. */
+    record HeldLock(String lock, Row.Site site, boolean isShared) {}
+
+    /** The locks that a task holds, the last one first. */
+    record Held(String lock, Held others) {
+        List<String> inOrder() {
+            List<String> locks = new ArrayList<>();
+            for (Held one = this; one != null; one = one.others) {
+                locks.add(0, one.lock);
+            }
+            return locks;
+        }
+    }
+
+    /** What a task touched between two places. */
+    static final class Segment {
+        /** The place at its end. */
+        Place place;
+        /** Whether the place was sent. Then nothing is added. */
+        boolean isClosed;
+        /** Its event, once it is reported. */
+        Touches event;
+
+        long time;
+        List<Row> rows = new ArrayList<>();
+        private final Map<Deed, Row> seen = new HashMap<>();
+
+        Segment(Place place) {
+            this.place = place;
+        }
+
+        boolean isEmpty() {
+            return seen.isEmpty();
+        }
+
+        boolean has(Deed deed) {
+            return seen.containsKey(deed);
+        }
+
+        /** Adds the row of what is new. */
+        void add(Deed deed, Row row) {
+            seen.put(deed, row);
+            if (event != null) {
+                event.fresh.add(row);
+            } else {
+                rows.add(row);
+            }
+        }
+
+        private boolean canGrow() {
+            return !isClosed && !place.hasMark();
+        }
+
+        private void absorb(Segment next) {
+            next.seen.forEach(
+                    (deed, row) -> {
+                        if (!has(deed)) {
+                            add(deed, row);
+                        }
+                    });
+            place = next.place;
+            isClosed = next.isClosed;
+            time = time == 0 ? next.time : time;
+        }
+    }
+
+    /** The rows of an event that stands for all that its task touched between two other events. */
+    static final class Touches {
+        /** Which one it is, once the collector has answered. */
+        Row.Event event;
+
+        boolean isClosed;
+        List<Row> fresh = new ArrayList<>();
+    }
+
+    Segment last() {
+        return open.get(open.size() - 1);
+    }
+
+    /** Gives the segment that the next touch belongs to. */
+    Segment grow() {
+        while (open.size() > 1 && open.get(open.size() - 2).canGrow()) {
+            fold(open.size() - 2);
+        }
+        if (open.size() > many) {
+            foldAll();
+            many = Math.max(MANY, 2 * open.size());
+        }
+        if (last().isClosed || last().place.hasMark()) {
+            here = new Place(this);
+            open.add(new Segment(here));
+        }
+        return last();
+    }
+
+    private void fold(int place) {
+        open.get(place).absorb(open.remove(place + 1));
+    }
+
+    void foldAll() {
+        List<Segment> left = new ArrayList<>();
+        for (Segment segment : open) {
+            if (!left.isEmpty() && left.get(left.size() - 1).canGrow()) {
+                left.get(left.size() - 1).absorb(segment);
+            } else {
+                left.add(segment);
+            }
+        }
+        open = left;
+    }
+
+    /** Whether the task has come after the place. What it knows by luck counts if the place is one of luck. */
+    boolean knows(Place place, boolean isLuck) {
+        long position = place.position;
+        return position > 0
+                && (meant.getOrDefault(place.task.number, 0L) >= position
+                        || isLuck && luck.getOrDefault(place.task.number, 0L) >= position);
+    }
+
+    void learn(Task other, long position, boolean isLuck) {
+        Map<Integer, Long> known = isLuck ? luck : meant;
+        if (known.size() > MOST_KNOWN) {
+            known.clear();
+        }
+        known.merge(other.number, position, Math::max);
+    }
+
+    /** A new task knows what its parent does. */
+    void begin(Task parent) {
+        meant.putAll(parent.meant);
+        luck.putAll(parent.luck);
+        learn(parent, parent.position, false);
+    }
+
+    /** It does nothing more. */
+    void forget() {
+        open = new ArrayList<>(List.of(new Segment(here)));
+        meant = new HashMap<>();
+        luck = new HashMap<>();
+    }
+}
