@@ -39,6 +39,8 @@ import java.util.concurrent.locks.ReadWriteLock;
 import java.util.concurrent.locks.ReentrantLock;
 import java.util.concurrent.locks.ReentrantReadWriteLock;
 import java.util.concurrent.locks.StampedLock;
+import java.util.function.Consumer;
+import java.util.function.Function;
 import java.util.stream.IntStream;
 
 /**
@@ -433,16 +435,11 @@ final class Primitives {
 
     private static void parallelStream(boolean isRaced) throws InterruptedException {
         ForkJoinPool pool = new ForkJoinPool(4);
-        write();
         TracedSection section = Traced.section();
-        pool.submit(
-                        () ->
-                                IntStream.range(0, 64)
-                                        .boxed()
-                                        .parallel()
-                                        .map(section.function(number -> number + 1))
-                                        .forEach(section.consumer(number -> read())))
-                .join();
+        write();
+        Function<Integer, Integer> next = section.function(number -> number + 1);
+        Consumer<Integer> look = section.consumer(number -> read());
+        pool.submit(() -> IntStream.range(0, 64).boxed().parallel().map(next).forEach(look)).join();
         if (isRaced) {
             write();
         }

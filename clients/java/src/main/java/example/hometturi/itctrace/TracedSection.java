@@ -1,8 +1,12 @@
 package example.hometturi.itctrace;
 
+import example.hometturi.itctrace.Place.Gives;
+import example.hometturi.itctrace.Place.Mark;
+import java.util.List;
 import java.util.Map;
 import java.util.concurrent.Callable;
 import java.util.concurrent.ConcurrentHashMap;
+import java.util.concurrent.CopyOnWriteArrayList;
 import java.util.function.BinaryOperator;
 import java.util.function.Consumer;
 import java.util.function.Function;
@@ -11,7 +15,7 @@ import java.util.function.Supplier;
 
 /**
  * What the threads of a pool do on behalf of one thread, as for a parallel stream. Each of them is a task of its own, which comes after
- * whoever has begun the section. Whoever ends it comes after all of them:
+ * what the thread that has begun the section did before it wrapped the function. Whoever ends the section comes after all of them:
  *
  * <pre>{@code
  * try (TracedSection section = Traced.section()) {
@@ -20,13 +24,28 @@ import java.util.function.Supplier;
  * }</pre>
  */
 public final class TracedSection implements AutoCloseable {
-    private final Place.Mark begun = Traced.mark(Place.Gives.order("section", "begin section", "work in section"), Traced.site());
+    private static final Gives GIVES = Gives.order("section", "begin section", "work in section");
+
+    private final Mark begun = Traced.mark(GIVES, Traced.site());
     private final Thread owner = Thread.currentThread();
     private final Map<Thread, Task> tasks = new ConcurrentHashMap<>();
+    private final List<Mark> marks = new CopyOnWriteArrayList<>();
 
     TracedSection() {}
 
-    private <T, X extends Exception> T call(Traced.Body<T, X> body) throws X {
+    /** What comes before the calls of a function that is wrapped now. */
+    private Mark wrapped() {
+        if (Thread.currentThread() != owner) {
+            return begun;
+        }
+        Mark mark = Traced.mark(GIVES, Traced.site());
+        if (mark != null) {
+            marks.add(mark);
+        }
+        return mark;
+    }
+
+    private <T, X extends Exception> T call(Mark wrapped, Traced.Body<T, X> body) throws X {
         if (!Traced.isOn() || Thread.currentThread() == owner) {
             return body.run();
         }
@@ -34,30 +53,35 @@ public final class TracedSection implements AutoCloseable {
         return Traced.callIn(
                 task,
                 () -> {
-                    Traced.take(begun, Traced.site());
+                    Traced.take(wrapped, Traced.site());
                     return body.run();
                 });
     }
 
     /** The same function, for the threads of the pool. */
     public <T, R> Function<T, R> function(Function<? super T, ? extends R> body) {
-        return value -> call(() -> body.apply(value));
+        Mark wrapped = wrapped();
+        return value -> call(wrapped, () -> body.apply(value));
     }
 
     /** The same operator. */
     public <T> BinaryOperator<T> operator(BinaryOperator<T> body) {
-        return (first, second) -> call(() -> body.apply(first, second));
+        Mark wrapped = wrapped();
+        return (first, second) -> call(wrapped, () -> body.apply(first, second));
     }
 
     /** The same predicate. */
     public <T> Predicate<T> predicate(Predicate<? super T> body) {
-        return value -> call(() -> body.test(value));
+        Mark wrapped = wrapped();
+        return value -> call(wrapped, () -> body.test(value));
     }
 
     /** The same consumer. */
     public <T> Consumer<T> consumer(Consumer<? super T> body) {
+        Mark wrapped = wrapped();
         return value ->
                 call(
+                        wrapped,
                         () -> {
                             body.accept(value);
                             return null;
@@ -66,12 +90,14 @@ public final class TracedSection implements AutoCloseable {
 
     /** The same supplier. */
     public <T> Supplier<T> supplier(Supplier<? extends T> body) {
-        return () -> call(body::get);
+        Mark wrapped = wrapped();
+        return () -> call(wrapped, body::get);
     }
 
     /** The same job. */
     public <T> Callable<T> job(Callable<T> body) {
-        return () -> call(body::call);
+        Mark wrapped = wrapped();
+        return () -> call(wrapped, body::call);
     }
 
     /** Ends it, once what the threads of the pool do is over. */
@@ -83,6 +109,8 @@ public final class TracedSection implements AutoCloseable {
                     Traced.join(task, Traced.site());
                 });
         tasks.clear();
-        Place.Mark.endIfAny(begun);
+        marks.forEach(Mark::end);
+        marks.clear();
+        Mark.endIfAny(begun);
     }
 }
