@@ -83,11 +83,22 @@ if __name__ == "__main__":
         process.join()
 """
 
+IN_LOOPS = PROCESSES.replace("multiprocessing, time", "asyncio, multiprocessing, time").replace("def ", "async def ").replace(
+    "if __name__", """def child(work, *locks):
+    asyncio.run(work(*locks))
+if __name__""",
+).replace("target=work, args=locks", "target=child, args=[work, *locks]")
+
 
 class Processes(ProgramCase):
-    def told(self, wait: str) -> tuple[int, str]:
-        ran = run_traced("--fail-on", "possible", "--watch-nothing", self.program(PROCESSES.replace("WAIT", wait)))
+    def told(self, wait: str, text: str = PROCESSES) -> tuple[int, str]:
+        ran = run_traced("--fail-on", "possible", "--watch-nothing", self.program(text.replace("WAIT", wait)))
         return ran.returncode, ran.stderr
+
+    def test_the_loops_of_two_processes_are_two(self) -> None:
+        status, told = self.told("pass", IN_LOOPS)
+        self.assertEqual(status, Verdict.RACES, told)
+        self.assertEqual(told.count("  # told\n"), 4, told)
 
     def test_locks_that_processes_share_are_told_with_all_places(self) -> None:
         status, told = self.told("pass")

@@ -1,7 +1,12 @@
-"""What a thread does before and behind a run of its loop is in order with what the loop's tasks do in this run."""
+"""The loops of threads: which is which, and their runs.
+
+What a thread does before and behind a run of its loop is in order with what the loop's tasks do in this run.
+"""
 
 from __future__ import annotations
 
+import itertools
+import weakref
 from _thread import get_ident
 from typing import Any
 
@@ -9,6 +14,36 @@ from .lines import LEAVE_LOOP, TAKE, Line, Token, What, state
 
 BEGINS = What("loop", "run loop", "run in loop")
 STOPS = What("loop", "run until loop stops", "loop has stopped")
+
+
+_numbers = itertools.count(1)
+_KNOWN: dict[int, tuple[weakref.ref[Any], int]] = {}
+"""The loops that are there and their numbers, by where they stand in memory. Another one may stand there later."""
+
+
+def number_of_loop(loop: Any) -> int:
+    """What tells the loop from all others of this process. 0 stands for none."""
+    if loop is None:
+        return 0
+    known = _KNOWN.get(id(loop))
+    return known[1] if known is not None and known[0]() is loop else _new_number(loop)
+
+
+def _new_number(loop: Any) -> int:
+    place = id(loop)
+    try:
+        reference = weakref.ref(loop, lambda gone: _forget(place, gone))
+    except TypeError:
+        return place  # One of another library, which is known by nothing else.
+    number = next(_numbers)
+    _KNOWN[place] = reference, number
+    return number
+
+
+def _forget(place: int, gone: weakref.ref[Any]) -> None:
+    known = _KNOWN.get(place)
+    if known is not None and known[0] is gone:
+        del _KNOWN[place]
 
 
 class LoopRun:

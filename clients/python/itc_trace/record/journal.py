@@ -4,6 +4,7 @@ from __future__ import annotations
 
 import json
 import json.encoder
+import zlib
 from collections.abc import Callable, Iterable, Iterator
 from dataclasses import dataclass
 from types import CodeType
@@ -20,6 +21,8 @@ from ..model.verdict import BREAKS_OFF, Cause, Left, PassedOver, Unseen
 
 text_of: Callable[[str], str] = vars(json.encoder)["encode_basestring_ascii"]
 """A text as JSON has it."""
+LOOP_BITS = 20
+"""So many bits tell one loop of a process from another, behind those that tell of which process it is."""
 MOST_NAMED = 4096
 """So many texts of things and of locks are kept, not to make each anew."""
 
@@ -476,6 +479,11 @@ class TouchTexts:
         self._sites: dict[int, str] = {}
         self._told_sites: set[int] = set()
         self._locks: dict[int, str] = {}
+        self._first_loop = zlib.crc32(prefix.encode()) << LOOP_BITS if prefix else 0
+        """Before the numbers of this process's loops: those of other processes begin at 1, too."""
+
+    def _loop(self, number: int) -> int:
+        return number and self._first_loop + number
 
     def text(self, touch: Touch) -> str:
         thing, kind, site, held, loop, turn, _ = touch
@@ -486,7 +494,7 @@ class TouchTexts:
         else:
             told = f'{self._thing(thing)},"kind":"{kind}",{self._site(site)},"label":{text_of(f"{kind} {thing.name}")}'
         locks = f',"held":[{",".join([self.lock(one) for one in held])}]' if held else ""
-        when = f',"loop":{loop},"turn":{turn}' if loop else ""
+        when = f',"loop":{self._loop(loop)},"turn":{turn}' if loop else ""
         return f"{told}{locks}{when}}}\n"
 
     def _acquisition(self, acquisition: Acquisition) -> str:
@@ -496,7 +504,7 @@ class TouchTexts:
         locks = ",".join([self.lock(one.lock) for one in held])
         places = ",".join([f"[{_three(one.code, one.instruction)}]" for one in held])
         function = json.dumps(wanted.code.co_qualname if wanted.code else "")
-        blocked = f',"loop":{loop}' if loop else ""
+        blocked = f',"loop":{self._loop(loop)}' if loop else ""
         return (
             f'"thing":null,"kind":"local",{self._places.text(wanted.code, wanted.instruction)},"function":{function},'
             f'"label":{text_of(label)},"{key}":{self.lock(wanted.lock)},"held":[{locks}],'
@@ -557,7 +565,7 @@ class TouchTexts:
                 sites.append(f'{{"site":"{self._prefix}{site}",{self._site(site)}}}\n')
             locks = ",".join([self.lock(one) for one in held])
             told = f'{event.event},{event.part},"{event.task}","{kind}","{self._prefix}{site}"'
-            rows.append(f"[{told},[{locks}],{loop},{turn}]")
+            rows.append(f"[{told},[{locks}],{self._loop(loop)},{turn}]")
         names = f'"name":{text_of(thing.name)},"group":{text_of(thing.group)},"made":{text_of(thing.made)}'
         return f'{"".join(sites)}{{"aside":{self.name_of(thing)},{names},"rows":[{",".join(rows)}]}}\n'
 

@@ -2,8 +2,6 @@
 
 from __future__ import annotations
 
-import contextlib
-import itertools
 from asyncio.events import _get_running_loop
 
 from types import FrameType
@@ -11,14 +9,12 @@ from types import FrameType
 from ..model.frames import place
 from ..model.lines import Acquisition, Held, Line, state
 from ..model.lock_identity import QUEUE, LockIdentity
+from ..model.loop_runs import number_of_loop
 from .noting import line_of_now, touched
 
 ACQUIRE = "acquire"
 MOST_KNOWN = 256
 """So many tasks and places of a queue are known. What is forgotten may be noted once more."""
-NUMBER = "_itc_number"
-_numbers = itertools.count(1)
-"""Those of loops: what they are known by in memory is used again."""
 
 
 def note_nested(held: tuple[LockIdentity, ...], has_waited: bool) -> None:
@@ -32,19 +28,8 @@ def note_nested(held: tuple[LockIdentity, ...], has_waited: bool) -> None:
     key = (ACQUIRE, *((place.lock.serial, id(place.code), place.instruction) for place in places))
     for one in held:
         one.is_nested = True
-    loop = 0 if held[-1].kind.startswith("asyncio.") else _number_of_loop()
+    loop = 0 if held[-1].kind.startswith("asyncio.") else number_of_loop(_get_running_loop())
     touched(key, Acquisition(places[-1], places[:-1], loop), ACQUIRE, None)
-
-
-def _number_of_loop() -> int:
-    """The loop whose tasks wait as long as this thread does. 0 if it runs none."""
-    loop = _get_running_loop()
-    if loop is None:
-        return 0
-    with contextlib.suppress(AttributeError):  # One of another library may take none.
-        if not hasattr(loop, NUMBER):
-            setattr(loop, NUMBER, next(_numbers))
-    return int(getattr(loop, NUMBER, id(loop)))
 
 
 def note_signal(lock: LockIdentity) -> None:
@@ -104,6 +89,7 @@ class Items:
         places = tuple(Held(one, one.taken_by, one.taken_at) for one in held)
         are_awaited = is_gift and all(one.kind.startswith("asyncio.") for one in held)
         wait = Acquisition(
-            Held(self._identity, code, instruction), places, 0 if are_awaited else _number_of_loop(), is_gift,
+            Held(self._identity, code, instruction), places,
+            0 if are_awaited else number_of_loop(_get_running_loop()), is_gift,
         )
         touched((ACQUIRE, self._identity.serial, where), wait, ACQUIRE, None)

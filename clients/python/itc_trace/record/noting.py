@@ -16,7 +16,7 @@ from typing import Any
 from ..model.conflicts import MAKING, READ, WRITE
 from ..model.frames import frame_at, place, place_of
 from ..model.lines import MARK, RESULT, SPAWN, TAKE, TOUCH, Line, Note, Section, Stretch, Token, Touched, What, state
-from ..model.loop_runs import begun_here
+from ..model.loop_runs import begun_here, number_of_loop
 from ..model.verdict import Cause, Unseen
 from ..model.stretches import STRETCHES, TURNS, Across, leave
 
@@ -323,6 +323,6 @@ def begin_stretch(note: Callable[[Note], object]) -> Stretch:
     line, loop, thread = line_of_now(), _get_running_loop(), get_ident()
     turn = 0 if loop is None else TURNS.get(thread, 0)
     line.section = None
-    stretch = STRETCHES[thread] = Stretch(line.job or line, 0 if loop is None else id(loop), turn, thread)
+    stretch = STRETCHES[thread] = Stretch(line.job or line, number_of_loop(loop), turn, thread)
     note((TOUCH, stretch))
     return stretch

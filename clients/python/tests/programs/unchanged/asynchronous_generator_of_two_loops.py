@@ -16,7 +16,6 @@ class Feed:
         for number in range(3):
             self.sent += 1  # race: read, write
             yield number
-            await asyncio.sleep(0.01)  # Both loops are at work at once.
 
 
 feed = Feed()
