@@ -2,6 +2,8 @@
 
 from __future__ import annotations
 
+import asyncio
+import gc
 import json
 import os
 import re
@@ -12,11 +14,12 @@ import tempfile
 import threading
 import time
 import unittest
+import weakref
 from concurrent.futures import ThreadPoolExecutor
 from pathlib import Path
 
 from itc_trace import Verdict
-from itc_trace.processes.waits import Since
+from itc_trace.processes.waits import Since, waits
 
 from .support import PACKAGE, PROGRAM_RUNS, ProgramCase, run_traced, wait_until
 
@@ -372,6 +375,26 @@ class Looks(unittest.TestCase):
             is_over.set()
             thread.join()
         self.assertEqual(late, [])
+
+    def test_tasks_that_were_looked_at_are_let_go_once_they_are_over(self) -> None:
+        since, kept = Since(), []
+
+        def look_at_all(tasks: int) -> None:
+            wait_until(lambda: len(waits(since)) > tasks)
+
+        async def look() -> None:
+            over = asyncio.Event()
+            tasks = [asyncio.create_task(over.wait()) for _ in range(3)]
+            kept.extend(map(weakref.ref, tasks))
+            await asyncio.to_thread(look_at_all, len(tasks))
+            over.set()
+            await asyncio.gather(*tasks)
+
+        asyncio.run(look())
+        gc.collect()
+        self.assertEqual([task() for task in kept], [None] * 3)
+        since.look()
+        self.assertFalse([one for one in since._seen if not isinstance(one, int)])
 
 
 if __name__ == "__main__":

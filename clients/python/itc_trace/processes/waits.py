@@ -12,6 +12,7 @@ import queue
 import sys
 import threading
 import time
+import weakref
 from collections.abc import Callable, Iterator
 from concurrent.futures import Future
 from dataclasses import dataclass
@@ -76,12 +77,15 @@ class Wait:
 
 
 class Since:
-    """Since when each thread and each task has been where it is. It is looked at now and then."""
+    """Since when each thread and each task has been where it is. It is looked at now and then.
+
+    A thread is known by its number, and a task by a weak reference: one that is over is not kept.
+    """
 
     def __init__(self) -> None:
-        self._seen: dict[object, tuple[object, float]] = {}
+        self._seen: dict[int | weakref.ref[Any], tuple[object, float]] = {}
 
-    def of(self, who: object, where: object, now: float) -> float:
+    def of(self, who: int | weakref.ref[Any], where: object, now: float) -> float:
         known = self._seen.get(who)
         if known is None or known[0] != where:
             known = self._seen[who] = where, now
@@ -92,7 +96,7 @@ class Since:
         now = time.monotonic()
         places = {thread: where for thread, *where in _places() if thread not in own_threads.IDENTS}
         found = {thread: self.of(thread, tuple(where), now) for thread, where in places.items()}
-        for gone in [one for one in self._seen if isinstance(one, int) and one not in places]:
+        for gone in [one for one in self._seen if (one not in places if isinstance(one, int) else one() is None)]:
             del self._seen[gone]
         return found
 
@@ -293,7 +297,7 @@ def _of_loop(loop: Any, since: Since, now: float, idle: float) -> Iterator[Wait]
         outer = frames[-1] if frames else None
         line = getattr(task, "_itc_line", None)
         name = name_of(line) if isinstance(line, Line) else task.get_name()
-        begun = min(idle, since.of(task, [frame.f_lasti for frame in [*inner, *frames]], now))
+        begun = min(idle, since.of(weakref.ref(task), [frame.f_lasti for frame in [*inner, *frames]], now))
         yield _of_task(task, inner, name, line, outer, begun)
 
 
