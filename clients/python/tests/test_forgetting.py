@@ -3,15 +3,25 @@
 from __future__ import annotations
 
 import tempfile
+import time
 import unittest
+from collections import deque
+from collections.abc import Iterable
 from pathlib import Path
+from types import SimpleNamespace
 
 from itc_trace import Verdict
-from itc_trace.record.journal import Aside, read_line
-from itc_trace.record.touch_rows import _Numbers
+from itc_trace.model.conflicts import WRITE
+from itc_trace.model.lines import GONE, TOUCH, Line, Note, Stretch, TouchEvent
+from itc_trace.model.stretches import SITES, Site
+from itc_trace.record import tracer
+from itc_trace.record.journal import Aside, Places, Row, TouchTexts, read_line
+from itc_trace.record.own_threads import start_thread
+from itc_trace.record.touch_journal import TouchJournal
+from itc_trace.record.touch_rows import MOST_KEPT, MOST_OF_EVENT, _Numbers
 from itc_trace.watch.things import number_of
 
-from .support import ProgramCase, run_traced
+from .support import ProgramCase, run_traced, wait_until
 
 KEYS = """
 import os, threading, time
@@ -53,6 +63,23 @@ PLANTED = {
     "what was put aside is not told": "journal.TouchTexts.aside = lambda *words: ''",
 }
 
+MANY_KEYS = """
+import threading
+from itc_trace.model.stretches import MOST_OF_STRETCH, STRETCHES
+cache, lock, sizes = {}, threading.Lock(), []
+def touch_once():
+    with lock:
+        cache["x"] = 1
+thread = threading.Thread(target=touch_once)
+thread.start()
+thread.join()
+for number in range(4000):
+    with lock:
+        cache[number] = number
+        sizes.append(len(STRETCHES[threading.get_ident()]))
+print(MOST_OF_STRETCH // 2 < max(sizes) < MOST_OF_STRETCH + 10)
+"""
+
 
 class Keys(ProgramCase):
     def run_of(self, text: str, *words: str, **variables: str) -> tuple[int, str, int]:
@@ -81,6 +108,10 @@ class Keys(ProgramCase):
         status, told, _ = self.run_of(OTHER_KEY)
         self.assertEqual(status, Verdict.NO_RACE, told)
         self.assertNotIn("cache[", told)
+
+    def test_a_task_that_goes_on_behind_a_free_lock_begins_other_stretches(self) -> None:
+        ran = run_traced("--quiet", self.program(MANY_KEYS))
+        self.assertEqual((ran.stdout, ran.stderr), ("True\n", ""))
 
     def test_wrong_rules_lose_the_race(self) -> None:
         """Else the tests above say nothing."""
@@ -118,6 +149,91 @@ class NumbersOfKeys(unittest.TestCase):
         self.assertTrue(all(map(numbers.may_have, added)))
         seeming = sum(numbers.may_have(number_of(1, (key,)) or 0) for key in range(20_000, 40_000))
         self.assertLess(seeming, 40)
+
+
+class Named:
+    """As the things of an owner are."""
+
+    group, made, is_gone = "cache[..]", "", False
+
+    def __init__(self, number: int) -> None:
+        self.number, self.name = number, f"cache[{number}]"
+
+
+class Touches(unittest.TestCase):
+    """Of what a task touches while it goes on, only some is known."""
+
+    def setUp(self) -> None:
+        self.written: list[str] = []
+        self.journal = TouchJournal(TouchTexts(Places(), ""), self.written.append)
+        SITES.append(Site("a.py", 1, "work"))
+        self.things = [Named(number) for number in range(6000)]
+
+    def event(self, task: str, number: int) -> TouchEvent:
+        line = Line(None, task)
+        line.name = task
+        event = self.journal.new_event(line, 1, 0.0)
+        event.event = number
+        return event
+
+    def touch(self, event: TouchEvent, things: Iterable[Named]) -> None:
+        for thing in things:
+            stretch = Stretch(Line(None, event.task), 0, 0, 1)
+            stretch[thing.number] = thing, WRITE, len(SITES) - 1
+            self.journal.add(event, stretch)
+        self.journal.write()
+
+    def told(self) -> list[tuple[str, str]]:
+        rows = [read_line(line) for line in "".join(self.written).splitlines(keepends=True)]
+        return [(row.task, row.thing or "") for row in rows if isinstance(row, Row)]
+
+    def test_an_event_that_goes_on_keeps_few_of_its_touches(self) -> None:
+        event = self.event("one", 1)
+        self.touch(event, self.things)
+        self.assertLess(len(event.touches), 2 * MOST_OF_EVENT)
+        self.assertLess(len(self.journal.rows._alone), MOST_KEPT + 2 * MOST_OF_EVENT)
+
+    def test_one_that_comes_again_is_told_once(self) -> None:
+        event, first = self.event("one", 1), self.things[0]
+        self.touch(event, [first, *self.things[1:1500], first])
+        self.touch(self.event("two", 2), [first])
+        self.assertEqual(self.told(), [("one", "#0"), ("two", "#0")])
+
+    def test_an_event_that_is_over_keeps_none(self) -> None:
+        event = self.event("one", 1)
+        self.touch(event, self.things[:10])
+        event.is_open = False
+        self.journal.write()
+        self.assertFalse(event.touches)
+
+
+class HeldBack(unittest.TestCase):
+    """A program that notes faster than is reported waits. Nobody waits for what waits for it."""
+
+    def setUp(self) -> None:
+        self.tracer = tracer.Tracer.__new__(tracer.Tracer)
+        self.tracer.notes = deque([(0.0, (TOUCH,))] * (tracer.FEW_WAITING + 1))
+        self.tracer._reports = SimpleNamespace(is_over=False)  # type: ignore[assignment]
+        before, tracer.LONGEST_SLOW_NOTE = tracer.LONGEST_SLOW_NOTE, 0.3
+        self.addCleanup(setattr, tracer, "LONGEST_SLOW_NOTE", before)
+
+    def seconds(self, note: Note) -> float:
+        begun = time.monotonic()
+        self.tracer._note_slowly(note)
+        return time.monotonic() - begun
+
+    def test_a_note_waits_and_is_kept(self) -> None:
+        self.assertGreaterEqual(self.seconds((TOUCH, None)), 0.3)
+        self.assertEqual(self.tracer.notes[-1][1], (TOUCH, None))
+
+    def test_what_garbage_is_collected_for_does_not_wait(self) -> None:
+        self.assertLess(self.seconds((GONE, None)), 0.3)
+
+    def test_an_own_thread_does_not_wait(self) -> None:
+        took: list[float] = []
+        start_thread(lambda: took.append(self.seconds((TOUCH, None))))
+        wait_until(lambda: took)
+        self.assertLess(took[0], 0.3)
 
 
 if __name__ == "__main__":

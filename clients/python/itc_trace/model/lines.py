@@ -274,7 +274,8 @@ class TouchEvent:
     """An event that stands for what a task touches, up to the next event of this task."""
 
     __slots__ = (
-        "task", "part", "time", "event", "stretches", "touches", "looked_at", "has_row", "is_open", "is_waiting",
+        "task", "part", "time", "event", "stretches", "touches", "looked_at", "has_forgotten", "has_row", "is_open",
+        "is_waiting",
     )
 
     def __init__(self, task: str, part: int = 1, time: float = 0.0) -> None:
@@ -286,6 +287,8 @@ class TouchEvent:
         self.stretches: list[Stretch] = []
         self.touches: dict[Hashable, Touch] = {}
         self.looked_at = 0
+        self.has_forgotten = False
+        """Whether some of its touches were looked at and are not known any more."""
         self.has_row = False
         self.is_open = True
         self.is_waiting = False

@@ -66,6 +66,9 @@ class Across(str):
 STRETCHES: dict[int, Stretch] = {}
 """The stretch that each thread is in, by the thread's identity. Before its first touch there is none."""
 
+MOST_OF_STRETCH = 1024
+"""Once a stretch has so many touches, its task begins another one where it acquires a lock again."""
+
 TURNS: dict[int, int] = {}
 """Of each thread that runs a loop, which of the loop's callbacks it runs now."""
 

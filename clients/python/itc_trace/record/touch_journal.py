@@ -3,6 +3,7 @@
 from __future__ import annotations
 
 from collections.abc import Callable, Hashable
+from itertools import chain
 
 from ..model.lines import LateJob, Line, Reporter, Stretch, Touched, TouchEvent
 from ..model.stretches import AT_BORDER, STRETCHES
@@ -14,6 +15,8 @@ from .touch_rows import TouchRows
 
 MOST_UNWRITTEN = 256
 """Once so many events of touches are not in the journal whole, it is brought up to date."""
+MOST_TOUCHES = 1024
+"""Once so many touches were taken over, too."""
 MANY_JOBS = Unseen(
     Cause.FULL,
     f"more than {MOST_TASKS // 2} jobs were given to pools, "
@@ -30,6 +33,8 @@ class TouchJournal:
         self.rows = TouchRows(texts)
         self._events: list[TouchEvent] = []
         """Those of which not all is in the journal."""
+        self._touches = 0
+        """How many were taken over since it was brought up to date."""
         self.goes_on: list[Stretch] = []
         """Those in the middle of which their task had another event."""
         self.writing = plain.RLock()
@@ -45,6 +50,16 @@ class TouchJournal:
     @property
     def is_long(self) -> bool:
         return len(self._events) > MOST_UNWRITTEN
+
+    def add(self, event: TouchEvent, stretch: Stretch) -> None:
+        """From here on the event stands for the stretch too. It is called with `writing` held."""
+        known = len(event.touches)
+        event.read_stretches()
+        self._touches += len(event.touches) - known
+        event.stretches.append(stretch)
+        stretch.events = (*stretch.events, event)
+        if self._touches > MOST_TOUCHES:
+            self.write()
 
     def new_event(self, line: Line, part: int, time: float) -> TouchEvent:
         """The event that stands for what the line touches from here on. It is called with `writing` held."""
@@ -90,6 +105,7 @@ class TouchJournal:
     def write(self, is_last: bool = False) -> None:
         """Brings the journal up to what was touched by now."""
         with self.writing:
+            self._touches = 0
             gone = self._things_gone if self.looked_at >= self._things_gone_before else []
             is_whole = is_last or bool(gone)
             unwritten, rows = [], []
@@ -105,11 +121,11 @@ class TouchJournal:
             if gone and all(event.event for event in unwritten):
                 self.rows.forget(gone)
                 self._things_gone = []
-            rows.append(self.rows.put_aside())
             if self.rows.jobs.has_new_suspicion():
                 rows.append(MANY_JOBS.row())
-            if any(rows):
-                self._write("".join(rows))
+            for text in chain(("".join(rows),), self.rows.put_aside()):
+                if text:
+                    self._write(text)
 
     def look_for_gone(self, waiting: int) -> None:
         """Looks for things that are no more, where so many notes wait."""

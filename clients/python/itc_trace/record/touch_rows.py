@@ -2,6 +2,8 @@
 
 from __future__ import annotations
 
+from collections.abc import Iterator
+from itertools import islice
 from typing import Any
 
 from ..model.conflicts import CHANGING
@@ -9,9 +11,13 @@ from .journal import TouchTexts
 from ..model.lines import Acquisition, Touch, TouchEvent
 from .many_jobs import ManyJobs
 
-MOST_PRIVATE = 10000
-MOST_KEPT = 4096
+MOST_PRIVATE = 512
+"""Once so many more things are known, those that are no more are looked for."""
+MOST_KEPT = 2048
 """So many things are known. Then the rows of those that were not touched for long are put aside, in the journal."""
+PUT_ASIDE_AT_ONCE = 256
+MOST_OF_EVENT = 1024
+"""So many touches of an event that goes on are known. One that comes again behind them may be told once more."""
 BITS = 1 << 22
 ODD = 0x9E3779B97F4A7C15
 
@@ -81,10 +87,8 @@ class TouchRows:
 
         An event that has none of its own is told by one row, when nothing more comes.
         """
-        touches = list(event.touches.values())[event.looked_at:]
-        event.looked_at += len(touches)
         rows: list[str] = []
-        for touch in touches:
+        for touch in _new_touches(event):
             is_acquisition = isinstance(touch.thing, Acquisition)
             if touch.job and not is_acquisition:
                 self.jobs.add(touch)
@@ -108,6 +112,8 @@ class TouchRows:
         else:
             del self._alone[number]  # It comes to the end of those that are known.
         self._alone[number] = alone
+        if event.has_forgotten and _is_waiting(alone.waiting, event, touch):
+            return
         alone.waiting.append((event, touch))
         alone.has_other_task = alone.has_other_task or event.task != alone.task
         alone.is_changed = alone.is_changed or touch.kind in CHANGING
@@ -124,20 +130,21 @@ class TouchRows:
         event.has_row = True
         return f'{{"event":{event.event},{part_text(event.part)}{time}"task":"{event.task}",'
 
-    def put_aside(self) -> str:
-        """Forgets the things that nobody has touched for the longest time, if too many are known.
+    def put_aside(self) -> Iterator[str]:
+        """Forgets the things that nobody has touched for the longest time, if too many are known. Gives their rows,
+        those of some things at a time.
 
         Whoever reads the journal passes over the rows that are put aside, but of things that others' rows tell of.
         """
-        if len(self._alone) <= MOST_KEPT:
-            return ""
-        rows: list[str] = []
-        for number in list(self._alone)[: len(self._alone) - MOST_KEPT // 2]:
-            alone = self._alone.pop(number)
-            self._put_aside.add(number)
-            if alone is not None:
-                rows.append(self._texts.aside(alone.thing, alone.waiting))
-        return "".join(rows)
+        if len(self._alone) > MOST_KEPT:
+            oldest = list(islice(self._alone, len(self._alone) - MOST_KEPT // 2))
+            for first in range(0, len(oldest), PUT_ASIDE_AT_ONCE):
+                yield "".join(map(self._row_aside, oldest[first : first + PUT_ASIDE_AT_ONCE]))
+
+    def _row_aside(self, number: int) -> str:
+        alone = self._alone.pop(number)
+        self._put_aside.add(number)
+        return "" if alone is None else self._texts.aside(alone.thing, alone.waiting)
 
     def keep_last(self) -> None:
         """At the end of a part: of what one task alone has touched at one place, the last touch stands for all."""
@@ -161,3 +168,27 @@ class TouchRows:
             if self._alone.get(number) is not None:
                 del self._alone[number]
         self._swept = len(self._alone)
+
+
+def _new_touches(event: TouchEvent) -> list[Touch]:
+    """The touches of an event that were not looked at yet.
+
+    What was looked at is forgotten behind the event, and where one that goes on has many touches.
+    """
+    touches = [*islice(event.touches.values(), event.looked_at, None)]
+    event.looked_at = len(event.touches)
+    if not event.is_open or event.looked_at >= MOST_OF_EVENT:
+        event.touches.clear()
+        event.looked_at = 0
+        event.has_forgotten = True
+    return touches
+
+
+def _is_waiting(waiting: list[tuple[TouchEvent, Touch]], event: TouchEvent, touch: Touch) -> bool:
+    """Whether the last event of what one task alone has touched has this touch already."""
+    for other, one in reversed(waiting):
+        if other is not event:
+            return False
+        if one == touch:
+            return True
+    return False

@@ -8,12 +8,13 @@ import itertools
 import sys
 import threading
 import time
+from _thread import get_ident
 from collections import deque
 from collections.abc import Callable, Hashable
 from types import CodeType
 from typing import Protocol
 
-from ..model.lines import FINISH, SPAWN, STOP, TOUCH, LateJob, Line, Note, Stretch, Touched, Waiting, state
+from ..model.lines import FINISH, GONE, SPAWN, STOP, TOUCH, LateJob, Line, Note, Stretch, Touched, Waiting, state
 from ..model.lock_identity import LockIdentity
 from ..model.stretches import STRETCHES
 from ..model.verdict import Cause, Unseen, child_ended_row, end_row
@@ -29,7 +30,7 @@ from .journal_file import JournalFile
 from .names import ANY_PROCESS, Names, tag_of
 from .noting import enter
 from .order_of_tasks import OrderOfTasks
-from .own_threads import start_thread
+from .own_threads import IDENTS, start_thread
 from .reports import Outstanding, Reports
 from .touch_journal import TouchJournal
 from .touch_rows import part_text, time_text
@@ -37,8 +38,10 @@ from .tracer_parts import Parts
 from .waiting import ANSWER_WAIT, Waiter, release
 
 NOTES_AT_ONCE = 1024
-MOST_WAITING = 200_000
-FEW_WAITING = 50_000
+MOST_WAITING = 16_384
+FEW_WAITING = 4096
+LONGEST_SLOW_NOTE = 2.0
+"""In seconds. A thread that holds up the reporting by what it does meanwhile goes on then."""
 REST = 0.02
 """In seconds, between two looks for notes. What is noted meanwhile is reported together.
 
@@ -47,8 +50,8 @@ Whoever waits for an answer ends the rest.
 END_WAIT = 60.0
 GONE_COLLECTOR = "the collector is gone"
 CLOSED_CONNECTION = "the program has closed the connection to the collector"
-_now = time.time
-"""As it is before any program is traced."""
+_now, _monotonic = time.time, time.monotonic
+"""As they are before any program is traced."""
 
 NOT_MINE = {405, 407, 408, 409}
 """What a message of another process may be refused for: it was never sent, or this task has it.
@@ -365,8 +368,11 @@ class Tracer:
         self.notes.append((_now(), note))
 
     def _note_slowly(self, note: Note) -> None:
-        while len(self.notes) > FEW_WAITING and not self._reports.is_over:
-            plain.sleep(0.001)
+        """Waits until few notes wait, but where garbage is collected: that may be anywhere, and in an own thread."""
+        if note[0] != GONE and get_ident() not in IDENTS:
+            end = _monotonic() + LONGEST_SLOW_NOTE
+            while len(self.notes) > FEW_WAITING and not self._reports.is_over and _monotonic() < end:
+                plain.sleep(0.001)
         self._note_now(note)
 
     def _note_shaken(self, note: Note) -> None:
@@ -387,9 +393,7 @@ class Tracer:
             if event is None:
                 report = self._reports.report(line, "local", "", None, 0, "")
                 event = report.touches = self._touches.new_event(line, self.part or 1, self._reports.time)
-            event.read_stretches()
-            event.stretches.append(stretch)
-            stretch.events = (*stretch.events, event)
+            self._touches.add(event, stretch)
 
     def _touch_late(self, listed: list[tuple[Stretch, dict[Hashable, Touched]]]) -> None:
         self._touches.add_late(listed, self)
@@ -415,6 +419,7 @@ class Tracer:
 
     def _divide(self, parts: Parts) -> None:
         """Leaves a trace that is nearly full, and goes on in a new one with what may still give order."""
+        self._hold_back(MOST_WAITING)
         self._order.keep_ended()
         self._order.keep_ended_of_loops(parts.lines)
         self._order.nurseries.end()

@@ -22,7 +22,7 @@ from ..model.lock_identity import LockIdentity, Signal
 from ..record.nesting import note_nested, note_signal
 from ..record.noting import current, line_of_now
 from ..model.frames import frame_at, is_internal, place
-from ..model.stretches import STRETCHES, TURNS
+from ..model.stretches import MOST_OF_STRETCH, STRETCHES, TURNS
 from .base import name_as
 
 _is_walked = False
@@ -352,7 +352,9 @@ def took(lock: Any, has_waited: bool = True) -> None:
         if section is not None and section.token is token and line_of_now() is line and line.section is section:
             stretch = section.stretch
             # A task of a loop begins another stretch with each of its turns.
-            if stretch is None or not stretch.loop or stretch.turn == TURNS.get(stretch.thread):
+            if stretch is None or len(stretch) < MOST_OF_STRETCH and (
+                not stretch.loop or stretch.turn == TURNS.get(stretch.thread)
+            ):
                 section.is_entered_again = True  # The task goes on in it.
                 lock._itc_holder = line
                 lock._itc_token = None
