@@ -37,6 +37,8 @@ OF_THE_LIBRARY = {
     "sync.starts": "_popen _start_method",
     "sync.thread_pools": "_cache _cond _event _inqueue _items _outqueue _processes _quick_get _quick_put",
     "sync.threads": "_args _cond _count _flag _is_owned _lock _target _waiters",
+    "sync.trio_orders": "_borrowers _channel _closed _flag _lock _lot _owner _parked _state _sync",
+    "sync.trio_tasks": "_abort_func _cancel_called _cancel_status _core _scope _shield",
     "sync.values": "_wrapper",
     "watch": "_get_code_from_file",
     "watch.begun_loops": "_current_frames",

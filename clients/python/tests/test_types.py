@@ -19,52 +19,7 @@ import unittest
 import warnings
 from typing import Any
 
-from .support import ProgramCase, TracedCase, needs, python_with, run_traced
-
-TRIO = """
-import threading, trio, itc_trace
-
-async def child(number):
-    await trio.sleep(0.001)
-    itc_trace.touch("x", write=True)
-    await trio.to_thread.run_sync(lambda: itc_trace.touch(f"y{number}", write=True))
-    itc_trace.touch(f"y{number}", write=True)
-    trio.lowlevel.current_trio_token().run_sync_soon(int)
-
-async def main():
-    lock = trio.Lock()
-    async with trio.open_nursery() as nursery:
-        for number in range(3):
-            nursery.start_soon(child, number)
-        async with lock:
-            await trio.sleep(0)
-    sender, receiver = trio.open_memory_channel(0)
-    async with trio.open_nursery() as nursery:
-        nursery.start_soon(sender.send, 5)
-        assert await receiver.receive() == 5
-    token = trio.lowlevel.current_trio_token()
-    def call():
-        itc_trace.touch("z", write=True)
-        token.run_sync_soon(event.set)
-    event = trio.Event()
-    thread = threading.Thread(target=call)
-    thread.start()
-    await event.wait()
-    itc_trace.touch("z", write=True)
-    thread.join()
-    print("done")
-
-trio.run(main)
-"""
-
-
-class Trio(ProgramCase):
-    @needs("python3-trio", "trio")
-    def test_trio_runs_and_its_tasks_are_one_line(self) -> None:
-        ran = run_traced(self.program(TRIO), python=python_with("trio"))
-        self.assertEqual((ran.returncode, ran.stdout), (0, "done\n"), ran.stderr)
-        self.assertRegex(ran.stderr, "no race in this run; not looked into: tasks of trio at .*: .* of 5 things")
-
+from .support import TracedCase
 
 class Types(TracedCase):
     def traced(self, work: Any) -> None:

@@ -17,6 +17,9 @@ INTERNAL_MODULES = frozenset(
 )
 """Modules of a package that is not internal as a whole."""
 
+TRACED_LIBRARIES = frozenset({"trio"})
+"""Other libraries whose promises are traced as a whole. They may be watched, too."""
+
 _internal_names: dict[Any, bool] = {}
 
 
@@ -39,7 +42,7 @@ def is_internal(frame: FrameType | None) -> bool:
     known = _internal_names.get(name)
     if known is None:
         known = _internal_names[name] = isinstance(name, str) and (
-            name.partition(".")[0] in INTERNAL or name in INTERNAL_MODULES
+            name.partition(".")[0] in INTERNAL | TRACED_LIBRARIES or name in INTERNAL_MODULES
         )
     return known
 

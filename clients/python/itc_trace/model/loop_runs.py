@@ -21,10 +21,17 @@ _KNOWN: dict[int, tuple[weakref.ref[Any], int]] = {}
 """The loops that are there and their numbers, by where they stand in memory. Another one may stand there later."""
 
 
+LOOPS: dict[int, int] = {}
+"""The number of what each thread runs that is like a loop of asyncio, as a run of trio."""
+
+
 def number_of_loop(loop: Any) -> int:
-    """What tells the loop from all others of this process. 0 stands for none."""
+    """What tells the loop from all others of this process.
+
+    None stands for what the thread runs that is like one, and 0 is the number of none.
+    """
     if loop is None:
-        return 0
+        return LOOPS.get(get_ident(), 0)
     known = _KNOWN.get(id(loop))
     return known[1] if known is not None and known[0]() is loop else _new_number(loop)
 

@@ -3,7 +3,6 @@
 from __future__ import annotations
 
 from asyncio.events import _get_running_loop
-
 from types import FrameType
 
 from ..model.frames import place
@@ -13,6 +12,8 @@ from ..model.loop_runs import number_of_loop
 from .noting import line_of_now, touched
 
 ACQUIRE = "acquire"
+OF_TASKS = ("asyncio.", "trio.")
+"""So begin the kinds of locks for which the tasks of a loop wait, and the loop does not."""
 MOST_KNOWN = 256
 """So many tasks and places of a queue are known. What is forgotten may be noted once more."""
 
@@ -28,7 +29,7 @@ def note_nested(held: tuple[LockIdentity, ...], has_waited: bool) -> None:
     key = (ACQUIRE, *((place.lock.serial, id(place.code), place.instruction) for place in places))
     for one in held:
         one.is_nested = True
-    loop = 0 if held[-1].kind.startswith("asyncio.") else number_of_loop(_get_running_loop())
+    loop = 0 if held[-1].kind.startswith(OF_TASKS) else number_of_loop(_get_running_loop())
     touched(key, Acquisition(places[-1], places[:-1], loop), ACQUIRE, None)
 
 
@@ -87,7 +88,7 @@ class Items:
         self._known.add((line.number, where))
         self._identity.is_nested = True
         places = tuple(Held(one, one.taken_by, one.taken_at) for one in held)
-        are_awaited = is_gift and all(one.kind.startswith("asyncio.") for one in held)
+        are_awaited = is_gift and all(one.kind.startswith(OF_TASKS) for one in held)
         wait = Acquisition(
             Held(self._identity, code, instruction), places,
             0 if are_awaited else number_of_loop(_get_running_loop()), is_gift,

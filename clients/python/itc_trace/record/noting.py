@@ -321,8 +321,9 @@ def touched_all(touches: dict[Hashable, Touched]) -> None:
 def begin_stretch(note: Callable[[Note], object]) -> Stretch:
     """The stretch of this thread, which begins with the touch that is about to be noted."""
     line, loop, thread = line_of_now(), _get_running_loop(), get_ident()
-    turn = 0 if loop is None else TURNS.get(thread, 0)
+    number = number_of_loop(loop)
+    turn = TURNS.get(thread, 0) if number else 0
     line.section = None
-    stretch = STRETCHES[thread] = Stretch(line.job or line, number_of_loop(loop), turn, thread)
+    stretch = STRETCHES[thread] = Stretch(line.job or line, number, turn, thread)
     note((TOUCH, stretch))
     return stretch

@@ -5,7 +5,7 @@ from __future__ import annotations
 from . import (
     asynchronous, cached, callbacks, commands, descriptors, entry_queue, exits, followers, fork_warnings, futures,
     handlers, heaps, http, importlib_bootstrap, pipes, process_pools, process_signals, processes, queues, starts,
-    thread_pools, threads, tracebacks, unfollowed, values,
+    thread_pools, threads, tracebacks, trio_orders, trio_tasks, unfollowed, values,
 )
 from ..model.lines import state
 from .base import Patches
@@ -13,7 +13,7 @@ from .base import Patches
 _TRACED = (
     threads, exits, queues, futures, asynchronous, cached, handlers, heaps, processes, process_signals, thread_pools,
     entry_queue, importlib_bootstrap, starts, commands, pipes, process_pools, http, values, unfollowed, callbacks,
-    descriptors, fork_warnings, tracebacks, followers,
+    descriptors, fork_warnings, tracebacks, followers, trio_tasks, trio_orders,
 )
 
 

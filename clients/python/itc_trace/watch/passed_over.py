@@ -17,7 +17,7 @@ _CHANGING = frozenset(
 )
 _CALLERS = frozenset("enter enterabs add_signal_handler add_reader add_writer".split())
 """Methods of the library that call what they are given, and are not followed."""
-_FOLLOWED = ("concurrent.futures.", "asyncio.", "multiprocessing.", "itertools.", "operator.")
+_FOLLOWED = ("concurrent.futures.", "asyncio.", "trio.", "multiprocessing.", "itertools.", "operator.")
 _FOLLOWED_ALONE = frozenset((
     "weakref.finalize", "atexit.register", "_thread.start_new_thread", "threading.Thread", "threading.Timer",
     "functools.partial", "functools.reduce",
@@ -34,7 +34,7 @@ FOLLOWED_METHODS = frozenset(
 REPLACING = ("unittest.mock.patch", "mock.patch", "importlib.reload")
 """Functions that replace what others use. While there is one task nobody else does."""
 _MODULES = frozenset(("ctypes", "numpy", "pandas", "multiprocessing.shared_memory"))
-_WITH_TASKS = frozenset("greenlet gevent eventlet twisted trio anyio curio stackless cffi".split())
+_WITH_TASKS = frozenset("greenlet gevent eventlet twisted anyio curio stackless cffi".split())
 """Libraries with tasks of their own, or with threads that no code of Python starts."""
 _MODULES_WITH_TASKS = frozenset(("tornado.gen", "tornado.concurrent", "asyncore", "asynchat"))
 _STARTING = frozenset("CFUNCTYPE PYFUNCTYPE WINFUNCTYPE".split())
