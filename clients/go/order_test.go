@@ -7,12 +7,16 @@ import (
 	"net"
 	"os"
 	"strings"
+	"sync"
 	"testing"
 	"time"
 )
 
 // longEnough is the time after which a goroutine that reports too late is done with its act.
 const longEnough = 500 * time.Millisecond
+
+// replying is locked while the collector answers nothing.
+var replying sync.Mutex
 
 // TestMain begins the trace of this process, at a collector that takes all reports.
 func TestMain(tests *testing.M) {
@@ -38,7 +42,9 @@ func answer(door net.Listener) {
 		case lines.Text() == "count":
 			fmt.Fprintln(connection, "200 0 1 0")
 		default:
+			replying.Lock() // A test may hold the answers back.
 			fmt.Fprintln(connection, "201", number)
+			replying.Unlock()
 		}
 	}
 }

@@ -143,11 +143,11 @@ func Outgoing() string {
 }
 
 func outgoing(of *task, carried string, at *site) string {
-	named := tracing.outside()
-	if !tracing.outgoing(of, named, carried, at) {
+	sent := tracing.send(of, tracing.outside(), carried, at)
+	if !tracing.has(sent) {
 		return ""
 	}
-	return named
+	return sent.name
 }
 
 // Incoming has this goroutine come after the place where the message was sent. What is no message is passed over.

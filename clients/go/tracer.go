@@ -415,14 +415,25 @@ func (t *tracer) join(by, child *task, at *site) {
 	}
 }
 
-// outgoing sends a message to another process, of a name that was reserved. It returns once the collector has it, so that no receipt can
-// come before. The journal says what it carries. It tells whether the collector has it.
-func (t *tracer) outgoing(of *task, named, carried string, at *site) bool {
-	answered := make(chan struct{})
+// sending is a message that is on its way to the collector.
+type sending struct {
+	name     string
+	answered chan struct{}
+}
+
+// send sends a message of a name that was reserved. The journal says what it carries. Who is in another process may be told of it once the
+// collector has it. In this process it may be received at once, as its receipt is reported behind it.
+func (t *tracer) send(of *task, named, carried string, at *site) *sending {
+	sent := &sending{named, make(chan struct{})}
 	of.mutex.Lock()
-	of.report(&report{kind: "send", name: named, site: at, label: "send " + carried, answered: answered})
+	of.report(&report{kind: "send", name: named, site: at, label: "send " + carried, answered: sent.answered})
 	of.mutex.Unlock()
-	return t.isAnswered(answered) && !t.isOver.Load()
+	return sent
+}
+
+// has waits until the collector has the message, so that no receipt can come before. It tells whether the collector has it.
+func (t *tracer) has(sent *sending) bool {
+	return t.isAnswered(sent.answered) && !t.isOver.Load()
 }
 
 // isAnswered sends what is to be reported, and waits for an answer.
@@ -718,10 +729,18 @@ func (t *tracer) sendLines() {
 		lines = t.appendForgotten(lines)
 	}
 	t.mutex.Unlock()
-	if len(lines) > 0 {
-		if _, err := t.connection.Write(lines); err != nil {
-			t.giveUp(causeCollector, goneMessage)
+	if len(lines) == 0 {
+		return
+	}
+	if _, err := t.connection.Write(lines); err != nil {
+		t.giveUp(causeCollector, goneMessage)
+	}
+	if cap(lines) <= mostUnsent {
+		t.mutex.Lock()
+		if t.unsent == nil {
+			t.unsent = lines[:0] // Else it grows anew each time.
 		}
+		t.mutex.Unlock()
 	}
 }
 

@@ -2,10 +2,14 @@ package itctrace
 
 import (
 	"bufio"
+	"hash/maphash"
 	"io"
 	"net"
 	"net/http"
+	"net/http/httptrace"
 	"strconv"
+	"strings"
+	"sync/atomic"
 )
 
 const (
@@ -48,7 +52,11 @@ func serve(handler http.Handler, response http.ResponseWriter, request *http.Req
 	}
 	by := own(numberNow())
 	tracing.incoming(by, message, "receive "+inWords(request), nowhere)
-	answering := &answering{ResponseWriter: response, by: by, status: http.StatusOK}
+	isAskedHere := strings.HasPrefix(message, tracing.prefix)
+	if isAskedHere {
+		servesHere(request)
+	}
+	answering := &answering{ResponseWriter: response, by: by, status: http.StatusOK, isAskedHere: isAskedHere}
 	handler.ServeHTTP(answering.asGiven(), request)
 	answering.end()
 }
@@ -75,8 +83,10 @@ type answering struct {
 	head, body       string
 	isBegun, isSent  bool
 	isTaken, hasBody bool
-	written          int
-	status           int
+	// isAskedHere tells whether it is this process that asks. Then nobody waits for the collector.
+	isAskedHere bool
+	written     int
+	status      int
 }
 
 // begin names the message in the head, which is not changed any more.
@@ -98,7 +108,14 @@ func (a *answering) send() {
 	a.begin()
 	if !a.isSent && !a.isTaken {
 		a.isSent = true
-		tracing.outgoing(a.by, a.head, strconv.Itoa(a.status), nowhere)
+		a.tell(a.head, strconv.Itoa(a.status))
+	}
+}
+
+func (a *answering) tell(message, carried string) {
+	sent := tracing.send(a.by, message, carried, nowhere)
+	if !a.isAskedHere {
+		tracing.has(sent)
 	}
 }
 
@@ -109,7 +126,7 @@ func (a *answering) end() {
 	case !a.isSent:
 		a.send()
 	default:
-		tracing.outgoing(a.by, a.body, ofBody, nowhere)
+		a.tell(a.body, ofBody)
 		if !a.hasBody {
 			a.Header().Set(http.TrailerPrefix+BodyHeader, a.body)
 		}
@@ -308,11 +325,7 @@ func (t Transport) RoundTrip(request *http.Request) (*http.Response, error) {
 	if !isOn() {
 		return inner.RoundTrip(request)
 	}
-	if message := outgoing(own(numberNow()), inWords(request), siteAbove()); message != "" {
-		request = request.Clone(request.Context())
-		request.Header.Set(Header, message)
-	}
-	response, err := inner.RoundTrip(request)
+	response, err := inner.RoundTrip(withMessage(request, inner, siteAbove()))
 	if err == nil {
 		receive(response.Header.Get(Header), strconv.Itoa(response.StatusCode))
 		if response.Body != nil && response.StatusCode != http.StatusSwitchingProtocols {
@@ -320,6 +333,54 @@ func (t Transport) RoundTrip(request *http.Request) (*http.Response, error) {
 		}
 	}
 	return response, err
+}
+
+// withMessage is the request with a message, which the collector has before anything is written, but to a server of this process.
+func withMessage(request *http.Request, inner http.RoundTripper, at *site) *http.Request {
+	sent := tracing.send(own(numberNow()), tracing.outside(), inWords(request), at)
+	ctx := request.Context()
+	if _, tellsConnection := inner.(*http.Transport); tellsConnection {
+		ctx = httptrace.WithClientTrace(ctx, &httptrace.ClientTrace{GotConn: func(got httptrace.GotConnInfo) {
+			if !isServedHere(got.Conn) {
+				tracing.has(sent)
+			}
+		}})
+	} else if !tracing.has(sent) {
+		return request
+	}
+	request = request.Clone(ctx)
+	request.Header.Set(Header, sent.name)
+	return request
+}
+
+var (
+	// served has connections by both of their addresses, where Handler of this process has answered what this process has asked. One takes
+	// the place of another.
+	served     [cached]atomic.Pointer[string]
+	servedSeed = maphash.MakeSeed()
+)
+
+func servedAt(connection string) *atomic.Pointer[string] {
+	return &served[maphash.String(servedSeed, connection)%cached]
+}
+
+// servesHere notes the connection of a request of this process to itself.
+func servesHere(request *http.Request) {
+	if server, isTCP := request.Context().Value(http.LocalAddrContextKey).(*net.TCPAddr); isTCP {
+		connection := request.RemoteAddr + " " + server.String()
+		servedAt(connection).Store(&connection)
+	}
+}
+
+// isServedHere tells whether the other end of a connection is this process, as far as that is known.
+func isServedHere(asking net.Conn) bool {
+	client, isTCP := asking.LocalAddr().(*net.TCPAddr)
+	if !isTCP {
+		return false
+	}
+	connection := client.String() + " " + asking.RemoteAddr().String()
+	known := servedAt(connection).Load()
+	return known != nil && *known == connection
 }
 
 // reader is the body of a response. Who has read all of it comes after what was done before its end.
