@@ -3,6 +3,7 @@
 from __future__ import annotations
 
 import os
+import re
 import unittest
 from unittest import mock
 
@@ -286,8 +287,7 @@ if __name__ == "__main__":
 MAKERS = (
     "multiprocessing.Semaphore()", "multiprocessing.BoundedSemaphore()", "multiprocessing.Barrier(1)", "multiprocessing.Queue(1)",
     "multiprocessing.JoinableQueue()", "multiprocessing.Array('i', 3)", "multiprocessing.RawArray('i', 3)",
-    "shared_memory.ShareableList([1])", "multiprocessing.Pool(1).close()",
-    "multiprocessing.Manager().list()", "__import__('mmap').mmap(-1, 1)", "(lambda pipe: pipe[0].send_bytes(b'x') or pipe)(multiprocessing.Pipe())",
+    "shared_memory.ShareableList([1])", "multiprocessing.Manager().list()", "__import__('mmap').mmap(-1, 1)", "(lambda pipe: pipe[0].send_bytes(b'x') or pipe)(multiprocessing.Pipe())",
 )
 LATER = """
 import multiprocessing
@@ -594,6 +594,129 @@ class Pools(ProgramCase):
                 self.assertEqual(ran.stderr.count("race on"), 1, ran.stderr)
                 self.assertIn(f"race on {thing}\n", ran.stderr)
                 self.assertRegex(ran.stderr, f"threads (\\S*{task}\\S* and |\\S+ and \\S*{task})")
+
+
+PROCESS_POOL = """
+import multiprocessing, sys
+import itc_trace
+
+def hit(name):
+    itc_trace.touch(name, write=True, across=True)
+
+def work(name):
+    hit(name)
+    if name == "fails":
+        raise ValueError(name)
+    return name
+
+def two(one, other):
+    return work(one), work(other)
+
+def begin():
+    hit("begun")
+
+def use():
+    itc_trace.touch("begun", across=True)
+
+def given():
+    for name in ("given 1", "given 2"):
+        hit(name)
+        yield name
+
+def ordered(pool, single):
+    names = [f"{how} {number}" for how in ("map", "chunks", "imap", "unordered", "star") for number in range(2)]
+    for name in (*names, "apply", "callback", "fails", "left"):
+        hit(name)
+    assert pool.map(work, names[:2], 1) == names[:2]
+    assert pool.map(work, names[2:4], 2) == names[2:4]
+    for name in pool.imap(work, names[4:6]):
+        hit(name)
+    for name in pool.imap_unordered(work, names[6:8], 1):
+        hit(name)
+    assert pool.starmap(two, [names[8:]]) == [tuple(names[8:])]
+    assert pool.apply(work, ("apply",)) == "apply"
+    called = []
+    def call(name):
+        hit(name)
+        called.append(name)
+    assert pool.apply_async(work, ("callback",), callback=call).get() == "callback" == called[0]
+    try:
+        pool.apply_async(work, ("fails",)).get()
+    except ValueError as error:
+        assert error.args == ("fails",) and not error.__dict__ and "RemoteTraceback" in str(type(error.__cause__))
+    assert list(pool.imap(work, given())) == ["given 1", "given 2"]
+    single.apply_async(use).wait()
+    pool.apply_async(work, ("left",))
+    for one in (pool, single):
+        one.close()
+        one.join()
+    for name in (*names, "apply", "callback", "fails", "given 1", "given 2", "left", "begun"):
+        hit(name)
+
+def racing(pool, single):
+    same = [pool.apply_async(work, ("same",)) for _ in range(2)]
+    submitted = pool.apply_async(work, ("submitted",))
+    hit("submitted")
+    first, second = (single.apply_async(work, (name,)) for name in ("not taken", "taken"))
+    assert second.get() == "taken"
+    hit("taken")
+    hit("not taken")
+    more = [single.apply_async(work, ("one after another",)) for _ in range(2)]
+    for one in (*same, submitted, first, *more):
+        one.get()
+    for one in (pool, single):
+        one.terminate()
+
+method, how = sys.argv[1:]
+if __name__ == "__main__":
+    context = multiprocessing.get_context(method)
+    with context.Pool(2, maxtasksperchild=3) as pool, context.Pool(1, begin) as single:
+        globals()[how](pool, single)
+"""
+POOL_FAULTS = """
+import multiprocessing
+def work(n): return (lambda: n) if n == 1 else n
+def fail(): yield 1; raise KeyError("x")
+class Odd(Exception):
+    def __init__(self, a, b): super().__init__(a); self.b = b
+def odd(n): raise Odd(1, 2) if n else OSError(2, "no")
+if __name__ == "__main__":
+    with multiprocessing.get_context("fork").Pool(2) as pool:
+        for call in (
+            lambda: pool.apply(work, (1,)), lambda: list(pool.imap(work, fail())), lambda: pool.apply(lambda: 3), lambda: pool.map(odd, [0]),
+            lambda: pool.apply(int, ("x",)), lambda: pool.apply_async(work, (3,)).get(9),
+        ):
+            try: print(call())
+            except Exception as error: print(type(error), str(error)[:40], sorted(error.__dict__))
+        print(pool.map_async(abs, range(-3, 0), callback=print).get(), pool.apply_async(abs, (2,)).successful if 0 else "")
+    try: pool.map(abs, [1])
+    except ValueError as error: print(error)
+"""
+
+
+@unittest.skipUnless(hasattr(os, "fork"), "there is no fork here")
+class PoolsOfMultiprocessing(ProgramCase):
+    def test_a_job_comes_after_its_submission_and_before_its_result(self) -> None:
+        for method in chosen(METHODS):
+            with self.subTest(method=method):
+                ran = run_traced(self.program(PROCESS_POOL), method, "ordered")
+                self.assertEqual(ran.returncode, Verdict.NO_RACE, ran.stderr)
+                self.assertIn("no race in this run: ", ran.stderr)
+
+    def test_neither_the_processes_nor_the_threads_of_the_pool_order_its_jobs(self) -> None:
+        for method in chosen(METHODS):
+            with self.subTest(method=method):
+                ran = run_traced(self.program(PROCESS_POOL), method, "racing")
+                self.assertEqual(ran.returncode, Verdict.RACES, ran.stderr)
+                told = set(re.findall(r"itc_trace: race on (.+)", ran.stderr))
+                self.assertEqual(told, {"same", "submitted", "not taken", "one after another"}, ran.stderr)
+                self.assertNotIn("incomplete", ran.stderr)
+
+    def test_what_fails_does_so_as_ever(self) -> None:
+        program = self.program(POOL_FAULTS)
+        ran, plain = run_traced(program), run_python(program)
+        self.assertEqual((ran.returncode, ran.stdout), (0, plain.stdout), ran.stderr)
+        self.assertEqual(len(plain.stdout.splitlines()), 9, plain.stdout)
 
 
 SIGNALS = """

@@ -6,8 +6,10 @@ not disturbed.
 
 from __future__ import annotations
 
+import contextlib
 import pickle
-from collections.abc import Callable
+import threading
+from collections.abc import Callable, Iterator
 from types import ModuleType
 from typing import Any
 
@@ -22,6 +24,7 @@ MARK_OF_NAME = b"\0itc_trace "
 LONGEST_NAME = 24
 END_OF_NAME = b"\n"
 """A pickle ends with a stop and never with this."""
+_own = threading.local()
 _LENGTH = len(MARK_OF_NAME) + LONGEST_NAME + len(END_OF_NAME)
 
 
@@ -70,7 +73,19 @@ def _loads(data: Any, **named: Any) -> Any:
 
 def _begin() -> Sending | None:
     """Sends a message, if it may be for another process."""
-    return Sending.begin(following.frame_of_start(1)) if following.is_there() else None
+    if getattr(_own, "is_silent", False) or not following.is_there():
+        return None
+    return Sending.begin(following.frame_of_start(1))
+
+
+@contextlib.contextmanager
+def silence() -> Iterator[None]:
+    """What this thread pickles within the block brings a message of its own."""
+    before, _own.is_silent = getattr(_own, "is_silent", False), True
+    try:
+        yield
+    finally:
+        _own.is_silent = before
 
 
 # Queues: a thread of the queue pickles what was put

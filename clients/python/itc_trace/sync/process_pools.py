@@ -148,6 +148,16 @@ class Result:
         self.value = value
         self.message = message
 
+    def __repr__(self) -> str:
+        return repr(self.value)  # A value that cannot be pickled is shown in the error that says so.
+
+
+def opened(value: Any) -> tuple[Any, str | None]:
+    """What a job gave or raised, and the message of its end."""
+    if type(value) is Result:
+        return value.value, value.message
+    return value, value.__dict__.pop(_MESSAGE, None) if isinstance(value, BaseException) else None
+
 
 def _set_result(original: Any) -> Any:
     """A result that brings a message is ordered by that, and not by the thread that sets it."""
@@ -155,8 +165,8 @@ def _set_result(original: Any) -> Any:
 
     def set_result(self: Any, result: Any) -> None:
         if type(result) is Result:
-            self._itc_message = result.message
-            plain(self, result.value)
+            result, self._itc_message = opened(result)
+            plain(self, result)
         else:
             original(self, result)
 
@@ -167,7 +177,7 @@ def _set_exception(original: Any) -> Any:
     plain = original.__wrapped__
 
     def set_exception(self: Any, exception: Any) -> None:
-        message = exception.__dict__.pop(_MESSAGE, None) if isinstance(exception, BaseException) else None
+        exception, message = opened(exception)
         if message is None:
             original(self, exception)
         else:

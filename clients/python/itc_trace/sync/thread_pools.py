@@ -1,4 +1,4 @@
-"""Traces the thread pool of `multiprocessing`: each of its jobs is a task of its own, whichever of its threads runs it.
+"""Traces the pools of `multiprocessing`, of threads and of processes: each job is a task of its own, whoever runs it.
 
 Two threads of the pool hand all jobs and all results on. Which one comes first there is luck, so these threads give no
 order. A job comes after its own submission, and whoever takes a result after the jobs that gave it.
@@ -14,10 +14,13 @@ from collections.abc import Iterable, Iterator
 from types import FrameType, ModuleType
 from typing import Any
 
+from . import pipes, process_pools
 from .handed_on import HANDED, called, handed_at, watched_place
 from ..model.lines import (
     CALLED, FINISH, MARK, RESULT, SPAWN, SUBMIT, TAKE_END, WORKER, LateJob, Line, Token, What, state,
 )
+from ..record import following
+from ..record.messages import Sending, incoming_at
 from ..record.noting import current, enter, joining, line_of_now, local, mark, take
 from ..model.frames import frame_at, place
 from .base import Patches, like
@@ -25,6 +28,8 @@ from .later import once_imported
 from .queues import plain_simple_queue
 
 OWN_MODULE = "multiprocessing.pool"
+OF_FAULTS = "_helper_reraises_exception"
+"""The function by which a pool tells of a fault of what it goes through for arguments."""
 _WITHOUT_STEPS = (list, tuple, range, str, bytes, dict, set, frozenset, deque)
 """What gives its elements without any code of the program."""
 
@@ -42,6 +47,10 @@ def _put_pools(patches: Patches, module: ModuleType) -> None:
     patches.wrap(names["ApplyResult"], "__init__", _begin_result)
     patches.wrap(names["ApplyResult"], "wait", _wait)
     patches.wrap(names["ApplyResult"], "ready", _ready)
+    patches.wrap(names["Pool"], "_setup_queues", _set_up_of_processes)
+    plain = names["Pool"]._repopulate_pool_static
+    patches.put(names["Pool"], "_repopulate_pool_static", staticmethod(like(plain, _repopulate(plain))))
+    patches.wrap(module, "worker", _worker)
     unordered = names["IMapUnorderedIterator"]
     patches.wrap(names["IMapIterator"], "__init__", lambda original: _begin_iterator(original, unordered))
     patches.wrap(unordered, "_set", _set_unordered)
@@ -81,8 +90,13 @@ def _set_up(original: Any, maps: tuple[Any, ...]) -> Any:
     return _setup_queues
 
 
-def _is_of_threads(pool: Any) -> bool:
-    return type(getattr(pool, "_inqueue", None)) is _Jobs
+def _is_traced(pool: Any) -> bool:
+    """Whether the jobs of the pool are followed: those of threads, or of processes that are traced."""
+    return type(getattr(pool, "_inqueue", None)) is _Jobs or _is_of_processes(pool)
+
+
+def _is_of_processes(pool: Any) -> bool:
+    return "_itc_line" in getattr(pool, "__dict__", {}) and type(getattr(pool, "_quick_put", None)) is _Puts
 
 
 def _join(original: Any) -> Any:
@@ -93,7 +107,11 @@ def _join(original: Any) -> Any:
     return join
 
 
-def _take_jobs(jobs: Iterable[Line | Token | None]) -> None:
+Ended = Line | Token | str | None
+"""A job that has ended: its task, the place of its end, or the message of it from another process."""
+
+
+def _take_jobs(jobs: Iterable[Ended]) -> None:
     """From now on the current task comes after these jobs.
 
     One that is no task of its own is known by the place of its end.
@@ -101,7 +119,9 @@ def _take_jobs(jobs: Iterable[Line | Token | None]) -> None:
     where = _place()
     for job in list(jobs):
         note = state.note
-        if not isinstance(job, Line):
+        if isinstance(job, str):
+            incoming_at(job, following.frame_of_start(1))
+        elif not isinstance(job, Line):
             take(job)
         elif note is not None and job.tracer is state.tracer:
             note((TAKE_END, joining(job), job, *where))
@@ -230,16 +250,109 @@ class _Results:
         self._queue.put(result)
 
 
+# Processes: a job brings the message of who submitted it, and a result that of the job's end.
+
+
+def _set_up_of_processes(original: Any) -> Any:
+    def _setup_queues(self: Any) -> None:
+        original(self)
+        note = state.note
+        if note is None or not following.is_on():
+            return
+        line = self._itc_line = self._inqueue._itc_line = Line(state.tracer, "pool#")
+        line.watch(self)
+        note((SPAWN, current(), line, *_place()))
+        self._quick_put = _Puts(self._quick_put, weakref.ref(self))
+        self._quick_get = _Gets(self._quick_get, weakref.ref(self))
+
+    return _setup_queues
+
+
+def _repopulate(original: Any) -> Any:
+    """The processes are children of the pool, whichever thread starts them."""
+
+    def _repopulate_pool_static(ctx: Any, Process: Any, processes: Any, pool: Any, inqueue: Any, *words: Any) -> Any:
+        with following.as_child_of(getattr(inqueue, "_itc_line", None)):
+            return original(ctx, Process, processes, pool, inqueue, *words)
+
+    return _repopulate_pool_static
+
+
+class _Puts:
+    """How a thread of the pool gives jobs to its processes."""
+
+    def __init__(self, put: Any, pool: weakref.ref[Any]) -> None:
+        self._put = put
+        self._pool = pool
+
+    def __call__(self, job: Any) -> None:
+        with pipes.silence():
+            self._put(job if job is None else self._named(job))
+
+    def _named(self, job: Any) -> Any:
+        number, part, function, words, named = job
+        awaited = _awaited_of(self._pool, number)
+        if awaited is None or getattr(function, "__name__", "") == OF_FAULTS:
+            return job
+        sending = Sending.begin(None) if awaited.is_by_steps else awaited.sending
+        return number, part, process_pools.Job(function, sending), words, named
+
+
+class _Gets:
+    """How a thread of the pool gets results from its processes."""
+
+    def __init__(self, get: Any, pool: weakref.ref[Any]) -> None:
+        self._get = get
+        self._pool = pool
+
+    def __call__(self) -> Any:
+        result = self._get()
+        if result is None:
+            return None
+        number, part, (is_right, value) = result
+        value, message = process_pools.opened(value)
+        awaited = _awaited_of(self._pool, number)
+        if awaited is not None:
+            awaited.jobs[part] = message
+        return number, part, (is_right, value)
+
+
+def _awaited_of(pool: weakref.ref[Any], number: int) -> _Awaited | None:
+    one = pool()
+    return None if one is None else getattr(one._cache.get(number), "_itc_awaited", None)
+
+
+def _worker(original: Any) -> Any:
+    """In a process of the pool: its results bring their messages by themselves."""
+
+    def worker(inqueue: Any, outqueue: Any, *words: Any, **named: Any) -> Any:
+        if hasattr(inqueue, "_writer"):
+            outqueue.put = _silent(outqueue.put)
+        return original(inqueue, outqueue, *words, **named)
+
+    return worker
+
+
+def _silent(put: Any) -> Any:
+    def put_silently(result: Any) -> None:
+        with pipes.silence():
+            put(result)
+
+    return put_silently
+
+
 # Results
 
 
 class _Awaited:
     """What whoever takes a result comes after: the jobs that gave its parts, and the call of its callback."""
 
-    def __init__(self) -> None:
+    def __init__(self, is_of_processes: bool = False) -> None:
+        self.sending = Sending.begin(following.frame_of_start(1)) if is_of_processes else None
+        """The message of who submits, if the jobs are done by other processes."""
         self.submitted = _mark(SUBMIT)
         self.lent = () if self.submitted is None else self.submitted.line.held
-        self.jobs: dict[int, Line | Token | None] = {}
+        self.jobs: dict[int, Ended] = {}
         self.called: Token | None = None
         self.order: list[int] | None = None
         """The parts in the order in which they came in, if they are given in this one."""
@@ -260,9 +373,9 @@ class _Awaited:
 
 def _begin_result(original: Any) -> Any:
     def __init__(self: Any, pool: Any, callback: Any, error_callback: Any) -> Any:
-        if not _is_of_threads(pool):
+        if not _is_traced(pool):
             return original(self, pool, callback, error_callback)
-        awaited = self._itc_awaited = _Awaited()
+        awaited = self._itc_awaited = _Awaited(_is_of_processes(pool))
         original(
             self, pool, *(None if one is None else _called_back(one, awaited) for one in (callback, error_callback))
         )
@@ -336,8 +449,8 @@ class _Items(deque[Any]):
 def _begin_iterator(original: Any, unordered: type) -> Any:
     def __init__(self: Any, pool: Any) -> None:
         original(self, pool)
-        if _is_of_threads(pool):
-            self._itc_awaited = _Awaited()
+        if _is_traced(pool):
+            self._itc_awaited = _Awaited(_is_of_processes(pool))
             self._itc_awaited.order = [] if isinstance(self, unordered) else None
             self._items = _Items(self._itc_awaited)
             self._cond = threading.Condition()  # It is made here, and so gives no order.

@@ -13,7 +13,6 @@ from .values import is_making
 
 OF_POOL = "_SafeQueue"
 """The queue of a `ProcessPoolExecutor`, whose jobs have an order of their own."""
-POOL_OF_THREADS = "ThreadPool"
 MOST_PLACES = 16
 """A queue of more places bounds memory, and puts nobody in order who waits for a place: see `queues`."""
 
@@ -29,8 +28,7 @@ def _telling(patches: Patches, kind: str, tells: Callable[[Any], Any]) -> Callab
 
 def _tells(original: Any) -> Any:
     def __init__(self: Any, *words: Any, **named: Any) -> None:
-        if type(self).__name__ != POOL_OF_THREADS:
-            following.is_not_followed(type(self).__name__)
+        following.is_not_followed(type(self).__name__)
         original(self, *words, **named)
 
     return __init__
@@ -61,7 +59,6 @@ _MAKING = (
     ("multiprocessing.queues", "Queue", _tells_of_queue),
     ("multiprocessing.managers", "BaseManager", _tells),
     ("multiprocessing.managers", "BaseProxy", _tells),
-    ("multiprocessing.pool", "Pool", _tells),
     ("multiprocessing.shared_memory", "SharedMemory", _tells),
 )
 """The modules and classes by which a program makes such things, or gets them from another process, and what tells."""
