@@ -285,9 +285,7 @@ if __name__ == "__main__":
     del thing
 """
 MAKERS = (
-    "multiprocessing.Semaphore()", "multiprocessing.BoundedSemaphore()", "multiprocessing.Barrier(1)", "multiprocessing.Queue(1)",
-    "multiprocessing.JoinableQueue()", "multiprocessing.Array('i', 3)", "multiprocessing.RawArray('i', 3)",
-    "shared_memory.ShareableList([1])", "multiprocessing.Manager().list()", "__import__('mmap').mmap(-1, 1)", "(lambda pipe: pipe[0].send_bytes(b'x') or pipe)(multiprocessing.Pipe())",
+    "multiprocessing.Barrier(1, print)", "multiprocessing.Barrier(17)", "multiprocessing.Array('i', 5000)", "shared_memory.ShareableList([1])", "multiprocessing.Manager().list()", "__import__('mmap').mmap(-1, 1)", "(lambda pipe: pipe[0].send_bytes(b'x') or pipe)(multiprocessing.Pipe())",
 )
 LATER = """
 import multiprocessing
@@ -348,7 +346,7 @@ class Messages(ProgramCase):
     def test_what_is_used_later_and_is_not_followed_is_no_all_clear(self) -> None:
         for use, give, told in (
             ("pipe.recv_bytes()", "here.send_bytes(b'x')", "recv_bytes was used at"), ("pipe.recv()", "pass", "the end of a pipe was used at"),
-            ("multiprocessing.Array('i', 3)", "pass", "shared memory"), ("pipe.send(1); pipe.recv()", "here.recv(); here.send(multiprocessing.Lock)", ""),
+            ("multiprocessing.Array('i', 5000)", "pass", "shared memory"), ("pipe.send(1); pipe.recv()", "here.recv(); here.send(multiprocessing.Lock)", ""),
         ):
             with self.subTest(use=use):
                 ran = run_traced(self.program(LATER.replace("USE", use).replace("GIVE", give)))
@@ -717,6 +715,119 @@ class PoolsOfMultiprocessing(ProgramCase):
         ran, plain = run_traced(program), run_python(program)
         self.assertEqual((ran.returncode, ran.stdout), (0, plain.stdout), ran.stderr)
         self.assertEqual(len(plain.stdout.splitlines()), 9, plain.stdout)
+
+
+PERMITS = """
+import multiprocessing, sys, threading, time
+import itc_trace
+
+def hit(*names):
+    for name in names:
+        itc_trace.touch(name, write=True, across=True)
+
+def work(given, bounded, room, items, barrier, two):
+    hit("given right"); given.release(); hit("given wrong")
+    hit("bounded right")
+    with bounded:
+        hit("bounded in")
+    hit("bounded wrong")
+    hit("room right"); room.get(); hit("room wrong")
+    items.get(); hit("done right"); items.task_done(); hit("done wrong")
+    for _ in range(40):
+        barrier.wait()
+    hit("barrier right"); barrier.wait(); hit("barrier wrong")
+    with two:
+        hit("apart")
+    barrier.wait()
+    hit("in a thread right"); given.release(); hit("in a thread wrong")
+
+def take(given):
+    given.acquire()
+    hit("in a thread right", "in a thread wrong")
+
+method = sys.argv[1]
+if __name__ == "__main__":
+    context = multiprocessing.get_context(method)
+    given, bounded, room, items, barrier, two = (
+        context.Semaphore(0), context.BoundedSemaphore(1), context.Queue(1), context.JoinableQueue(), context.Barrier(2), context.Semaphore(2),
+    )
+    room.put(0)
+    child = context.Process(target=work, args=(given, bounded, room, items, barrier, two))
+    child.start()
+    given.acquire(); hit("given right", "given wrong")
+    time.sleep(0.2)
+    with bounded:
+        hit("bounded in", "bounded right")
+    hit("bounded wrong")
+    room.put(1); hit("room right", "room wrong")
+    items.put(1); items.join(); hit("done right", "done wrong")
+    for _ in range(40):
+        barrier.wait()
+    barrier.wait(); hit("barrier right", "barrier wrong")
+    with two:
+        hit("apart")
+    barrier.wait()
+    thread = threading.Thread(target=take, args=(given,))
+    thread.start()
+    thread.join()
+    child.join()
+    hit("given right", "room right", "done right", "barrier right", "apart")
+"""
+ARRAYS = """
+import ctypes, multiprocessing, sys
+
+def write(table, raw, text, own):
+    for _ in range(2):
+        with table.get_lock():
+            table[0] += 1
+        table[1] += 1
+    raw[own] = raw[own] + 1
+    raw[2] = own
+    text.value = b"abc"
+    assert len(raw) == 3
+
+def read(table, raw, text, own):
+    assert table[:] and list(raw) and text.raw
+
+method = sys.argv[1]
+if __name__ == "__main__":
+    context = multiprocessing.get_context(method)
+    table = context.Array("i", [1, 2, 3])
+    raw = context.RawArray(ctypes.c_long, 3)
+    text = context.Array("c", b"text")
+    assert raw[0] == 0 and table[2] == 3 and text.value == b"text"
+    children = [context.Process(target=write, args=(table, raw, text, own)) for own in range(2)]
+    for child in children:
+        child.start()
+    for child in children:
+        child.join()
+    child = context.Process(target=read, args=(table, raw, text, 0))
+    child.start()
+    child.join()
+    print(table[:1], raw[0:2], len(table), text.value, type(raw).__name__, isinstance(raw, ctypes.Array), list(table)[2], repr(table)[:70])
+"""
+
+
+@unittest.skipUnless(hasattr(os, "fork"), "there is no fork here")
+class Permits(ProgramCase):
+    def test_permits_room_items_that_are_done_and_barriers_order_processes(self) -> None:
+        for method in chosen(METHODS):
+            with self.subTest(method=method):
+                ran = run_traced(self.program(PERMITS), method)
+                told = set(re.findall(r"itc_trace: race on (.+)", ran.stderr))
+                wrong = {f"{name} wrong" for name in ("given", "bounded", "room", "done", "barrier", "in a thread")}
+                self.assertEqual(told, {*wrong, "apart"}, ran.stderr)
+                self.assertNotIn("incomplete", ran.stderr)
+
+    def test_an_element_of_an_array_is_a_thing(self) -> None:
+        for method in chosen(METHODS):
+            with self.subTest(method=method):
+                program = self.program(ARRAYS)
+                ran, plain = run_traced(program, method), run_python(program, method)
+                self.assertEqual((ran.returncode, ran.stdout), (Verdict.RACES, plain.stdout), ran.stderr)
+                told = set(re.findall(r"itc_trace: race on (\w+\S*), an Array made at", ran.stderr))
+                self.assertEqual(told, {"raw[2]"}, ran.stderr)
+                self.assertNotIn("incomplete", ran.stderr)
 
 
 SIGNALS = """

@@ -5,20 +5,23 @@ Whoever holds the lock writes the name or reads it, so nobody else does meanwhil
 
 from __future__ import annotations
 
+import _thread
 import contextlib
 import mmap
 import os
 import tempfile
-from collections.abc import Iterator
+from collections.abc import Callable, Iterator
 from zlib import crc32
 
-from . import own_files, plain
+from . import own_files
 
 LONGEST_KEY = 32
 LONGEST_NAME = 32
 SLOT = LONGEST_KEY + LONGEST_NAME
 MOST_SLOTS = 4096
 PREFIX = "itc_trace_names_"
+_make_lock = vars(_thread)["RLock"]
+"""As it is before any program is traced. A finalizer or a handler of a signal may come again within."""
 
 
 class SharedNames:
@@ -33,7 +36,8 @@ class SharedNames:
             file, self.path = os.open(path, os.O_RDWR | os.O_CLOEXEC), path
         self._file = own_files.keep(file)
         self._memory = mmap.mmap(self._file, SLOT * MOST_SLOTS)
-        self._thread_lock = plain.allocate_lock()
+        self._thread_lock = _make_lock()
+        self._depth = 0
 
     def slot_of(self, key: str) -> int | None:
         """The place of this key, which is taken if nobody has it. None if there is no room."""
@@ -42,7 +46,7 @@ class SharedNames:
             return None
         text = text.ljust(LONGEST_KEY, b"\0")
         first = crc32(text) % MOST_SLOTS
-        with self._alone():
+        with self.alone():
             for step in range(MOST_SLOTS):
                 place = (first + step) % MOST_SLOTS * SLOT
                 found = self._memory[place:place + LONGEST_KEY]
@@ -54,16 +58,33 @@ class SharedNames:
         return None
 
     @contextlib.contextmanager
-    def _alone(self) -> Iterator[None]:
+    def alone(self) -> Iterator[None]:
         """Keeps other processes and threads away from the keys."""
         import fcntl
 
         with self._thread_lock:
-            fcntl.lockf(self._file, fcntl.LOCK_EX)
+            self._depth += 1
+            if self._depth == 1:
+                fcntl.lockf(self._file, fcntl.LOCK_EX)
             try:
                 yield
             finally:
-                fcntl.lockf(self._file, fcntl.LOCK_UN)
+                self._depth -= 1
+                if not self._depth:
+                    fcntl.lockf(self._file, fcntl.LOCK_UN)
+
+    def begin_count(self, key: str, first: int) -> Counted | None:
+        """Counts what is taken and given under this key, of which there are so many at first. None without room."""
+        slot = self.slot_of(key)
+        if slot is None:
+            return None
+        self.put(slot, f"0 0 {first}")
+        return Counted(self, key, slot)
+
+    def find_count(self, key: str) -> Counted | None:
+        """What another process counts under this key. None if nobody does."""
+        slot = self.slot_of(key)
+        return None if slot is None or not self.name_at(slot) else Counted(self, key, slot)
 
     def name_at(self, slot: int) -> str:
         place = slot + LONGEST_KEY
@@ -75,9 +96,68 @@ class SharedNames:
 
     def after_fork(self) -> None:
         """In a forked child: no other thread of its parent is there to let go of the keys."""
-        self._thread_lock = plain.allocate_lock()
+        self._thread_lock = _make_lock()
+        self._depth = 0
 
     def remove(self) -> None:
         """Removes the file. Who has opened it may go on with it."""
         with contextlib.suppress(OSError):
             os.unlink(self.path)
+
+
+class Counted:
+    """How many permits were taken and given, how many there were at first, and the names of who gave the last ones."""
+
+    most = 32
+    """So many names are kept. If more permits than these are free, a later release stands for an earlier one."""
+
+    def __init__(self, names: SharedNames, key: str, slot: int) -> None:
+        self._names = names
+        self._key = key
+        self._slot = slot
+
+    def take(self) -> tuple[int, str]:
+        """Counts a permit that is taken: the number of the release that gave it, and the name of that.
+
+        The number is less than 0 for those of the beginning.
+        """
+        with self._names.alone():
+            taken, _, first = self._add(1, 0)
+            return taken - first, self.name_of(taken - first) if taken >= first else ""
+
+    def give(self, name: str, release: Callable[[], object]) -> int:
+        """Releases a permit by this name, and gives the number of the release. Meanwhile nobody else counts."""
+        with self._names.alone():
+            release()
+            _, given, _ = self._add(0, 1)
+            self.put_name(given, name)
+        return given
+
+    def arrive(self, name: str) -> int:
+        """Counts somebody who comes by this name, and gives the number of it."""
+        return self.give(name, int)
+
+    @property
+    def count(self) -> int:
+        """How many were given."""
+        with self._names.alone():
+            return self._add(0, 0)[1]
+
+    def put_name(self, number: int, name: str) -> None:
+        slot = self._names.slot_of(f"{self._key}.{number % self.most}")
+        if slot is not None:
+            self._names.put(slot, name)
+
+    def name_of(self, number: int) -> str:
+        slot = self._names.slot_of(f"{self._key}.{number % self.most}")
+        return "" if slot is None else self._names.name_at(slot)
+
+    def _add(self, taken: int, given: int) -> tuple[int, int, int]:
+        """Adds to the counts, and gives those before. Whoever comes again within has counted, too."""
+        while True:
+            text = self._names.name_at(self._slot)
+            before = tuple(map(int, text.split()))
+            after = f"{before[0] + taken} {before[1] + given} {before[2]}"
+            if self._names.name_at(self._slot) == text:
+                self._names.put(self._slot, after)
+                return before[0], before[1], before[2]

@@ -19,7 +19,12 @@ from ..model.frames import frame_at
 from ..record.messages import Sending, incoming_at
 from .base import Patches, like
 from .later import once_imported
+from .processes import trace_permits
+from .queues import MOST_PLACES, note_done, take_done
+from .shared_permits import SharedEnds, counted_of
 
+OF_POOL = "_SafeQueue"
+"""The queue of a `ProcessPoolExecutor`, whose jobs have an order of their own."""
 MARK_OF_NAME = b"\0itc_trace "
 LONGEST_NAME = 24
 END_OF_NAME = b"\n"
@@ -103,8 +108,26 @@ class _Put:
 
 def _put_queues(patches: Patches, module: ModuleType) -> None:
     kind: Any = vars(module)["Queue"]
+    patches.wrap(kind, "__init__", lambda original: _begin_queue(original, kind))
     patches.wrap(kind, "put", lambda original: _put_item(original, kind))
     patches.wrap(kind, "_on_queue_feeder_error", lambda original: _on_error(original))
+    joinable: Any = vars(module)["JoinableQueue"]
+    patches.wrap(joinable, "__init__", _begin_joinable)
+    patches.wrap(joinable, "__setstate__", _set_joinable)
+    patches.wrap(joinable, "put", lambda original: _put_item(original, joinable))
+    patches.wrap(joinable, "task_done", _task_done)
+    patches.wrap(joinable, "join", _join)
+
+
+def _begin_queue(original: Any, kind: Any) -> Any:
+    """Who puts into a queue of few places comes after who made the room. One of many bounds memory alone."""
+
+    def __init__(self: Any, maxsize: int = 0, **named: Any) -> None:
+        original(self, maxsize, **named)
+        if isinstance(self, kind) and type(self).__name__ != OF_POOL and 0 < maxsize <= MOST_PLACES:
+            trace_permits(self._sem, maxsize)
+
+    return __init__
 
 
 def _put_item(original: Any, kind: Any) -> Any:
@@ -113,6 +136,51 @@ def _put_item(original: Any, kind: Any) -> Any:
         original(self, obj if sending is None else _Put(obj, sending), block, timeout)
 
     return put
+
+
+def _begin_joinable(original: Any) -> Any:
+    def __init__(self: Any, maxsize: int = 0, **named: Any) -> None:
+        original(self, maxsize, **named)
+        _share_ends(self, is_made=True)
+
+    return __init__
+
+
+def _set_joinable(original: Any) -> Any:
+    """In a process that was started anew."""
+
+    def __setstate__(self: Any, told: Any) -> None:
+        original(self, told)
+        _share_ends(self, is_made=False)
+
+    return __setstate__
+
+
+def _share_ends(queue: Any, is_made: bool) -> None:
+    counted = counted_of("done", queue._unfinished_tasks._semlock.name, is_made)
+    queue._itc_ends = None if counted is None else SharedEnds(counted)
+
+
+def _task_done(original: Any) -> Any:
+    def task_done(self: Any) -> None:
+        if state.note is not None:
+            note_done(self)
+            if self._itc_ends is not None:
+                self._itc_ends.add()
+        original(self)
+
+    return task_done
+
+
+def _join(original: Any) -> Any:
+    def join(self: Any) -> None:
+        original(self)
+        if state.note is not None:
+            take_done(self)
+            if self._itc_ends is not None:
+                self._itc_ends.take()
+
+    return join
 
 
 def _on_error(original: Any) -> Any:

@@ -6,12 +6,15 @@ from types import ModuleType
 from typing import Any
 
 from ..model.lines import EVENT, state
+from ..record import following
 from ..record.noting import mark, take
-from .base import Patches
+from .base import Patches, like
 from .later import once_imported
 from .locks import is_of_condition
 from .processes import make_silent, silence
 from .shared_locks import has_taken, is_giving, slot_of
+from .shared_permits import MOST_PARTIES, SharedMeetings, counted_of
+from .values import making
 
 
 def put(patches: Patches) -> None:
@@ -30,6 +33,8 @@ def _put_signals(patches: Patches, module: ModuleType) -> None:
     for name in ("wait", "is_set"):
         patches.wrap(event, name, _sees)
     patches.wrap(barrier, "__init__", _begin_barrier)
+    patches.wrap(barrier, "__setstate__", _set_barrier)
+    patches.put(barrier, "wait", like(barrier.wait, _wait_at_barrier(barrier.wait)))
 
 
 # Conditions: whoever wakes up acquires the lock behind whoever notified it.
@@ -96,12 +101,52 @@ def _sees(original: Any) -> Any:
     return method
 
 
-# Barriers are those of `threading`, whose order is traced there.
+# Barriers are those of `threading`, whose order of the threads of a process is traced there.
 
 
 def _begin_barrier(original: Any) -> Any:
-    def __init__(self: Any, *words: Any, **named: Any) -> None:
-        with silence("Lock", "RLock", "Semaphore"):
-            original(self, *words, **named)
+    def __init__(self: Any, parties: int, action: Any = None, *words: Any, **named: Any) -> None:
+        with silence("Lock", "RLock", "Semaphore"), making():
+            original(self, parties, action, *words, **named)
+        _share_meetings(self, is_made=True)
+        if action is not None:
+            following.is_not_followed("the action of a Barrier")
 
     return __init__
+
+
+def _set_barrier(original: Any) -> Any:
+    def __setstate__(self: Any, told: Any) -> None:
+        original(self, told)
+        make_silent(self._cond._lock)
+        self._cond._make_methods()
+        _share_meetings(self, is_made=False)
+
+    return __setstate__
+
+
+def _share_meetings(barrier: Any, is_made: bool) -> None:
+    counted = None if barrier.parties > MOST_PARTIES else counted_of("met", barrier._cond._lock._semlock.name, is_made)
+    if counted is not None:
+        barrier._itc_meetings = SharedMeetings(counted, barrier.parties)
+    elif barrier.parties > MOST_PARTIES:
+        following.is_not_followed(f"a Barrier of more than {MOST_PARTIES} parties")
+
+
+def _wait_at_barrier(original: Any) -> Any:
+    """Nobody knows how far those have come who wait at one that breaks."""
+
+    def wait(self: Any, timeout: float | None = None) -> int:
+        meetings = self.__dict__.get("_itc_meetings")
+        if meetings is None or state.note is None:
+            return int(original(self, timeout))
+        number = meetings.arrive()
+        try:
+            place = int(original(self, timeout))
+        except BaseException:
+            following.is_not_followed("a Barrier that is broken")
+            raise
+        meetings.leave(number)
+        return place
+
+    return wait

@@ -18,6 +18,7 @@ from .base import Patches
 from .later import once_imported
 from .locks import gave, took
 from .shared_locks import has_taken, is_giving, slot_of
+from .shared_permits import SharedPermits
 
 _MAKERS = (
     "multiprocessing.context", "multiprocessing.synchronize", "multiprocessing.sharedctypes",
@@ -133,18 +134,23 @@ def _begin(original: Any) -> Any:
         name = type(self).__name__
         if name in _own.silent:
             return
-        if frame is not None and name not in LOCKS:
-            following.is_not_followed(name)
         if frame is None or value > MOST_PERMITS:
             return
-        traced: _Lock | _Semaphore
         if name in LOCKS:
-            traced = _Lock(self._semlock, name, frame)
+            _trace(self, _Lock(self._semlock, name, frame))
         else:
-            traced = _Semaphore(self._semlock, value)
-        self._itc_traced, self.acquire, self.release = traced, traced.acquire, traced.release
+            trace_permits(self, value)
 
     return __init__
+
+
+def _trace(lock: Any, traced: _Lock | _Semaphore | SharedPermits) -> None:
+    lock._itc_traced, lock.acquire, lock.release = traced, traced.acquire, traced.release
+
+
+def trace_permits(lock: Any, count: int) -> None:
+    """From here on the permits of this semaphore give order, between processes too if these are traced."""
+    _trace(lock, SharedPermits.made(lock._semlock, count) or _Semaphore(lock._semlock, count))
 
 
 def _set_state(original: Any) -> Any:
@@ -156,9 +162,11 @@ def _set_state(original: Any) -> Any:
     def __setstate__(self: Any, told: Any) -> None:
         original(self, told)
         name = type(self).__name__
+        permits = None if name in LOCKS else SharedPermits.given(self._semlock)
         if name in LOCKS:
-            traced = _Lock(self._semlock, name, None)
-            self._itc_traced, self.acquire, self.release = traced, traced.acquire, traced.release
+            _trace(self, _Lock(self._semlock, name, None))
+        elif permits is not None:
+            _trace(self, permits)
 
     return __setstate__
 
@@ -204,6 +212,9 @@ def _enter(original: Any) -> Any:
 def _exit(original: Any) -> Any:
     def __exit__(self: Any, *words: Any) -> Any:
         traced = self.__dict__.get("_itc_traced")
+        if isinstance(traced, SharedPermits):
+            traced.release()
+            return None
         if traced is not None:
             traced.is_released()
         return original(self, *words)

@@ -18,10 +18,13 @@ def slot_of(name: str | None) -> int | None:
 
     One without a name goes to forked children.
     """
-    names, tracer = following.shared_names(), state.tracer
-    if names is None or tracer is None:
-        return None
-    return names.slot_of(name or f"{tracer.prefix}{next(_numbers)}")
+    names = following.shared_names()
+    return None if names is None or state.tracer is None else names.slot_of(key_of(name))
+
+
+def key_of(name: str | None) -> str:
+    """What a lock or a semaphore is known by among processes: its name in the system, if it has one."""
+    return name or f"{state.tracer.prefix if state.tracer is not None else ''}{next(_numbers)}"
 
 
 def has_taken(slot: int | None, lock: LockIdentity | None = None) -> bool:

@@ -13,8 +13,6 @@ from .values import is_making
 
 OF_POOL = "_SafeQueue"
 """The queue of a `ProcessPoolExecutor`, whose jobs have an order of their own."""
-MOST_PLACES = 16
-"""A queue of more places bounds memory, and puts nobody in order who waits for a place: see `queues`."""
 
 
 def put(patches: Patches) -> None:
@@ -44,10 +42,10 @@ def _tells_of_memory(original: Any) -> Any:
 
 
 def _tells_of_queue(original: Any) -> Any:
-    """A thread of a queue waits for a place, or another one for its items to be done."""
+    """What a class of the program puts is not followed."""
 
     def __init__(self: Any, maxsize: int = 0, **named: Any) -> None:
-        if type(self).__name__ != OF_POOL and (0 < maxsize <= MOST_PLACES or type(self).__name__ != "Queue"):
+        if type(self).__name__ not in (OF_POOL, "Queue", "JoinableQueue"):
             following.is_not_followed(type(self).__name__)
         original(self, maxsize, **named)
 

@@ -1,11 +1,15 @@
-"""Traces numbers that processes share, made by `Value` and `RawValue` of `multiprocessing`:
-each is a thing across processes."""
+"""Traces numbers that processes share, made by `Value`, `RawValue`, `Array` and `RawArray` of `multiprocessing`.
+
+Each number is a thing across processes, and so is each element of an array.
+"""
 
 from __future__ import annotations
 
+import contextlib
 import ctypes
 import itertools
 import threading
+from collections.abc import Iterator
 from types import FrameType, ModuleType
 from typing import Any
 
@@ -21,6 +25,10 @@ from .later import once_imported
 
 _Simple: Any = vars(ctypes)["_SimpleCData"]
 _own = threading.local()
+OF_VARIABLE = ", an Array made at "
+"""Stands behind the name of a variable that an array was given to first."""
+MOST_ELEMENTS = 4096
+"""A longer array is not followed."""
 _numbers: dict[str, itertools.count[int]] = {}
 _noted_types: dict[Any, Any] = {}
 
@@ -34,9 +42,20 @@ def is_making() -> bool:
     return getattr(_own, "is_making", False)
 
 
+@contextlib.contextmanager
+def making() -> Iterator[None]:
+    """The memory that is taken within the block is no thing by itself, or one whose touches are noted."""
+    _own.is_making = True
+    try:
+        yield
+    finally:
+        _own.is_making = False
+
+
 def _put_values(patches: Patches, module: ModuleType) -> None:
     types: dict[str, Any] = vars(module)["typecode_to_type"]
     patches.wrap(module, "RawValue", lambda original: _raw_value(original, types))
+    patches.wrap(module, "RawArray", lambda original: _raw_array(original, types))
     patches.wrap(module, "rebuild_ctype", _rebuild)
     patches.wrap(module, "reduce_ctype", lambda original: _reduce(original, module))
 
@@ -49,23 +68,34 @@ def _raw_value(original: Any, types: dict[str, Any]) -> Any:
     def RawValue(typecode_or_type: Any, *args: Any) -> Any:
         if not _is_simple(types.get(typecode_or_type, typecode_or_type)):
             return original(typecode_or_type, *args)
-        _own.is_making = True
-        try:
+        with making():
             made = original(typecode_or_type, *args)
-        finally:
-            _own.is_making = False
         made._wrapper._itc_name = _name(following.frame_of_start(1))
         return made
 
     return RawValue
 
 
-def _name(frame: FrameType | None) -> str:
+def _raw_array(original: Any, types: dict[str, Any]) -> Any:
+    def RawArray(typecode_or_type: Any, size_or_initializer: Any) -> Any:
+        kind, size = types.get(typecode_or_type, typecode_or_type), size_or_initializer
+        count = size if isinstance(size, int) else len(size) if hasattr(size, "__len__") else 0
+        if not _is_simple(kind) or count > MOST_ELEMENTS:
+            return original(typecode_or_type, size_or_initializer)
+        with making():
+            made = original(typecode_or_type, size_or_initializer)
+        made._wrapper._itc_name = _name(following.frame_of_start(1), "an Array")
+        return made
+
+    return RawArray
+
+
+def _name(frame: FrameType | None, what: str = "a Value") -> str:
     """As `count, a Value made at shop.py:7`. A later one of the same line has its number."""
     if frame is None:
-        return "a Value"
+        return what
     variable = variable_of_result(frame.f_code, frame.f_lasti)
-    place = f"{variable}, a Value made at" if variable else "Value made at"
+    place = f"{variable}, {what} made at" if variable else f"{what.partition(' ')[2]} made at"
     tracer = state.tracer
     maker = f" by {tracer.prefix.rstrip('_')}" if tracer is not None and tracer.prefix else ""
     name = f"{place} {frame.f_code.co_filename}:{frame.f_lineno}{maker}"
@@ -75,18 +105,90 @@ def _name(frame: FrameType | None) -> str:
 
 def _rebuild(original: Any) -> Any:
     def rebuild_ctype(type_: Any, wrapper: Any, length: int | None) -> Any:
+        if length is not None and _is_simple(type_) and length <= MOST_ELEMENTS:
+            return original(_noted_array(type_ * length), wrapper, None)
+        if length is None and _is_noted_array(type_):
+            return original(_noted_array(type_), wrapper, None)
         return original(_noted(type_) if length is None and _is_simple(type_) else type_, wrapper, length)
 
     return rebuild_ctype
+
+
+def _is_noted_array(kind: Any) -> bool:
+    is_array = isinstance(kind, type) and issubclass(kind, ctypes.Array)
+    return is_array and _is_simple(kind._type_) and kind._length_ <= MOST_ELEMENTS
 
 
 def _reduce(original: Any, module: ModuleType) -> Any:
     def reduce_ctype(obj: Any) -> Any:
         told = original(obj)
         plain = getattr(type(obj), "_itc_plain", None)
-        return told if plain is None else (vars(module)["rebuild_ctype"], (plain, obj._wrapper, None))
+        if plain is None or isinstance(obj, ctypes.Array):
+            return told
+        return vars(module)["rebuild_ctype"], (plain, obj._wrapper, None)
 
     return reduce_ctype
+
+
+# Arrays
+
+
+def _noted_array(plain: Any) -> Any:
+    """A type of ctypes whose elements are noted as they are read and written."""
+    if hasattr(plain, "_itc_plain"):
+        return plain
+    made = _noted_types.get(plain)
+    if made is None:
+        names = {
+            "__getitem__": _get_element, "__setitem__": _set_element, "_itc_plain": plain,
+            "__module__": plain.__module__, "__qualname__": plain.__qualname__,
+        }
+        made = _noted_types[plain] = type(plain.__name__, (plain,), names)
+        for name in ("value", "raw"):
+            if hasattr(plain, name):  # It is of letters. The making of the type has put its own there.
+                setattr(made, name, _of_all(vars(plain)[name]))
+    return made
+
+
+def _get_element(self: Any, index: Any) -> Any:
+    found = self._itc_plain.__getitem__(self, index)
+    _touch_elements(self, index, READ)
+    return found
+
+
+def _set_element(self: Any, index: Any, value: Any) -> None:
+    self._itc_plain.__setitem__(self, index, value)
+    _touch_elements(self, index, WRITE)
+
+
+def _of_all(plain: Any) -> property:
+    def get(self: Any) -> Any:
+        _touch_elements(self, slice(None), READ)
+        return plain.__get__(self)
+
+    def put(self: Any, value: Any) -> None:
+        plain.__set__(self, value)
+        _touch_elements(self, slice(None), WRITE)
+
+    return property(get, put)
+
+
+def _touch_elements(array: Any, index: Any, kind: str) -> None:
+    if state.note is None and state.witness is None:
+        return
+    name = getattr(array._wrapper, "_itc_name", "an Array")
+    numbers = range(array._length_)[index if isinstance(index, slice) else slice(index, index + 1 or None)]
+    where = place_of(_user())
+    for number in numbers:
+        touch_at(Across(_name_of_element(name, number)), kind, *where)
+
+
+def _name_of_element(name: str, number: int) -> str:
+    variable, is_there, made = name.partition(OF_VARIABLE)
+    return f"{variable}[{number}]{is_there}{made}" if is_there else f"{name}, element {number}"
+
+
+# Numbers
 
 
 def _noted(plain: Any) -> Any:

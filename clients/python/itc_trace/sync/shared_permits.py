@@ -1,0 +1,129 @@
+"""What processes hand over by semaphores, by items that are done, and by barriers.
+
+The permits of a semaphore are handed on first in, first out, those of the beginning first: an acquire comes after the
+one release whose permit it takes. How many were taken and given is counted where all processes see it, and so are the
+messages of those who gave one.
+"""
+
+from __future__ import annotations
+
+from typing import Any
+
+from ..model.lines import SEMAPHORE, Token, state
+from ..record import following
+from ..record.messages import Sending, incoming_at
+from ..record.noting import line_of_now, mark, take
+from ..record.shared_names import Counted
+from .shared_locks import key_of
+
+MOST_PARTIES = Counted.most // 2
+"""Those who meet a second time may come before all have left the first one."""
+
+
+class SharedPermits:
+    """The permits of one semaphore, as this process uses it."""
+
+    def __init__(self, semlock: Any, counted: Counted) -> None:
+        self._semlock = semlock
+        self._counted = counted
+        self._given: dict[int, Token | None] = {}
+        """Where a task of this process gave a permit, by the number of its release."""
+
+    @staticmethod
+    def made(semlock: Any, count: int) -> SharedPermits | None:
+        """Those of a semaphore that is made here. None if processes share nothing."""
+        names = following.shared_names()
+        counted = None if names is None else names.begin_count(key_of(semlock.name), count)
+        return None if counted is None else SharedPermits(semlock, counted)
+
+    @staticmethod
+    def given(semlock: Any) -> SharedPermits | None:
+        """Those of a semaphore that was made by another process. None if nobody counts them."""
+        names = following.shared_names()
+        counted = None if names is None or not semlock.name else names.find_count(key_of(semlock.name))
+        return None if counted is None else SharedPermits(semlock, counted)
+
+    def acquire(self, block: bool = True, timeout: float | None = None) -> bool:
+        is_acquired = bool(self._semlock.acquire(block, timeout))
+        if is_acquired:
+            self.was_acquired()
+        return is_acquired
+
+    def was_acquired(self) -> None:
+        number, name = self._counted.take()
+        if number < 0 or state.note is None:
+            return
+        if number in self._given:
+            take(self._given.pop(number))
+        elif name:
+            incoming_at(name, following.frame_of_start(1))
+
+    def release(self) -> None:
+        name = _name()
+        token = mark(SEMAPHORE)
+        number = self._counted.give(name, self._semlock.release)
+        if token is not None:
+            self._given[number] = token
+            self._given.pop(number - self._counted.most, None)
+
+
+def _name() -> str:
+    """The message of what the current task has done, if there is another process to receive it."""
+    sending = Sending.begin(following.frame_of_start(2)) if following.has_others() else None
+    return (sending.name() if sending is not None else None) or ""
+
+
+def counted_of(kind: str, name: str | None, is_made: bool) -> Counted | None:
+    """What is counted of a queue or a barrier that this process makes, or that it was given. None if nothing is."""
+    names = following.shared_names()
+    if names is None or not is_made and not name:
+        return None
+    key = f"{kind}{key_of(name)}"
+    return names.begin_count(key, 0) if is_made else names.find_count(key)
+
+
+class SharedEnds:
+    """Where each task has said last that an item of a queue is done, as other processes are told."""
+
+    def __init__(self, counted: Counted) -> None:
+        self._counted = counted
+        self._mine: dict[int, int] = {}
+        """The place of each task of this process, by the number of its line."""
+
+    def add(self) -> None:
+        line, name = line_of_now().number, _name()
+        if not name:
+            return
+        if line in self._mine:
+            self._counted.put_name(self._mine[line], name)
+            return
+        self._mine[line] = self._counted.arrive(name)
+        if self._mine[line] >= self._counted.most:
+            following.is_not_followed("a queue whose items more than 32 tasks do")
+
+    def take(self) -> None:
+        """The current task comes after each of them. What tasks of this process did, it knows by itself."""
+        for number in range(min(self._counted.count, self._counted.most)):
+            _receive(self._counted.name_of(number))
+
+
+class SharedMeetings:
+    """Who has arrived at a barrier, as other processes are told: all who leave come after all who arrived with them."""
+
+    def __init__(self, counted: Counted, parties: int) -> None:
+        self._counted = counted
+        self._parties = parties
+
+    def arrive(self) -> int:
+        return self._counted.arrive(_name())
+
+    def leave(self, number: int) -> None:
+        first = number - number % self._parties
+        for one in range(first, first + self._parties):
+            _receive(self._counted.name_of(one))
+
+
+def _receive(name: str) -> None:
+    tracer = state.tracer
+    if name and tracer is not None and not name.startswith(f"{tracer.prefix}out_"):
+        incoming_at(name, following.frame_of_start(2))
