@@ -3,6 +3,7 @@
 from __future__ import annotations
 
 import unittest
+from pathlib import Path
 
 from itc_trace import Verdict
 from itc_trace.analyse.benign import Looking
@@ -122,6 +123,12 @@ class PassedOverCase(ProgramCase):
         for imported, is_told in (("greenlet", True), ("twisted.internet.defer", True), ("tornado.gen", True), ("json", False)):
             ran = run_traced(self.program(text.replace("IMPORTED", imported)))
             self.assertEqual("not looked into: tasks of " in ran.stderr, is_told, ran.stderr)
+        for imports in ("__import__('NAME')", "import importlib\nimportlib.import_module('NAME')", "exec('import NAME')"):
+            for name, is_told in (("curio", True), ("colours", False)):
+                program = Path(self.program(imports.replace("NAME", name)))
+                program.with_name(f"{name}.py").write_text("")
+                ran = run_traced(str(program))
+                self.assertEqual("tasks of curio at an import by a library" in ran.stderr, is_told, ran.stderr)
         ran = run_traced(self.program("import ctypes\nctypes.CFUNCTYPE(ctypes.c_int)\n"))
         self.assertIn("not looked into: tasks of CFUNCTYPE at program.py:2", ran.stderr)
 

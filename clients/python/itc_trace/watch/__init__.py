@@ -170,7 +170,8 @@ def not_looked_into() -> list[PassedOver]:
     """
     if _finder is None:
         return []
-    return [one for one in passed_over.found if hooks.are_put() or one.what.startswith(passed_over.TASKS_OF)]
+    all_found = [*passed_over.found, *passed_over.of_loaded()]
+    return [one for one in all_found if hooks.are_put() or one.what.startswith(passed_over.TASKS_OF)]
 
 
 def program_of(command: str | Sequence[str], folder: str) -> str | None:

@@ -4,6 +4,7 @@ from __future__ import annotations
 
 import ast
 import os
+import sys
 from collections.abc import Callable
 
 from ..model.stretches import SITES
@@ -36,6 +37,9 @@ REPLACING = ("unittest.mock.patch", "mock.patch", "importlib.reload")
 _MODULES = frozenset(("ctypes", "numpy", "pandas", "multiprocessing.shared_memory"))
 _WITH_TASKS = frozenset("greenlet gevent eventlet twisted anyio curio stackless cffi".split())
 """Libraries with tasks of their own, or with threads that no code of Python starts."""
+_LOADED = ("gevent", "eventlet", "curio", "stackless", "twisted.internet")
+"""Those of them that another library imports for its own tasks. Others come along where nobody uses them."""
+BY_A_LIBRARY = "an import by a library"
 _MODULES_WITH_TASKS = frozenset(("tornado.gen", "tornado.concurrent", "asyncore", "asynchat"))
 _STARTING = frozenset("CFUNCTYPE PYFUNCTYPE WINFUNCTYPE".split())
 """Functions of `ctypes` by which code in C calls the program, perhaps in a thread of its own."""
@@ -148,6 +152,13 @@ def _with_tasks(name: str) -> str:
     first = name.partition(".")[0]
     whole = next((one for one in _MODULES_WITH_TASKS if name == one or name.startswith(one + ".")), "")
     return first if first in _WITH_TASKS else whole
+
+
+def of_loaded() -> list[PassedOver]:
+    """The libraries with tasks of their own that are there, and that no watched module was seen to import."""
+    told = {one.what for one in found}
+    names = [f"{TASKS_OF}{name.partition('.')[0]}" for name in _LOADED if name in sys.modules]
+    return [PassedOver(name, BY_A_LIBRARY) for name in names if name not in told]
 
 
 def _parts(node: ast.ImportFrom) -> list[str]:
