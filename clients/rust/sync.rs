@@ -60,9 +60,8 @@ impl Hand {
     fn acquired(&self, released: &mut Option<Release>, site: Site, has_waited: bool) {
         if let Some(tracer) = on() {
             let name = self.name(tracer);
-            if let Some(release) = released {
-                release.take_by(tracer, name, site);
-                *released = None;
+            if let Some(release) = released.take() {
+                release.take_away(tracer, name, site);
             }
             self.hold(tracer, name, site, false, has_waited);
         }

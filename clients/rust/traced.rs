@@ -31,6 +31,8 @@ struct Thread {
     held: RefCell<Vec<HeldLock>>,
     /// The last place of another task that its task has come after, and whether by luck.
     taken: RefCell<(Weak<Place>, bool)>,
+    /// Where it has released the lock that it has acquired last, if it does nothing else but to release it again.
+    own: Cell<Option<Arc<Place>>>,
 }
 
 impl Thread {
@@ -40,6 +42,7 @@ impl Thread {
             noted: Cell::new(None),
             held: RefCell::new(Vec::new()),
             taken: RefCell::new((Weak::new(), false)),
+            own: Cell::new(None),
         }
     }
 
@@ -48,6 +51,7 @@ impl Thread {
         self.here.replace(Weak::new());
         self.noted.set(None);
         self.taken.replace((Weak::new(), false));
+        self.own.set(None);
     }
 }
 
@@ -203,9 +207,16 @@ pub(crate) fn receive(message: &str, site: Site) {
     }
 }
 
-/// The task of this thread.
+/// The task of this thread, which is about to do something.
 #[inline]
 pub(crate) fn current(tracer: &Tracer) -> Task {
+    let _ = THREAD.try_with(|thread| thread.own.set(None));
+    task_now(tracer)
+}
+
+/// The task of this thread.
+#[inline]
+fn task_now(tracer: &Tracer) -> Task {
     CURRENT.get().unwrap_or_else(|| begin_thread(tracer))
 }
 
@@ -281,11 +292,20 @@ pub(crate) struct Release {
 }
 
 impl Release {
+    /// This thread acquires the lock, and comes after whoever has released it. Its own place stays for the next release.
+    #[inline]
+    pub fn take_away(self, tracer: &Tracer, lock: LockName, site: Site) {
+        if self.place.task == task_now(tracer) {
+            let _ = THREAD.try_with(|thread| thread.own.set(Some(self.place)));
+        } else {
+            take_by(tracer, &self.mark(lock), site);
+        }
+    }
+
     /// This thread acquires the lock, and comes after whoever has released it.
     #[inline]
     pub fn take_by(&self, tracer: &Tracer, lock: LockName, site: Site) {
-        let task = current(tracer);
-        if self.place.task != task {
+        if self.place.task != task_now(tracer) {
             take_by(tracer, &self.mark(lock), site);
         }
     }
@@ -356,7 +376,8 @@ impl Thread {
         if self.noted.get() == key && !known.is_null() && self.here.borrow().as_ptr() == known {
             return None;
         }
-        let here = self.here.borrow().upgrade();
+        let own = self.own.take().filter(|own| Arc::as_ptr(own) == self.here.borrow().as_ptr());
+        let here = own.or_else(|| self.here.borrow().upgrade());
         let place = here.unwrap_or_else(|| is_somewhere(tracer));
         if self.noted.get() != key {
             self.noted.set(key);
