@@ -5,6 +5,9 @@ The same program runs without a trace and with one, by turns, five times each or
 thread runs until its traced runs have made 100000 reports. Told is the difference of the middle times. It has the threads of the tracer in it,
 and not the collector.
 
+Then it measures a lock that nobody else wants and that touches nothing, in Java and Rust, by the time of its thread
+alone. The lock of the language and the one that is wrapped take turns, and the best of several rounds is told.
+
 Usage: clients/measure.py [LANGUAGE..], of python, java, rust and go. It builds the programs first, as a user would, and takes less than three
 minutes on a quiet machine.
 """
@@ -23,6 +26,7 @@ from wrappers import CLIENTS, Programs
 from itc_trace import Collector, Session
 
 LEAST_RUNS = 5
+FREE = ("java", "rust")
 LEAST_REPORTS = 100_000
 # What a turn goes through, how many turns a run has, and how many reports its runs are to make. One thread alone reports next to nothing.
 PROGRAMS = {"lock_turns": ("A lock that nobody else acquires", 100_000, 0),
@@ -85,7 +89,8 @@ def build(language: str, folder: Path) -> None:
     elif language == "rust":
         words = ["cargo", "build", "--quiet", "--offline", "--release", "--examples", "--target-dir", folder / "rust"]
         subprocess.run(words, cwd=source, check=True)
-        (folder / "rust/release/examples/wrappers").rename(folder / "rust_wrappers")
+        for name in ("wrappers", "free_lock"):
+            (folder / "rust/release/examples" / name).rename(folder / f"rust_{name}")
     elif language == "go":
         subprocess.run(["go", "build", "-o", folder / "go_wrappers", "./wrappers"], cwd=source, check=True)
     else:
@@ -134,13 +139,33 @@ def cost_of(language: str, folder: Path, program: str) -> str:
     return f"{cost / turns * 1e6:.1f}"
 
 
+def free_lock(language: str, folder: Path, of_whom: str) -> str:
+    """A row of the nanoseconds that a turn costs: of the language, wrapped without a trace, and with one.
+
+    The last column is how many times that of the language the one with a trace is.
+    """
+    words = ["java", "-cp", str(folder / "java"), "FreeLock"] if language == "java" else [str(folder / "rust_free_lock")]
+    environment = {**os.environ, "ITC_TRACE_PORT": ""}
+    without = subprocess.run([*words, of_whom], env=environment, capture_output=True, text=True, check=True).stdout.split()[2]
+    with Collector() as collector:
+        environment["ITC_TRACE_PORT"] = str(collector.port)
+        told = subprocess.run([*words, of_whom], env=environment, capture_output=True, text=True, check=True).stdout.split()
+    own, with_trace = told[1:]
+    reader = ", for a reader" if of_whom == "reader" else ""
+    return f"| {language.title()}{reader} | {own} | {without} | {with_trace} | {float(with_trace) / float(own):.1f} |"
+
+
 def main() -> None:
     print(f"| Client | {' | '.join(told for told, _, _ in PROGRAMS.values())} |\n|---|---|---|---|")
+    free: list[str] = []
     for language in sys.argv[1:] or ["python", "java", "rust", "go"]:
         with tempfile.TemporaryDirectory() as name:
             build(language, Path(name))
             costs = [cost_of(language, Path(name), program) for program in PROGRAMS]
             print(f"| {language} | {' | '.join(costs)} |", flush=True)
+            free += [free_lock(language, Path(name), of_whom) for of_whom in ("lock", "reader") if language in FREE]
+    head = "| Client | The lock of the language | Wrapped, without a trace | With a trace | Times |"
+    print(f"\n{head}", "|---|---|---|---|---|", *free, sep="\n")
 
 
 if __name__ == "__main__":
