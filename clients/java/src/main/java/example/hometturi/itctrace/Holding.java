@@ -27,6 +27,11 @@ final class Holding {
         return lock.lock().equals(other);
     }
 
+    /** Whether the last one was acquired there, and so. */
+    boolean isAt(Row.Site site, boolean isShared) {
+        return lock.isShared() == isShared && lock.site().equals(site);
+    }
+
     /** From now on it is looked where each of the outer ones is acquired. */
     void tellNested() {
         for (Holding one = others; one != null; one = one.others) {

@@ -21,6 +21,8 @@ final class LockName {
     private volatile boolean isSignal;
     /** Whether another one was acquired while it was held. Then it is looked where each task acquires it. */
     private volatile boolean isNested;
+    /** What a thread held that had acquired it alone, to be held again. */
+    private Holding alone;
 
     private String name() {
         if (name == null) {
@@ -59,7 +61,12 @@ final class LockName {
 
     /** This thread's task holds it from now on. It has waited for it, if it would have. */
     void hold(Traced.Own own, Site at, boolean isShared, boolean hasWaited) {
-        own.hold(this, new HeldLock(name(), at, isShared), hasWaited && !isSignal);
+        Holding held = own.holdsAny() ? null : alone; // Else a lock would keep those that it was acquired within.
+        if (held == null || !held.isAt(at, isShared)) {
+            held = own.with(this, new HeldLock(name(), at, isShared));
+            alone = own.holdsAny() ? alone : held;
+        }
+        own.hold(held, hasWaited && !isSignal);
     }
 
     /** Another one was acquired while it was held. */

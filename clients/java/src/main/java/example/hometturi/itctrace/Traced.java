@@ -48,6 +48,29 @@ public final class Traced {
         private Place taken;
 
         private boolean isTakenByLuck;
+        /** Where it has released the lock that it has acquired last, if it does nothing else but to release it again. It has a mark. */
+        private Place kept;
+
+        void keep(Place place) {
+            dropKept();
+            kept = place;
+        }
+
+        void dropKept() {
+            if (kept != null) {
+                kept.removeMark();
+                kept = null;
+            }
+        }
+
+        /** Whether the place has a mark that was kept. */
+        boolean takesKept(Place place) {
+            boolean isKept = kept == place;
+            if (isKept) {
+                kept = null;
+            }
+            return isKept;
+        }
 
         boolean hasTaken(Mark mark) {
             return taken == mark.place && (!isTakenByLuck || mark.noted.gives().isLuck());
@@ -62,11 +85,17 @@ public final class Traced {
             return holding != null;
         }
 
-        /** This thread holds the lock from now on. If it has waited for it with others held, that is told. */
-        void hold(LockName name, HeldLock lock, boolean hasWaited) {
+        /** The locks that are held, and one more. */
+        Holding with(LockName name, HeldLock lock) {
+            return new Holding(name, lock, holding);
+        }
+
+        /** This thread holds one lock more from now on. If it has waited for it with others held, that is told. */
+        void hold(Holding held, boolean hasWaited) {
             boolean isInner = holdsAny();
-            holding = new Holding(name, lock, holding);
+            holding = held;
             if (isInner && hasWaited) {
+                dropKept();
                 holding.tellNested();
                 TRACER.acquire(task(), holding.inOrder());
             }
@@ -126,6 +155,7 @@ public final class Traced {
     private static void touched(String thing, boolean writes, boolean isAcross) {
         if (isOn()) {
             Own own = OWN.get();
+            own.dropKept();
             TRACER.touch(own.task(), thing, writes, isAcross, Site.ofCaller(), Holding.locks(own.holding));
         }
     }
@@ -306,9 +336,11 @@ public final class Traced {
         return TRACER != null && !TRACER.isOver();
     }
 
-    /** The task of this thread. */
+    /** The task of this thread, which is about to do something. */
     static Task current() {
-        return OWN.get().task();
+        Own own = OWN.get();
+        own.dropKept();
+        return own.task();
     }
 
     static Site site() {
@@ -365,6 +397,7 @@ public final class Traced {
     static Task become(Task task) {
         Own own = OWN.get();
         Task before = own.task;
+        own.dropKept();
         own.task = task;
         own.taken = null;
         return before;

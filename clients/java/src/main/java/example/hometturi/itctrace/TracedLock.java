@@ -53,12 +53,12 @@ final class TracedLock extends ReportingLock {
             boolean isHandedOver = place != null && place.task != own.task();
             turns = isHandedOver ? 0 : turns + 1;
             Site at = name.acquiredAt(own, turns);
+            last.place = null;
             if (isHandedOver) {
                 Traced.take(place, release, at);
-            }
-            if (place != null) {
                 place.removeMark();
-                last.place = null;
+            } else if (place != null) {
+                own.keep(place);
             }
             name.hold(own, at, false, hasWaited);
         }
@@ -75,7 +75,9 @@ final class TracedLock extends ReportingLock {
             name.letGo(own);
             Place here = own.task().here;
             release = name.release(here, release, turns);
-            here.addMark();
+            if (!own.takesKept(here)) {
+                here.addMark();
+            }
             last.place = here;
             if (!isWatched) {
                 isWatched = true;
