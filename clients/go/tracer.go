@@ -553,12 +553,17 @@ func (t *tracer) flush(most time.Duration) {
 }
 
 func (t *tracer) isUnwritten() bool {
-	t.listMutex.Lock()
-	isListed := len(t.listed) > 0
-	t.listMutex.Unlock()
+	isListed := t.isListed()
 	t.mutex.Lock()
 	defer t.mutex.Unlock()
 	return isListed || len(t.outstanding) > 0 || len(t.unwritten) > 0
+}
+
+// isListed tells whether touches are to be written to the journal.
+func (t *tracer) isListed() bool {
+	t.listMutex.Lock()
+	defer t.listMutex.Unlock()
+	return len(t.listed) > 0
 }
 
 // close waits until all that was noted is answered, and writes the journal's last line.
@@ -664,9 +669,7 @@ func (t *tracer) sendAll() {
 }
 
 func (t *tracer) hasSomething() bool {
-	t.listMutex.Lock()
-	isListed := len(t.listed) > 0
-	t.listMutex.Unlock()
+	isListed := t.isListed()
 	t.mutex.Lock()
 	defer t.mutex.Unlock()
 	return isListed || len(t.unsent) > 0 || len(t.unwritten) > 0
@@ -693,7 +696,7 @@ func (t *tracer) sendSome() bool {
 	t.dropGone()
 	t.writeTouches()
 	t.mutex.Lock()
-	isDone := t.isClosing && len(t.outstanding) == 0 && len(t.unsent) == 0
+	isDone := t.isClosing && len(t.outstanding) == 0 && len(t.unsent) == 0 && !t.isListed() // The last reply may have come just now.
 	isLast := isDone || t.isOver.Load()
 	if isLast && !t.isOver.Swap(true) {
 		t.lastRow = endRow
