@@ -75,6 +75,7 @@ class Looking:
         found.deadlocks = list(self._left(found.deadlocks, found))
         found.possible = list(self._left(found.possible, found))
         found.possible_deadlocks = list(self._left(found.possible_deadlocks, found))
+        found.hidden = [race for race in found.hidden if not self._is_meant(race) and not self._is_known(race, found)]
 
     def _left(self, races: Iterable[One], found: Races) -> Iterator[One]:
         """Those that are neither meant nor in the baseline."""
@@ -88,6 +89,9 @@ class Looking:
                 found.known.append(race)
             else:
                 yield race
+
+    def _is_known(self, race: Race, found: Races) -> bool:
+        return race.finding(found.sources).known_as in self._known
 
     def _is_meant(self, race: Race | Deadlock) -> bool:
         fitting = {pattern for pattern in self.patterns if pattern.fits(race)}

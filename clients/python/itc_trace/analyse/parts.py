@@ -84,6 +84,7 @@ def find_in_parts(
     across, lucky, waiting = AcrossParts(is_strict), _Requests(), DeadlocksOfParts(signals)
     listed: dict[object, Any] = {}
     possible: dict[object, Any] = {}
+    hidden: dict[object, Any] = {}
     deadlocks: dict[object, Any] = {}
     ahead = iter(parts)
     part = next(ahead, None)
@@ -99,6 +100,8 @@ def find_in_parts(
                 add_race(race, listed)
             for race in own.possible:
                 add_race(race, possible)
+            for race in own.hidden:
+                add_race(race, hidden)
             for deadlock in own.possible_deadlocks:
                 add_deadlock(deadlock, deadlocks)
             found.questions += own.questions
@@ -126,6 +129,7 @@ def find_in_parts(
         part = following
     found.races = in_order(listed)
     found.possible = in_order({key: race for key, race in possible.items() if key not in listed})
+    found.hidden = in_order({key: race for key, race in hidden.items() if key not in listed and key not in possible})
     found.possible_deadlocks = deadlocks_in_order(deadlocks)
     found.passed_over += waiting.passed_over(found.possible_deadlocks)
 

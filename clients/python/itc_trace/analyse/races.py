@@ -10,20 +10,21 @@ from __future__ import annotations
 from bisect import bisect_left, bisect_right
 from collections import defaultdict
 from collections.abc import Collection, Iterable, Iterator
-from dataclasses import dataclass, field
+from dataclasses import dataclass, field, replace
 from functools import cached_property
 from itertools import islice
 from typing import Protocol
 
 from ..record.collector import HOST, NoCollector
 from ..model.conflicts import CONFLICTING, MAKING, WRITE
-from ..model.finding import POSSIBLE_RACE, RACE, Finding, FoundSide, Story
+from ..model.finding import POSSIBLE_RACE, RACE, Finding, FoundSide, Story, runs_in_words
 from .deadlocks import Deadlock, TooMany, deadlocks_told, find_deadlocks, has_cycle
 from .fast_track import deciding_pairs
+from .hand_overs import NO_LOCKS, events_without_order, hand_overs_of, known_without
 from .looks import looks_of
 from ..record.journal import Row, read_whole
 from .kept_sources import sources_of
-from ..model.lock_identity import ANSWER, REQUEST
+from ..model.lock_identity import ANSWER, POLL, REQUEST
 from .order import Order
 from .progress import Bar, Shown
 from .queue_waits import waits_of
@@ -65,6 +66,10 @@ class Race:
     why: str = NOTHING
     is_possible: bool = False
     """Whether it was kept in order in this run, by luck alone."""
+    is_confirmed: bool = False
+    """Whether a further run, in which tasks were to meet here, had it."""
+    is_of_further_run: bool = False
+    """Whether the run that is told of had it not, and its events are those of another one."""
     story: Story = Story()
 
     @property
@@ -72,12 +77,37 @@ class Race:
         """What is the same of races that are listed as one, in other runs too."""
         return _key(self.example)
 
+    @property
+    def may_meet(self) -> bool:
+        """Whether two threads of this process may be had to meet here. Tasks of one loop take turns."""
+        first, second = self.example
+        thing = first.thing or ""
+        return thing[1:].isdigit() and bool(first.file and second.file) and not 0 < first.loop == second.loop
+
+    @property
+    def places(self) -> tuple[str, str]:
+        return self.sides[0].place, self.sides[1].place
+
+    def confirm(self) -> None:
+        """A further run has had it."""
+        self.is_possible, self.is_confirmed = False, True
+        self.why = f"{self.why}; both stood here at once in a further run"
+
+    def of_further_run(self) -> Race:
+        """The race, as it is told beside another run."""
+        return replace(self, why=f"{self.why} in a further run", is_of_further_run=True)
+
+    def try_in_vain(self, runs: int) -> None:
+        """So many further runs were to have it, and had not."""
+        self.why = f"{self.why}; not met in {runs_in_words(runs)} that tried"
+
     def finding(self, sources: Sources | None = None) -> Finding:
         """The value that each format is written of."""
+        sides = [_found_side(row, side, sources or Sources()) for row, side in zip(self.example, self.sides)]
         return Finding(
             POSSIBLE_RACE if self.is_possible else RACE, self.thing,
-            tuple(_found_side(row, side, sources or Sources()) for row, side in zip(self.example, self.sides)),
-            self.why, self.times, self.example[0].made, self.is_possible, story=self.story,
+            tuple(replace(side, event=0) if self.is_of_further_run else side for side in sides),
+            self.why, self.times, self.example[0].made, self.is_possible, self.is_confirmed, story=self.story,
         )
 
     def __str__(self) -> str:
@@ -99,6 +129,10 @@ class Races:
 
     races: list[Race] = field(default_factory=list)
     possible: list[Race] = field(default_factory=list)
+    hidden: list[Race] = field(default_factory=list)
+    """Those that are not told as possible, though hand-overs alone put them in order: they may have been meant to."""
+    tries: int = 0
+    """How many further runs were to have those that are possible or hidden."""
     deadlocks: list[Deadlock] = field(default_factory=list)
     """Those that have been."""
     possible_deadlocks: list[Deadlock] = field(default_factory=list)
@@ -150,6 +184,25 @@ class Races:
         self.deadlocks += met
         self.possible_deadlocks = [one for one in self.possible_deadlocks if one not in met]
 
+    @property
+    def tried_races(self) -> list[Race]:
+        """The races that a further run may have, those that are told first."""
+        return [race for race in (*self.possible, *self.hidden) if race.may_meet]
+
+    def add_further(self, races: Iterable[Race]) -> None:
+        """Adds what a further run has had beside what it was to have."""
+        known = {one.key for one in (*self.races, *self.possible, *self.hidden, *self.meant, *self.known)}
+        self.races += [one.of_further_run() for one in races if one.key not in known]
+
+    def confirm_races(self, keys: Collection[object]) -> None:
+        """A further run has had the races of these keys."""
+        met = [race for race in (*self.possible, *self.hidden) if race.key in keys]
+        for race in met:
+            race.confirm()
+        self.races += met
+        self.possible = [race for race in self.possible if race not in met]
+        self.hidden = [race for race in self.hidden if race not in met]
+
     def found(self) -> str:
         """How many races there are, in few words."""
         found = told_races(len(self.races), bool(self.known))
@@ -157,7 +210,8 @@ class Races:
         return f"{found} {where}" + (f"; {len(self.possible)} possible" if self.possible else "") + told_deadlocks(
             len(self.deadlocks), len(self.possible_deadlocks)) + (
             f"; {len(self.meant)} silenced" if self.meant else "") + (
-            f"; {len(self.known)} in the baseline" if self.known else "") + listed(self.passed_over)
+            f"; {len(self.known)} in the baseline" if self.known else "") + told_hidden(
+            len(self.hidden), self.tries) + listed(self.passed_over)
 
     def summary(self) -> str:
         return (
@@ -173,6 +227,14 @@ def told_races(count: int, is_beside_known: bool) -> str:
     """How many races there are. Beside those of a baseline only new ones are counted."""
     word = "new race" if is_beside_known else "race"
     return f"no {word}" if count == 0 else _counted(count, word)
+
+
+def told_hidden(count: int, tries: int = 0) -> str:
+    """How many pairs of lines are not told as possible races, in the last line."""
+    if not count:
+        return ""
+    what = f"tried in {runs_in_words(tries)}" if tries else "run --confirm"
+    return f"; {count} more {'pair is' if count == 1 else 'pairs are'} in order by locks alone: {what}"
 
 
 def told_deadlocks(count: int, possible: int) -> str:
@@ -286,11 +348,13 @@ class _Finder:
 
     def find(self, things: list[_Thing]) -> None:
         self._find_races(things)
+        apart = [thing for thing in things if not thing.has_lock_in_common]
         if self._locks:
             try:
-                self._find_possible([thing for thing in things if not thing.has_lock_in_common])
+                self._find_possible(apart)
             except (NoCollector, Refused, OSError) as fault:
                 self._found.unseen.append(Unseen(Cause.COLLECTOR, f"possible races cannot be told: {fault}"))
+        self._find_hidden([thing for thing in apart if not thing.is_named])
         self._found.questions += self._order.questions
 
     def find_deadlocks(self, signals: frozenset[str]) -> None:
@@ -335,7 +399,9 @@ class _Finder:
         trace = self._trace
         locks = lock_events(trace, self._locks)
         requests, answers = events_of_lock(self._locks, REQUEST), events_of_lock(self._locks, ANSWER)
-        told = told_by_signals(trace, Steps(locks, requests, answers, looks_of(self._rows, trace))).known
+        polls = events_of_lock(self._locks, POLL)
+        told = told_by_signals(trace, Steps(locks, requests, answers, looks_of(self._rows, trace), polls)).known
+        locks |= polls
         races = {_key(race.example) for race in self._found.races}
         listed: dict[object, Race] = {}
         for thing in things:
@@ -358,12 +424,39 @@ class _Finder:
                 _confirm(self._found.possible, tenant)
                 self._found.questions += tenant.questions
 
-    def _reason(self, receipt: int | None, first: Row, second: Row) -> str:
-        lock = self._locks.get(receipt) if receipt is not None else None
+    def _find_hidden(self, things: list[_Thing]) -> None:
+        """What hand-overs alone put in order, and is not told as possible."""
+        hand_overs = hand_overs_of(self._rows) if things else {}
+        if not hand_overs:
+            return
+        trace, events = self._trace, events_without_order(self._trace, hand_overs)
+        known = known_without(trace, events)
+        told = {race.key for race in (*self._found.races, *self._found.possible)}
+        listed: dict[object, Race] = {}
+
+        def untold(touch: int) -> Events:
+            return ~known[touch] & ((1 << touch) - 2)
+
+        def by_hand_overs(touch: int) -> Events:
+            return trace.before[touch] & untold(touch)
+
+        for thing in things:
+            for pair in racing_pairs(thing.touches, by_hand_overs, untold, True, self._is_strict):
+                if _key(pair[:2]) not in told and not 0 < pair[0].loop == pair[1].loop:
+                    list_pair(pair, listed)
+        for race in listed.values():
+            race.is_possible = True
+            first, second = race.example
+            receipt = lock_that_tells(trace, events, first.event, second.event)
+            race.why = self._reason(receipt, first, second, hand_overs)
+        self._found.hidden = [race for race in in_order(listed) if race.may_meet]
+
+    def _reason(self, receipt: int | None, first: Row, second: Row, names: dict[int, str] | None = None) -> str:
+        lock = (names or self._locks).get(receipt) if receipt is not None else None
         if lock is None:
             return "ordered in this run only by locks"
         name = lock.partition(" ")[2]
-        if name.startswith(REQUEST):
+        if name.startswith((REQUEST, *NO_LOCKS)):
             return f"ordered in this run only by {name}"
         lacks = [lock not in touch.held for touch in (first, second)]
         who = "neither holds" if all(lacks) else "the first does not hold" if lacks[0] else "the second does not hold"

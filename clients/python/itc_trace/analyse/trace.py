@@ -2,7 +2,7 @@
 
 from __future__ import annotations
 
-from collections.abc import Callable, Iterable, Mapping
+from collections.abc import Callable, Iterable, Mapping, Set
 from functools import cached_property
 from types import MappingProxyType
 from typing import NamedTuple, Protocol
@@ -99,6 +99,8 @@ class Steps(NamedTuple):
     answers: set[int]
     looks: Mapping[int, Events] = MappingProxyType({})
     """What the task of an event knows by a look at what another one has left under a lock."""
+    polls: Set[int] = frozenset()
+    """Joins by a poll of the library. Whoever polls comes after the end, and what it starts does so by luck."""
 
 
 class Told(NamedTuple):
@@ -114,24 +116,33 @@ def told_by_signals(trace: Trace, steps: Steps) -> Told:
 
     A lock may have had its part before. If the last of many workers, by a count under a lock, sets an event, whoever
     waits for the event comes after all of them, and was meant to. A request tells of what whoever asks knows but by
-    answers.
+    answers. A start tells of what whoever starts knows but by polls.
     """
-    told, by_no_answer = [0], [0]
+    told, by_no_answer, by_no_poll = [0], [0], [0]
     for event in trace.events:
         source, known = trace.source(event), steps.looks.get(event.number, 0)
-        handed_on = known
+        handed_on = without_polls = known
         for one in event.follows:
             if source is None or one != source.number:
-                known |= told[one] | 1 << one
-                handed_on |= by_no_answer[one] | 1 << one
+                is_started = trace[one].task != event.task
+                met = by_no_poll[one] if is_started else told[one]
+                known |= met | 1 << one
+                handed_on |= (by_no_answer[one] & met) | 1 << one
+                without_polls |= by_no_poll[one] | 1 << one
             elif event.number in steps.answers:
                 known |= trace.before[one] | 1 << one
+                without_polls |= trace.before[one] | 1 << one
+            elif event.number in steps.polls:
+                known |= trace.before[one] | 1 << one
+                handed_on |= trace.before[one] | 1 << one
             elif event.number in steps.requests or event.number not in steps.locks:
                 met = (by_no_answer[one] if event.number in steps.requests else trace.before[one]) | 1 << one
                 known |= met
                 handed_on |= met
+                without_polls |= met
         told.append(known)
         by_no_answer.append(handed_on)
+        by_no_poll.append(without_polls)
     return Told(told, by_no_answer)
 
 

@@ -29,6 +29,7 @@ from ..own_path import leave_to_program
 from ..processes.hanging import Hanging
 from ..processes.part_collectors import SHARED, ask_for_port
 from ..sync.confirming import Confirming
+from ..sync.meeting import Meeting, Plan
 from ..sync.shaking import Shaking
 from ..sync.tracebacks import leave_out_of
 from ..record.tracer_parts import Parts
@@ -46,12 +47,15 @@ def main() -> None:
     seed = configuration.pop("seed")
     child = configuration.pop("child", None)
     asked = configuration.pop("asked", None)
-    cycles = configuration.pop("confirm", None)
+    cycles, plan = configuration.pop("confirm", None), configuration.pop("plan", None)
     words = sys.argv[2:]
     packages = configuration.pop("watched")
     asked_at, events = configuration.pop("parts", (None, None))
     parts = None if asked_at is None else _parts(asked_at, events)
     folders = [_folder_of(words)]
+    meeting = None if plan is None else Meeting(Plan(*plan))
+    if meeting is not None:
+        watch.have_meet(meeting)
     if packages is not None:
         watch.tell_missing(packages, folders[0])
         watch.watch_loaded(folders, packages)
@@ -67,6 +71,8 @@ def main() -> None:
         Hanging(asked, traced.write, None if cycles is None else _break_off).begin()
     if cycles is not None:
         Confirming(cycles).begin()
+    if meeting is not None:
+        meeting.begin()
     try:
         error = _error_of(_run_module if words[0] == "-m" else _run_file, words)
     except _NotRun as fault:

@@ -142,7 +142,7 @@ def _add_run(parser: Parser) -> None:
                         help=f"begin a new part of the trace after N events ({LEAVE.events})")
     confirming = parser.add_mutually_exclusive_group()
     confirming.add_argument("--confirm", action="store_true", default=None,
-                            help="try possible deadlocks in a further run, which a deadlock ends")
+                            help="try what is possible in further runs, which hold tasks until they meet")
     confirming.add_argument("--no-confirm", action="store_false", dest="confirm",
                             help="try none, also where the settings say so")
     _add_timeout(parser, "the program")

@@ -43,10 +43,13 @@ from ..report.race_rows import race_rows
 from ..report.report import Report, report_of
 from ..report.style import style_of
 from ..report.text import text
-from ..analyse.races import Races
+from .trying import plan_of
+from ..analyse.races import Race, Races
 from ..analyse.seeing import races_seen
 from ..session import Refused
 from ..analyse.snapshot import snapshot
+from ..sync.meeting import Plan
+from ..model.finding import runs_in_words
 from ..model.verdict import BREAKS_OFF, REMOVED, Cause, PassedOver, Unseen, Verdict
 from ..watch import excluding
 
@@ -55,6 +58,10 @@ itc_trace: nothing was touched, so there was no race to find
     Wrap what tasks share by itc_trace.shared(value, "name"), or call itc_trace.touch("name") where it is used.
     A number, a text or a tuple needs touch."""
 MOST_SEED = 1 << 32
+MOST_TRIES = 5
+"""So many further runs try what is possible."""
+SHAKEN_TRIES = (2, 4)
+"""Which of these are shaken, too. Others leave the order of tasks as it was before they meet."""
 
 
 @dataclass
@@ -88,9 +95,11 @@ class Run:
     baseline: str | None = None
     """Where the races that were found are written, to be known."""
     is_confirmed: bool = False
-    """Whether possible deadlocks are tried in a further run."""
+    """Whether possible deadlocks and races are tried in further runs."""
     cycles: list[list[tuple[str, str]]] | None = None
     """The steps of those that this run tries."""
+    plan: Plan | None = None
+    """Where this run is to have tasks meet."""
     timeout: float | None = None
     """After so many seconds it is told what the program waits for, and the program is ended."""
     status_file: str | None = None
@@ -208,19 +217,78 @@ def _run_once(asked: Run, seed: int | None) -> int:
 
 
 class _Tried(Protocol):
-    """What was found, of which deadlocks may be possible only."""
+    """What was found, of which deadlocks and races may be possible only."""
+
+    tries: int
 
     @property
     def tried(self) -> list[Deadlock]:
-        """Those that are possible only."""
+        """The deadlocks that are possible only."""
 
     def confirm(self, keys: Collection[object]) -> None:
         """Those of these keys have been."""
 
+    @property
+    def tried_races(self) -> list[Race]:
+        """The races that are possible only."""
+
+    def confirm_races(self, keys: Collection[object]) -> None:
+        """Those of these keys have been."""
+
+    def add_further(self, races: Iterable[Race]) -> None:
+        """A further run has had these, too."""
+
 
 def _confirm(asked: Run, found: _Tried) -> set[object]:
-    """Runs the program again if a deadlock is possible, and has each task wait before its inner lock. What came of it
-    is told. Gives the keys of those that it met.
+    """Tries all that is possible only, and tells what came of it. Gives the keys of what further runs met."""
+    return _confirm_deadlocks(asked, found) | _confirm_races(asked, found)
+
+
+def _further(asked: Run) -> Run:
+    """A further run, which keeps nothing."""
+    return replace(
+        asked, port=None, host=HOST, export=None, journal=None, picture=None, status_file=None, is_confirmed=False,
+        looking=Looking(asked.looking.strict), label="--confirm: ",
+    )
+
+
+def _confirm_races(asked: Run, found: _Tried) -> set[object]:
+    """Runs the program again as long as a race is possible only, and has tasks meet at the two lines of each. Gives the
+    keys of those that it had.
+    """
+    met: set[object] = set()
+    if found.tried_races and not is_asked_to_end() and not asked.quiet:
+        say(f"itc_trace: --confirm runs the program {MOST_TRIES} times at most, and holds tasks where they may race")
+    for number in range(MOST_TRIES):
+        left = found.tried_races
+        if not left or is_asked_to_end():
+            break
+        seed = random.SystemRandom().randrange(MOST_SEED) if number in SHAKEN_TRIES else None
+        looking = Looking(asked.looking.strict, asked.looking.patterns, asked.looking.baseline)
+        outcome = _outcome(replace(_further(asked), plan=plan_of(left, number), looking=looking), seed)
+        found.tries += 1
+        races = [] if outcome is None else outcome.races.races
+        keys = {race.key for race in races}
+        found.confirm_races(keys)
+        found.add_further(races)
+        met |= keys.intersection(race.key for race in left)
+    _tell_untold(asked, found)
+    return met
+
+
+def _tell_untold(asked: Run, found: _Tried) -> None:
+    """How many races that are told as possible were not met."""
+    left = [race for race in found.tried_races if race.is_possible]
+    for race in left:
+        race.try_in_vain(found.tries)
+    if left and not asked.quiet:
+        were = "was" if len(left) == 1 else "were"
+        say(f"itc_trace: --confirm: {len(left)} of the pairs of lines {were} not met in {runs_in_words(found.tries)}")
+
+
+def _confirm_deadlocks(asked: Run, found: _Tried) -> set[object]:
+    """Runs the program again if a deadlock is possible, and has each task wait before its inner lock. Gives the keys of
+    those that it met.
 
     A wait for a queue is not tried: nobody would see that it has closed.
     """
@@ -229,11 +297,7 @@ def _confirm(asked: Run, found: _Tried) -> set[object]:
         return set()
     if not asked.quiet:
         say("itc_trace: --confirm runs the program again, and holds its tasks before their inner locks")
-    tried = replace(
-        asked, port=None, host=HOST, export=None, journal=None, picture=None, status_file=None, cycles=cycles,
-        is_confirmed=False, looking=Looking(asked.looking.strict), label="--confirm: ",
-    )
-    outcome = _outcome(tried, None)
+    outcome = _outcome(replace(_further(asked), cycles=cycles), None)
     met: set[object] = set() if outcome is None else {deadlock.key for deadlock in outcome.races.deadlocks}
     found.confirm(met)
     count = len(found.tried)
@@ -279,12 +343,14 @@ def _run_each(asked: Run, files: contextlib.ExitStack) -> int:
     for number in range(1, asked.runs + 1):
         is_shaken = asked.seed is not None or asked.is_shaken and number > 1
         seed = (first_seed + number - 1) % MOST_SEED if is_shaken else None
-        outcome = _outcome(asked.of(number), seed, None if drawn is None else files)
+        tried = merged.tried_races if asked.is_shaken else []
+        one = replace(asked.of(number), plan=plan_of(tried, merged.tries) if tried else None)
+        outcome = _outcome(one, seed, None if drawn is None else files)
         if outcome is None:
             return WORDS_REFUSED
         if drawn is not None:
             drawn.append(outcome)
-        merged.add(outcome.races, outcome.status, seed)
+        merged.add(outcome.races, outcome.status, seed, bool(tried))
         if not asked.quiet:
             left = left_in_words(time.monotonic() - begun, number, asked.runs) if is_at_terminal(sys.stderr) else ""
             say(f"itc_trace: run {number} of {asked.runs}{_by_seed(seed)}: {outcome.races.found()}{left}")
@@ -297,10 +363,13 @@ def _run_each(asked: Run, files: contextlib.ExitStack) -> int:
 
 
 def _draw_confirmed(outcomes: Iterable[Outcome], met: set[object]) -> None:
-    """Draws the runs anew in which a deadlock of these keys was possible only."""
+    """Draws the runs anew in which a deadlock or a race of these keys was possible only."""
     for outcome in outcomes:
-        if any(deadlock.key in met for deadlock in outcome.races.possible_deadlocks):
-            outcome.races.confirm(met)
+        races = outcome.races
+        deadlocks = {one.key for one in races.possible_deadlocks}
+        if met & (deadlocks | {one.key for one in (*races.possible, *races.hidden)}):
+            races.confirm(met)
+            races.confirm_races(met)
             outcome.draw()
 
 
@@ -396,7 +465,7 @@ def _run_program(
         "port": _port(asked, collectors), "tenant": asked.tenant, "journal": os.path.abspath(journal),
         "process": asked.process, "host": asked.host,
         "watched": None if asked.watched is None else [*asked.watched, *map(excluding, asked.excluded)],
-        "told": told, "seed": seed, "asked": asked_by, "confirm": asked.cycles,
+        "told": told, "seed": seed, "asked": asked_by, "confirm": asked.cycles, "plan": asked.plan,
         "parts": (None if collectors is None or asked.process is not None else collectors.asked_at, asked.part_events),
     }
     words = [

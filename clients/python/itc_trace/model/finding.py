@@ -184,6 +184,11 @@ class Finding:
         return self.kind in (DEADLOCK, POSSIBLE_DEADLOCK)
 
     @property
+    def is_of_this_run(self) -> bool:
+        """Whether its events are those of the trace that is told of."""
+        return all(side.event for side in self.sides)
+
+    @property
     def known_as(self) -> Known:
         return Known(self.thing, tuple(sorted(side.known_as for side in self.sides)))
 
@@ -216,7 +221,8 @@ class Finding:
         names = " and ".join(dict.fromkeys(side.task for side in self.sides))
         if self.kind == DEADLOCK:
             return readable(f"{tasks} {names}: {self.why}; id {self.identity}")
-        return readable(f"{tasks} {names}: {self.why}; {times}, as {_events(self.sides)}; id {self.identity}")
+        events = f", as {_events(self.sides)}" if self.is_of_this_run else ""
+        return readable(f"{tasks} {names}: {self.why}; {times}{events}; id {self.identity}")
 
     @property
     def told_tests(self) -> str:

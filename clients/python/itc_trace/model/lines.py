@@ -54,6 +54,8 @@ CACHED = What("cached", "compute property", "read property")
 IMPORT = What("import", "import module", "module is imported")
 EXIT = What("exit", "register exit", "run at exit")
 WORKER = What("ready", "initialise worker", "run in worker")
+POLLED = "see the end of "
+"""So begins the label of a join by a task that only asks whether the other one is over."""
 OUTSIDE = What("out", "send to another process", "receive from another process")
 
 

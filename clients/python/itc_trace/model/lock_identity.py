@@ -17,7 +17,7 @@ _numbers: dict[tuple[str, int, int], itertools.count[int]] = {}
 _serials = itertools.count(1)
 
 QUEUE = "Queue"
-REQUEST, ANSWER = "the request at ", "an answer"
+REQUEST, ANSWER, POLL = "the request at ", "an answer", "is_alive at "
 """So begin the names of orders that are told of as locks, and are none."""
 
 
@@ -130,7 +130,7 @@ class LockIdentity:
 
 
 class Asking:
-    """The requests that a process makes at one place of its program, and answers itself, or such answers.
+    """The requests that a process makes at one place of its program, and answers itself, or such answers, or polls.
 
     Whoever answers comes after who asked, and the other way round. But what they so know of other answers is luck: the
     program happened to ask one after another. So it is told of as a lock is, which tasks happen to acquire one after
@@ -159,6 +159,11 @@ class Asking:
     @staticmethod
     def answer() -> Asking:
         return Asking(ANSWER, "answer", "answer", "take answer")
+
+    @staticmethod
+    def poll(place: str) -> Asking:
+        """Code of the library asks whether a thread is over, to forget it then."""
+        return Asking(f"{POLL}{place}", "end", "end", "see the end")
 
 
 LockOrAsking = LockIdentity | Asking

@@ -8,8 +8,8 @@ from collections.abc import Callable
 from sys import getrefcount
 from types import CodeType
 
-from ..model.lines import END, GONE, JOIN, RESULT, TAKE, TAKE_END, Line, Note, Reporter, Token
-from ..model.lock_identity import LockIdentity, LockOrAsking
+from ..model.lines import END, GONE, JOIN, POLLED, RESULT, TAKE, TAKE_END, Line, Note, Reporter, Token
+from ..model.lock_identity import Asking, LockIdentity, LockOrAsking
 from ..model.loop_runs import STOPS, LoopRun
 from ..model.verdict import Cause
 from .awaited import await_at_exit, take_awaited
@@ -250,7 +250,10 @@ class OrderOfTasks:
             self._reports.report(line, "end", "", None, 0, label)
             line.pending.clear()
 
-    def join(self, line: Line, child: Line, code: CodeType | None, instruction: int) -> None:
+    def join(
+        self, line: Line, child: Line, code: CodeType | None, instruction: int, poll: Asking | bool = False,
+    ) -> None:
+        """The line has joined the other one, or has seen by a poll that it is over."""
         self._is_waited_for(child)
         if child.is_process:
             child.has_ended, child.count = True, 1
@@ -259,11 +262,14 @@ class OrderOfTasks:
         if child.joined_by is not None and child.end_token is not None:
             self._come_after(line, child.end_token, code, instruction)
         else:
-            self._take_ended(line, child, code, instruction, f"join {child.name}")
+            label = f"{POLLED if poll else 'join '}{child.name}"
+            self._take_ended(line, child, code, instruction, label, poll if isinstance(poll, Asking) else None)
 
-    def _join_now(self, line: Line, child: Line, code: CodeType | None, instruction: int, label: str) -> None:
+    def _join_now(
+        self, line: Line, child: Line, code: CodeType | None, instruction: int, label: str, poll: Asking | None = None,
+    ) -> None:
         self.leave(line)
-        report = self._reports.report(line, "join", child.name, code, instruction, label)
+        report = self._reports.report(line, "join", child.name, code, instruction, label, poll)
         report.may_be_refused = child.is_process
         child.joined_by, child.joined_at = line, line.count
         self.nurseries.joined(line, child)
@@ -272,13 +278,15 @@ class OrderOfTasks:
         line.joined.append(child)
         line.known[child] = child.count
 
-    def _take_ended(self, line: Line, child: Line, code: CodeType | None, instruction: int, label: str) -> None:
+    def _take_ended(
+        self, line: Line, child: Line, code: CodeType | None, instruction: int, label: str, poll: Asking | None = None,
+    ) -> None:
         if child.is_forgotten:
             self._give_up(
                 Cause.FULL, f"{child.name} was waited for long after its end, when its part of the trace had been left",
             )
         elif child.joined_by is None:
-            self._join_now(line, child, code, instruction, label)
+            self._join_now(line, child, code, instruction, label, poll)
         else:
             self._take_late(line, child, code, instruction)
 

@@ -7,7 +7,7 @@ from dataclasses import dataclass, field, replace
 
 from ..analyse.benign import Looking
 from ..analyse.deadlocks import Deadlock
-from ..analyse.races import Race, Races, told_deadlocks, told_races
+from ..analyse.races import Race, Races, told_deadlocks, told_hidden, told_races
 from ..model.finding import Finding, Seen, runs_in_words
 from ..model.sources import Sources
 from ..model.verdict import Left, PassedOver, Unseen, Verdict, listed, verdict_of
@@ -28,7 +28,8 @@ class Often:
     runs: int = 0
 
     def finding(self, of: int) -> Finding:
-        return replace(self.example.finding(self.sources), seen=Seen(self.runs, of, self.first_run, self.seed))
+        seen = Seen(self.runs, of, self.first_run, self.seed) if self.runs else None
+        return replace(self.example.finding(self.sources), seen=seen)
 
 
 @dataclass
@@ -41,15 +42,23 @@ class Merged:
     unseen: list[Unseen] = field(default_factory=list)
     passed_over: list[PassedOver] = field(default_factory=list)
     left: list[Left] = field(default_factory=list)
+    tries: int = 0
+    """How many runs were to have what was possible in one before."""
     _races: dict[Key, Often] = field(default_factory=dict)
+    _hidden: dict[Key, Often] = field(default_factory=dict)
     _possible: dict[Key, Often] = field(default_factory=dict)
     _deadlocks: dict[Key, Often] = field(default_factory=dict)
     _possible_deadlocks: dict[Key, Often] = field(default_factory=dict)
     _meant: dict[Key, Often] = field(default_factory=dict)
     _known: dict[Key, Often] = field(default_factory=dict)
 
-    def add(self, races: Races, status: int, seed: int | None) -> None:
+    def add(self, races: Races, status: int, seed: int | None, is_directed: bool = False) -> None:
+        """Adds what a run found. One that is directed was to have the races that were possible in runs before."""
         self.runs += 1
+        self.tries += is_directed
+        for met in races.races if is_directed else ():
+            was_possible = met.key in self._possible or met.key in self._hidden
+            met.is_confirmed = was_possible and met.key not in self._races
         self.status = self.status or status
         self.passed_over += races.passed_over
         self.left += races.left
@@ -57,7 +66,7 @@ class Merged:
         lists: tuple[tuple[Sequence[Race | Deadlock], dict[Key, Often]], ...] = (
             (races.races, self._races), (races.possible, self._possible), (races.deadlocks, self._deadlocks),
             (races.possible_deadlocks, self._possible_deadlocks), (races.meant, self._meant),
-            (races.known, self._known),
+            (races.known, self._known), (races.hidden, self._hidden),
         )
         for found, known in lists:
             for key, race in {race.key: race for race in found}.items():
@@ -69,8 +78,31 @@ class Merged:
         return {key: often for key, often in self._possible.items() if key not in self._races}
 
     @property
-    def has_possible(self) -> bool:
-        return bool(self._only_possible)
+    def _only_hidden(self) -> dict[Key, Often]:
+        """What was neither a race nor possible in any run."""
+        return {
+            key: often for key, often in self._hidden.items() if key not in self._races and key not in self._possible
+        }
+
+    @property
+    def tried_races(self) -> list[Race]:
+        """The races that a further run may have, those that are told first."""
+        examples = [often.example for often in (*self._only_possible.values(), *self._only_hidden.values())]
+        return [one for one in examples if isinstance(one, Race) and one.may_meet]
+
+    def add_further(self, races: Iterable[Race]) -> None:
+        """Adds what a further run has had beside what it was to have."""
+        tables = (self._races, self._possible, self._hidden, self._meant, self._known)
+        for race in races:
+            if not any(race.key in table for table in tables):
+                self._races[race.key] = Often(race.of_further_run(), Sources(), 0, None)
+
+    def confirm_races(self, keys: Collection[object]) -> None:
+        """A further run has had the races of these keys."""
+        for race in self.tried_races:
+            if race.key in keys:
+                race.confirm()
+                self._races[race.key] = self._possible.get(race.key) or self._hidden[race.key]
 
     @property
     def _only_possible_deadlocks(self) -> dict[Key, Often]:
@@ -126,5 +158,6 @@ class Merged:
         deadlocks = told_deadlocks(len(self._deadlocks), len(self._only_possible_deadlocks))
         silenced = f"; {len(self._meant)} silenced" if self._meant else ""
         known = f"; {len(self._known)} in the baseline" if self._known else ""
-        told = f"{possible}{deadlocks}{silenced}{known}{listed(self.passed_over)}"
+        hidden = told_hidden(len(self._only_hidden), self.tries)
+        told = f"{possible}{deadlocks}{silenced}{known}{hidden}{listed(self.passed_over)}"
         return f"{found} in {seen}{runs_in_words(self.runs)}{told}"

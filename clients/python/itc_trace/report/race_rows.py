@@ -13,13 +13,14 @@ from .report import Report
 def race_rows(report: Report) -> str:
     """A line that says how many races there are, how many are left out and what was not seen, and then one for each,
     those that are possible behind the others."""
-    possible = sum(finding.is_possible for finding in report.findings)
+    findings = [finding for finding in report.findings if finding.is_of_this_run]
+    possible = sum(finding.is_possible for finding in findings)
     left_out = {"known": len(report.known), "silenced": len(report.silenced)}
     head = {
-        "races": len(report.findings) - possible, "possible": possible, "unseen": [one.text for one in report.unseen],
+        "races": len(findings) - possible, "possible": possible, "unseen": [one.text for one in report.unseen],
         **{what: count for what, count in left_out.items() if count},
     }
-    rows = [head, *map(_told, report.findings)]
+    rows = [head, *map(_told, findings)]
     return "".join(f"{json.dumps(row, separators=(',', ':'))}\n" for row in rows)
 
 

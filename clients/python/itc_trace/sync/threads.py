@@ -3,15 +3,17 @@
 from __future__ import annotations
 
 import _thread
+import sys
 import threading
 from collections import deque
-from types import FunctionType
+from types import FrameType, FunctionType
 from typing import Any
 
 from .handed_on import called, handed_at
 from ..model.lines import BARRIER, EVENT, FINISH, JOIN, NOTIFY, SEMAPHORE, SPAWN, Line, state
 from ..record.noting import are_replaced, enter, joining, local, mark, starting, take, thread_name
-from ..model.frames import frame_at, is_internal, place
+from ..model.frames import frame_at, is_internal, line_of, place
+from ..model.lock_identity import Asking
 from .base import Patches, like
 from .left_behind import ended, started
 from ..record.awaited import await_at_exit
@@ -190,19 +192,36 @@ def _is_alive(original: Any) -> Any:
         alive = bool(original(self))
         line = self.__dict__.get("_itc_line")
         if not alive and line is not None and not is_internal(frame_at(1)):
-            _note_join(self, line)
+            _note_join(self, line, _poll_of(frame_at(1)))
         return alive
 
     return is_alive
 
 
-def _note_join(thread: threading.Thread, line: Line) -> None:
+_polls: dict[str, Asking] = {}
+"""Of each place of the library that asks whether threads are over."""
+
+
+def _poll_of(frame: FrameType | None) -> Asking | bool:
+    """What a poll is known by that the library makes for itself. `socketserver` forgets threads that are over.
+
+    One of the program is no more than a poll.
+    """
+    module = "" if frame is None else str(frame.f_globals.get("__name__", "")).partition(".")[0]
+    if frame is None or module not in sys.stdlib_module_names:
+        return True
+    code, instruction = place(frame)
+    where = f"{module}.py:{line_of(code, instruction)}" if code is not None else module
+    return _polls.setdefault(where, Asking.poll(where))
+
+
+def _note_join(thread: threading.Thread, line: Line, poll: Asking | bool = False) -> None:
     note = state.note
     if note is None or line.tracer is not state.tracer:
         return
     if thread.__dict__.pop("_itc_is_adopted", False):
         note((FINISH, line, True, False))  # It began before tracing did, so nobody noted its end.
-    note((JOIN, joining(line), line, *place(frame_at(2))))
+    note((JOIN, joining(line), line, *place(frame_at(2)), poll))
 
 
 def _start_plain(original: Any) -> Any:

@@ -15,8 +15,10 @@ from typing import Any
 from ..model.lines import Line, state
 from ..model.frames import INTERNAL
 from ..model.verdict import PassedOver, Unseen
+from ..model.stretches import SITES
 from ..sync.base import like
-from . import handed, hooks, leaving, named, passed_over, things
+from ..sync.meeting import Meeting, Touching
+from . import handed, held_lines, hooks, leaving, named, passed_over, things
 from .commands import own_program
 from .finder import UNWATCHED, Finder, Selection, excluding, look_around, with_hooks
 from .loaded import Prepare, folder_of_main, rewrite_loaded
@@ -24,8 +26,8 @@ from .named import tell_missing
 from .unwatched import files_without_hooks, touches_lost
 
 __all__ = [
-    "Prepare", "begin", "code_of", "end", "excluding", "program_of", "selection", "tell_missing", "unwatched", "watch",
-    "watch_loaded", "watch_main", "watch_path_runs",
+    "Prepare", "begin", "code_of", "end", "excluding", "have_meet", "program_of", "selection", "tell_missing",
+    "unwatched", "watch", "watch_loaded", "watch_main", "watch_path_runs",
 ]
 
 MAIN_OF_CHILD = "__mp_main__"
@@ -36,6 +38,21 @@ handed.begin()
 _finder: Finder | None = None
 _plain_line_begin: Any = None
 _plain_spec = importlib.util.spec_from_file_location
+
+
+def have_meet(meeting: Meeting) -> None:
+    """Has tasks held where they may race. It is called before anything is watched."""
+    places: dict[int, str] = {}
+
+    def arrive(site: int, one: object, key: object) -> None:
+        place = places.get(site)
+        if place is None:
+            file, line, _ = SITES[site]
+            place = places[site] = f"{file}:{line}"
+        meeting.arrive(place, Touching(None if one is None else id(one), key))
+
+    held_lines.choose(meeting.places)
+    hooks.hold_at(arrive)
 
 
 def watch(folders: Sequence[str], packages: Sequence[str] = ()) -> None:

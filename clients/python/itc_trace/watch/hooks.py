@@ -10,6 +10,7 @@ import builtins
 import functools
 import gc
 import importlib.util
+import inspect
 import itertools
 import logging
 import os
@@ -25,7 +26,7 @@ from collections.abc import Callable, Iterable, Iterator
 from functools import partial
 from operator import itemgetter
 from sys import _getframe, getrefcount
-from typing import Any
+from typing import Any, NamedTuple
 
 from ..model.conflicts import ADDITION, ITERATION, KEYS, LENGTH, REMOVAL, REPLACEMENT, REWRITE, STEP, WRITE
 from ..sync.handed_on import HANDED, Calling, Place, called, is_of_container
@@ -45,6 +46,7 @@ from .decisions import (
     without_own,
 )
 from .as_fields import FIELDS_OF, keep_fields_of, object_of
+from .held_lines import PREFIX_OF_HELD
 from .helper import quick
 from .inside import OWN_STEPS, behind, fields_looked_at, inside_of, is_by_own_method, nested_in
 from .learned import STORED_FIELDS
@@ -1493,6 +1495,44 @@ if quick is not None:
 AT_THE_END = {**QUIET, "after_making": QUIET["before_attribute"], "at_constructor": QUIET["at_variable"]}
 """Hooks that need nothing of any module, where all modules are about to go."""
 QUIET.update({name: HOOKS[name] for name in ALWAYS})
+
+
+BY_FRAME = frozenset(("after_import", "before_match", "before_match_local", "at_constructor"))
+"""Hooks that look at the frame that has called them."""
+
+
+def hold_at(arrive: Callable[[int, Any, Any], None]) -> None:
+    """Has the hooks of chosen lines tell this first of their place, and of the object and the key, if they have one."""
+    for name, one in list(HOOKS.items()):
+        words = list(inspect.signature(globals()[f"hook_{name}"]).parameters)
+        if "site" in words and name not in BY_FRAME:
+            at = _Words(*[words.index(word) if word in words else -1 for word in _Words._fields])
+            HOOKS[PREFIX_OF_HELD + name] = _holding(one, at, arrive)
+            for table in (QUIET, AT_THE_END):
+                table[PREFIX_OF_HELD + name] = table[name]
+        else:
+            for table in (HOOKS, QUIET, AT_THE_END):
+                table[PREFIX_OF_HELD + name] = table[name]
+
+
+class _Words(NamedTuple):
+    """Which words of a hook these are. -1 stands for none."""
+
+    site: int
+    one: int
+    key: int
+
+
+def _holding(hook: Callable[..., Any], at: _Words, arrive: Callable[[int, Any, Any], None]) -> Callable[..., Any]:
+    def holding(*words: Any) -> Any:
+        try:
+            owner, key = (None if place < 0 else words[place] for place in (at.one, at.key))
+            arrive(words[at.site], owner, key)
+        except Exception as fault:
+            lost(fault)
+        return hook(*words)
+
+    return holding
 
 
 def are_put() -> bool:

@@ -11,6 +11,7 @@ from types import CodeType
 from typing import Any
 
 from .depth import at_any_depth
+from .held_lines import has_lines
 from .kept import Kept
 from .learned import STORED_ELSEWHERE, STORED_FIELDS, Asked, Found, Learned
 from .patterns import packed, unpacked
@@ -23,6 +24,8 @@ Row = tuple[Any, ...]
 
 def kept_code(source: bytes, file: str, module: str, is_watched: Callable[[str], bool]) -> CodeType | None:
     """What another run has kept of the module, with its places known from here on. None if that does not fit."""
+    if has_lines(file):
+        return None
     with _without_collector():
         made = Kept(file, MODULE, source, module).found(lambda made: _is_answered(made[0], made[1], is_watched))
         return None if made is None else placed(made[2], _found_of(made[1]), file, module)
@@ -35,7 +38,8 @@ def new_code(source: bytes, file: str, module: str, is_watched: Callable[[str], 
         warnings.simplefilter("ignore")
         code = at_any_depth(lambda: written(source, file, module, learned))
     found = learned.found()
-    Kept(file, MODULE, source, module).keep((_row_of_asked(learned.asked), _row_of_found(found), code))
+    if not has_lines(file):
+        Kept(file, MODULE, source, module).keep((_row_of_asked(learned.asked), _row_of_found(found), code))
     return placed(code, found, file, module)
 
 

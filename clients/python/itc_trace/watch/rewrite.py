@@ -13,7 +13,7 @@ from types import CodeType
 from typing import Any
 
 from ..model.conflicts import ADDITION, ITERATION, KEYS, LENGTH, REWRITE
-from . import on_stack, passed_over
+from . import held_lines, on_stack, passed_over
 from .kinds import (
     CHANGED_ARGUMENT, COMPARED, CONSUMING, CONTENT, DEPTHS_OF_METHODS, EACH, IN_PLACE_FUNCTIONS, IN_PLACE_METHODS,
     KEYED, LATE_METHODS, METHODS, ORDERED, READERS, SHOWING, SHOWN, STATE, STEPPERS, STEPPING, TRUTH, WRITTEN, depth_of,
@@ -123,7 +123,10 @@ def written(
     if prepare is not None:
         prepare(tree, source if isinstance(source, bytes) else source.encode(), file)
         with_ends(tree)
-    return on_stack.with_copies(compiled(Rewriter(Scopes(tree, learned), file).module(tree), file))
+    made = Rewriter(Scopes(tree, learned), file).module(tree)
+    if held_lines.has_lines(file):
+        held_lines.rename_hooks(made, file, PREFIX)
+    return on_stack.with_copies(compiled(made, file))
 
 
 def _is_new(value: Any) -> bool:
