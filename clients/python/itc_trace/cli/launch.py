@@ -53,7 +53,7 @@ def main() -> None:
     asked_at, events = configuration.pop("parts", (None, None))
     parts = None if asked_at is None else _parts(asked_at, events)
     folders = [_folder_of(words)]
-    meeting = None if plan is None else Meeting(Plan(*plan))
+    meeting = None if plan is None else Meeting(Plan(*json.loads(Path(plan).read_text(encoding="ascii"))))
     if meeting is not None:
         watch.have_meet(meeting)
     if packages is not None:

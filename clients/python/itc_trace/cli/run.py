@@ -43,7 +43,7 @@ from ..report.race_rows import race_rows
 from ..report.report import Report, report_of
 from ..report.style import style_of
 from ..report.text import text
-from .trying import plan_of
+from .trying import MOST_PAIRS, plan_of
 from ..analyse.races import Race, Races
 from ..analyse.seeing import races_seen
 from ..session import Refused
@@ -259,8 +259,11 @@ def _confirm_races(asked: Run, found: _Tried) -> set[object]:
     met: set[object] = set()
     if found.tried_races and not is_asked_to_end() and not asked.quiet:
         say(f"itc_trace: --confirm runs the program {MOST_TRIES} times at most, and holds tasks where they may race")
+    more = len(found.tried_races) - MOST_PAIRS
+    if more > 0 and not asked.quiet:
+        say(f"itc_trace: --confirm: {more} further pairs of lines are not tried: {MOST_PAIRS} is the most")
     for number in range(MOST_TRIES):
-        left = found.tried_races
+        left = found.tried_races[:MOST_PAIRS]
         if not left or is_asked_to_end():
             break
         seed = random.SystemRandom().randrange(MOST_SEED) if number in SHAKEN_TRIES else None
@@ -278,7 +281,7 @@ def _confirm_races(asked: Run, found: _Tried) -> set[object]:
 
 def _tell_untold(asked: Run, found: _Tried) -> None:
     """How many races that are told as possible were not met."""
-    left = [race for race in found.tried_races if race.is_possible]
+    left = found.tried_races[:MOST_PAIRS]
     for race in left:
         race.try_in_vain(found.tries)
     if left and not asked.quiet:
@@ -465,13 +468,22 @@ def _run_program(
         "port": _port(asked, collectors), "tenant": asked.tenant, "journal": os.path.abspath(journal),
         "process": asked.process, "host": asked.host,
         "watched": None if asked.watched is None else [*asked.watched, *map(excluding, asked.excluded)],
-        "told": told, "seed": seed, "asked": asked_by, "confirm": asked.cycles, "plan": asked.plan,
+        "told": told, "seed": seed, "asked": asked_by, "confirm": asked.cycles, "plan": _kept_plan(asked.plan, told),
         "parts": (None if collectors is None or asked.process is not None else collectors.asked_at, asked.part_events),
     }
     words = [
         sys.executable, *options_of_interpreter(), "-m", "itc_trace.cli.launch", json.dumps(configuration), *asked.words
     ]
     return Child(words, environment_of_package(), told, asked_by, asked.timeout)
+
+
+def _kept_plan(plan: Plan | None, told: str) -> str | None:
+    """The file that has the plan, which may be too long for a word of a command."""
+    if plan is None:
+        return None
+    file = f"{told}.plan"
+    Path(file).write_text(json.dumps(plan), encoding="ascii")
+    return file
 
 
 def options_of_interpreter() -> list[str]:
