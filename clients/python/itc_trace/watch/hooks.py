@@ -67,11 +67,12 @@ from .late import shape as shape_late
 from .matching import Matching, Touching
 from .passed_over import handed_on, keep_site
 from .places import ACCESSES, CASES, LOOPS, MADE_HERE, OF_BASE, SKIPPED, STATE_OF_PROCESS, Access
-from .rewrite import OF_OBJECT, ON, PREFIX
+from .rewrite import FINALIZER, OF_OBJECT, ON, PREFIX
 from .seen import NEVER
 from .templates import Path, field_paths
 from .things import (
-    MADE, NO_MODULE, OWNERS, Made, Owner, let_go_of_some, made_by, made_here, maker_now, mark_of, owner_of, variable_of,
+    MADE, NO_MODULE, OWNERS, Made, Owner, let_go_of, let_go_of_some, made_by, made_here, maker_now, mark_of,
+    measure_finalizers, owner_of, variable_of,
 )
 
 INDEXED: tuple[Any, ...] = (list, bytearray, array, deque)
@@ -1318,6 +1319,16 @@ def hook_at_constructor(one: Any, constructor: int) -> None:
         lost(fault)
 
 
+def hook_at_finalizer(one: Any) -> None:
+    """At the begin of a finalizer. If the language has called it, all others have let go of the object."""
+    try:
+        caller = _getframe(1).f_back
+        if caller is None or FINALIZER not in caller.f_code.co_names:  # Else it is called by its name.
+            let_go_of(one, getrefcount(one))
+    except Exception as fault:
+        lost(fault)
+
+
 def hook_after_letting_go() -> None:
     """Behind where something is let go of."""
     let_go_of_some(LOOKED_THROUGH_AT_ONCE)
@@ -1492,6 +1503,7 @@ if quick is not None:
     QUIET.update({name: quick.second for name, one in QUIET.items() if one is _second})
     QUIET.update({name: quick.nothing for name, one in QUIET.items() if one is _nothing})
     HOOKS.update({name: quick.Hook(one) for name, one in HOOKS.items() if type(one) is types.FunctionType})
+measure_finalizers(HOOKS["at_finalizer"])
 AT_THE_END = {**QUIET, "after_making": QUIET["before_attribute"], "at_constructor": QUIET["at_variable"]}
 """Hooks that need nothing of any module, where all modules are about to go."""
 QUIET.update({name: HOOKS[name] for name in ALWAYS})

@@ -33,7 +33,7 @@ from .templates import field_paths
 
 PREFIX = "_itc_"
 READ = "r"
-CONSTRUCTOR = "__init__"
+CONSTRUCTOR, FINALIZER = "__init__", "__del__"
 ON = PREFIX + "on"
 
 WHOLE_OBJECTS = frozenset(("vars", "__dict__", "asdict"))
@@ -598,6 +598,8 @@ class Rewriter:
         self._in_scope(node, work)
         if is_constructor and first is not None:
             self._note_making(node, first.arg, node.scope.constructor)
+        if node.name == FINALIZER and self._scope.kind == CLASS and first is not None:
+            self._note_letting_go(node, first.arg)
         return [node, *self._stored([node.name], node)]
 
     _do_AsyncFunctionDef = _do_FunctionDef
@@ -608,6 +610,13 @@ class Rewriter:
         at = node.body[min(place, len(node.body) - 1)]
         call = self._hook("at_constructor", at, name_at(at, name), constructor)
         node.body.insert(place, as_statement(call, at))
+
+    def _note_letting_go(self, node: ast.FunctionDef, name: str) -> None:
+        """Has a finalizer tell that nobody else has the object."""
+        place = 1 if ast.get_docstring(node, clean=False) is not None else 0
+        at = node.body[min(place, len(node.body) - 1)]
+        call = as_statement(self._hook("at_finalizer", at, name_at(at, name)), at)
+        node.body[place:place] = self._only_on([call], at)
 
     def _visit_defaults(self, arguments: ast.arguments) -> None:
         arguments.defaults = [self._guarded(one) for one in arguments.defaults]

@@ -9,7 +9,8 @@ from __future__ import annotations
 import os
 import re
 import weakref
-from builtins import id, len, min, next, repr, type
+from _thread import get_ident
+from builtins import id, len, list, min, next, repr, type
 from collections import deque
 from collections.abc import Callable
 from hashlib import blake2b
@@ -23,7 +24,7 @@ from ..model.lines import Line, Touched, state
 from ..record.noting import line_of_now
 from ..model.stretches import SITES
 from .both_languages import LOOKED_THROUGH, MOST_HELD, MOST_MADE
-from .decisions import name_of
+from .decisions import fields_of, name_of
 from .helper import quick
 from .keys import UNKNOWN
 from .places import ACCESSES
@@ -233,14 +234,62 @@ def let_go_of_some(most: int) -> None:
         KEPT.pop(key, None)
 
 
+CONTAINERS = frozenset((list, dict, set, bytearray, deque))
+_collecting: set[int] = set()
+"""The threads that collect garbage now."""
+
+
 def collecting(phase: str, found: dict[str, int]) -> None:
     """What nobody else holds goes when the garbage is collected, and all of it where all garbage is."""
-    if phase == "start":
+    if phase == "stop":
+        _collecting.discard(get_ident())
+    elif phase == "start":
+        _collecting.add(get_ident())
         let_go_of_some(MOST_HELD if found["generation"] == OLDEST else LOOKED_THROUGH)
 
 
 OLDEST = 2
 """The last generation of the collector of garbage."""
+
+
+_finalized: list[int] = []
+"""How many references a hook sees of an object that only its finalizer has."""
+
+
+def measure_finalizers(hook: Callable[[Any], None]) -> None:
+    """Has the hook called by a finalizer."""
+
+    class Finalized:
+        def __del__(self) -> None:
+            hook(self)
+
+    Finalized()
+
+
+def let_go_of(one: Any, references: int) -> None:
+    """Its finalizer has begun. If nobody else has the object, what is touched from here on is another thing.
+
+    So is a container that stands in a field alone. Garbage may refer to itself, and nobody else does.
+    """
+    if not _finalized:
+        _finalized.append(references)
+        return
+    if references > _finalized[0] and get_ident() not in _collecting:
+        return
+    _forget(id(one))
+    fields = fields_of(one)
+    for name in list(fields):
+        key = id(fields[name])
+        if type(fields[name]) in CONTAINERS and getrefcount(fields[name]) == REFERENCES_OF_HELD + (key in KEPT):
+            _forget(key)
+
+
+def _forget(key: int) -> None:
+    """Nobody else reaches the object. If it was held for its identity, it is held no more."""
+    owner = OWNERS.pop(key, None)
+    if owner is not None:
+        owner.leave()
+    KEPT.pop(key, None)
 
 
 def _references_of_held() -> int:
