@@ -1,2 +1,2 @@
+pub mod Chains
 pub mod Messages
-pub mod Receipts

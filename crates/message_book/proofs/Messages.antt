@@ -1,185 +1,205 @@
--- What the map and the refusals say of the messages.
-use Rattle.std.proofs.Common.{◌≡◌, ℕ, ◌-◌, ◌<◌, if◌then◌else◌, Bool, true, false, cond, [], ◌∷◌, ◌++◌, length, take, Option, Some, None, IsSome, option_map, option_to_list, is_some, refl, sym, ap, ◌∙◌, inl, inr, unwrap_or, Result, Ok, Err, IsOk, IfErr, OnOk, OnErr, arith}
+-- What the table of messages and the refusals say of the book.
+use Rattle.std.proofs.Common.{◌≡◌, ℕ, zero, suc, ◌-◌, ◌<◌, if◌then◌else◌, Bool, true, false, cond, List, [], ◌∷◌, ◌++◌, length, map, take, slice_get, Option, Some, None, IsSome, option_map, option_to_list, is_some, refl, sym, ap, ◌∙◌, inl, inr, unwrap_or, Result, Ok, Err, arith}
 use Rattle.std.proofs.lemmas.Bool.Decides.{nat_tests}
 use Rattle.std.proofs.Math.Seq.{take-append_seam}
 use Rattle.std.proofs.lemmas.Bool.{false≢true, cases_Bool}
-use Rattle.std.proofs.lemmas.List.{length-append}
-use Rattle.std.specs.Map.{lookup, set_value}
+use Rattle.std.proofs.lemmas.List.{length-append, length-map, map-append}
+use Rattle.std.proofs.lemmas.Option.{same_Some}
+use Rattle.std.specs.List.{AllByRecursion, IsDistinct}
+use Rattle.std.specs.Map.{lookup}
 use Rattle.std.specs.Result.{result_err}
+use Rattle.indexmap.specs.IndexMap.{set_value_at}
 use Rattle.trace_types.specs.text.Name.{Text, is_same}
+use Rattle.trace_types.proofs.Names.{is_same_iff, is_same-itself}
 use Rattle.trace_types.specs.declared.code.Code.{Code}
 use Rattle.trace_types.specs.declared.code.Code.TheVariants.{NoMessage, AlreadyReceived, NoMemory}
-use Rattle.message_book.specs.Book.{Book, Messages, Sent, entry_of, has_receipt, has_receipt_by, entry_with_receipt, entry_without_last_receipt, with_changed, with_message, with_receipt, without_last, without_last_receipt, LastIsUnreceived, refusal_of_send, refusal_of_receive}
-use Rattle.message_book.proofs.Receipts.{take-more}
+use Rattle.message_book.specs.Book.{Book, Messages, Sent, entry_of, has_receipt, has_receipt_by, entry_with_receipt, with_changed, with_message, with_receipt, without_last, LastIsUnreceived, refusal_of_send, refusal_of_receive}
+use Rattle.message_book.specs.Chains.{receipts_in, seen_in, sent_in}
+use Rattle.message_book.specs.Receiving.{IsAt, Receives}
+use Rattle.message_book.specs.declared.message.Later.{Later}
+use Rattle.message_book.specs.declared.message.Message.{Message}
+use Rattle.message_book.specs.declared.message.Received.{Received}
+use Rattle.message_book.proofs.Chains.{slice_get-seam}
 
--- the look-up in a map is the search in the list
-pub lookup_is_entry_of : (messages : Messages) (name : Text) → lookup (is_same name) messages ≡ entry_of messages name
-lookup_is_entry_of [] name = refl
-lookup_is_entry_of (message ∷ later) name = ap (cond (is_same name message.0) (Some message.1)) (lookup_is_entry_of later name)
-
-same_entry : {found entry : Sent} → Some found ≡ Some entry → found ≡ entry
-same_entry {found} {entry} is = ap (λ (o : Option Sent). unwrap_or o entry) is
-
--- the entry changed, written under its name, is the change of the messages
-pub set_value_is_with_changed : (change : Sent → Sent) (messages : Messages) (name : Text) (entry : Sent) → entry_of messages name ≡ Some entry
-    → set_value (is_same name) messages (change entry) ≡ with_changed change name messages
-set_value_is_with_changed change [] name entry found = refl
-set_value_is_with_changed change (message ∷ later) name entry found =
-    by (is_same name message.0) found (set_value_is_with_changed change later name entry)
+-- which of two texts is named first makes no difference
+pub is_same-other_way : (a b : Text) → is_same a b ≡ is_same b a
+is_same-other_way a b = by (is_same a b) refl (is_same b a) refl
   where
-    by : (same : Bool) → cond same (Some message.1) (entry_of later name) ≡ Some entry
-        → (entry_of later name ≡ Some entry → set_value (is_same name) later (change entry) ≡ with_changed change name later)
-        → cond same ((message.0, change entry) ∷ later) (message ∷ set_value (is_same name) later (change entry))
-        ≡ cond same ((message.0, change message.1) ∷ later) (message ∷ with_changed change name later)
-    by true found rest = ap (λ known. (message.0, change known) ∷ later) (sym (same_entry found))
-    by false found rest = ap (λ messages. message ∷ messages) (rest found)
-
--- what is found through a map whose entries are the book's messages
-pub found_in : (limit : ℕ) (messages : Messages) (book : Book) → record { limit = limit; messages = messages } ≡ book → (name : Text)
-    → lookup (is_same name) messages ≡ entry_of book.messages name
-found_in limit messages book is name = lookup_is_entry_of messages name ∙ ap (λ (b : Book). entry_of b.messages name) is
+    by : (one : Bool) → is_same a b ≡ one → (other : Bool) → is_same b a ≡ other → one ≡ other
+    by true is true back = refl
+    by false is false back = refl
+    by true is false back = absurd (false≢true (sym back ∙ (is_same_iff b a).1 (sym ((is_same_iff a b).0 is))))
+    by false is true back = absurd (false≢true (sym is ∙ (is_same_iff a b).1 (sym ((is_same_iff b a).0 back))))
 
 -- if there is no first code, the first test fails, and the others have none
 pub no_first_code : (test : Bool) (code : Code) (others : Option Code) → (if test then Some code else others) ≡ None → (test ≡ false) × (others ≡ None)
 no_first_code true code others none = cc
 no_first_code false code others none = (refl, none)
 
--- a message that can be sent is not there yet
-pub not_there_yet : (book : Book) (name : Text) → refusal_of_send book name ≡ None → entry_of book.messages name ≡ None
-not_there_yet book name none = by (entry_of book.messages name) (no_first_code _ _ _ none).0
-  where
-    by : (found : Option Sent) → is_some found ≡ false → found ≡ None
-    by None absent = refl
-    by (Some entry) absent = cc
-
--- a message that can be received is not absent
-pub is_not_absent : (book : Book) (name task : Text) → refusal_of_receive book name task ≡ None → entry_of book.messages name ≡ None → ⊥
-is_not_absent book name task none absent = cc
-
--- a message that the task can receive has no receipt by it
-pub no_receipt_by_yet : (book : Book) (name task : Text) → refusal_of_receive book name task ≡ None → has_receipt_by task (entry_of book.messages name) ≡ false
-no_receipt_by_yet book name task none = (no_first_code _ _ _ (no_first_code _ _ _ none).1).0
-
--- a message with a receipt is not absent
-pub received_is_not_absent : (messages : Messages) (name : Text) → has_receipt (entry_of messages name) ≡ true → entry_of messages name ≡ None → ⊥
-received_is_not_absent messages name received absent = false≢true (ap has_receipt (sym absent) ∙ received)
-
--- what is left where the last message is taken away
-pub left_without_last : (all left : Messages) (last : Option (Text × Sent)) → (0 < length all → IsSome last) → LastIsUnreceived all → all ≡ left ++ option_to_list last
-    → without_last all ≡ left
-left_without_last all left None found unreceived is =
-    absurd (false≢true (found (omega (arith, ap length unreceived.2, length-append (without_last all) ((unreceived.0, record { sent = unreceived.1; receipts = [] }) ∷ [])))))
-left_without_last all left (Some message) found unreceived is =
-    let seam : length all - 1 ≡ length left = omega (arith, ap length is, length-append left (message ∷ [])) in
-    (λ i. take (seam i) (is i)) ∙ take-append_seam left (message ∷ [])
-
--- the messages as they were before the last one was sent
-pub without_last-more : (name : Text) (event : ℕ) (messages : Messages) → without_last (with_message name event messages) ≡ messages
-without_last-more name event messages = take-more messages (name, record { sent = event; receipts = [] })
-
--- a message that was just sent is the last one, and has no receipts
-pub sent_is_unreceived : (name : Text) (event : ℕ) (before after : Book) → after ≡ record before { messages = with_message name event before.messages }
-    → LastIsUnreceived after.messages
-sent_is_unreceived name event before after is =
-    let same = ap (λ (book : Book). book.messages) is in
-    (name, event, same ∙ ap (with_message name event) (sym (ap without_last same ∙ without_last-more name event before.messages)))
-
--- what the book has of a message that is changed
-pub entry_of-changed : (change : Sent → Sent) (messages : Messages) (name : Text) → entry_of (with_changed change name messages) name ≡ option_map change (entry_of messages name)
-entry_of-changed change [] name = refl
-entry_of-changed change (message ∷ later) name = elim (cases_Bool (is_same name message.0)) [
-  | inl same ↦ rw same (rw same refl)
-  | inr other ↦ rw other (rw other (entry_of-changed change later name))
-]
-
--- messages of which one is changed to what it was are the same
-pub with_changed-same : (change : Sent → Sent) (messages : Messages) (name : Text) → ((entry : Sent) → change entry ≡ entry) → with_changed change name messages ≡ messages
-with_changed-same change [] name same = refl
-with_changed-same change (message ∷ later) name same = elim (cases_Bool (is_same name message.0)) [
-  | inl is ↦ rw is (ap (λ entry. (message.0, entry) ∷ later) (same message.1))
-  | inr other ↦ rw other (ap (λ messages. message ∷ messages) (with_changed-same change later name same))
-]
-
--- a second change of a message changes what the first one made
-pub with_changed-twice : (first second : Sent → Sent) (messages : Messages) (name : Text)
-    → with_changed second name (with_changed first name messages) ≡ with_changed (λ entry. second (first entry)) name messages
-with_changed-twice first second [] name = refl
-with_changed-twice first second (message ∷ later) name = elim (cases_Bool (is_same name message.0)) [
-  | inl is ↦ rw is (rw is refl)
-  | inr other ↦ rw other (rw other (ap (λ messages. message ∷ messages) (with_changed-twice first second later name)))
-]
-
--- a message that was just received has a receipt
-pub received_has_receipt : (name task : Text) (event : ℕ) (before after : Book) → refusal_of_receive before name task ≡ None
-    → after ≡ record before { messages = with_receipt name task event before.messages } → has_receipt (entry_of after.messages name) ≡ true
-received_has_receipt name task event before after none is =
-    ap (λ (book : Book). has_receipt (entry_of book.messages name)) is ∙ ap has_receipt (entry_of-changed (entry_with_receipt task event) before.messages name)
-    ∙ by (entry_of before.messages name) refl
-  where
-    by : (found : Option Sent) → entry_of before.messages name ≡ found → has_receipt (option_map (entry_with_receipt task event) found) ≡ true
-    by None absent = absurd (is_not_absent before name task none absent)
-    by (Some entry) there = grind (arith, nat_tests, length-append entry.receipts (record { task = task; event = event } ∷ []))
-
--- the messages as they were before one was received
-pub without_last_receipt-received : (name task : Text) (event : ℕ) (messages : Messages) → without_last_receipt name (with_receipt name task event messages) ≡ messages
-without_last_receipt-received name task event messages =
-    with_changed-twice (entry_with_receipt task event) entry_without_last_receipt messages name
-    ∙ with_changed-same (λ entry. entry_without_last_receipt (entry_with_receipt task event entry)) messages name
-    (λ entry. ap (λ receipts. record { sent = entry.sent; receipts = receipts }) (take-more entry.receipts (record { task = task; event = event })))
-
--- what a receipt made of the entry of its message, and answered
-pub record ReceivesEntry {A : Type 0} (task : Text) (event : ℕ) (entry written : Sent) (result : Result A Code) : Type 0 where
-  pub allowed : OnOk result (has_receipt_by task (Some entry) ≡ false)
-  pub ok : OnOk result (written ≡ entry_with_receipt task event entry)
-  pub code : IfErr result (λ code. code ≡ (if has_receipt_by task (Some entry) then AlreadyReceived else NoMemory))
-  pub err : OnErr result (written ≡ entry)
-  pub first : has_receipt (Some entry) ≡ false → IsOk result
-
--- what it made of the book, and answered
-pub record Receives {A : Type 0} (name task : Text) (event : ℕ) (before after : Book) (result : Result A Code) : Type 0 where
-  pub allowed : OnOk result (refusal_of_receive before name task ≡ None)
-  pub ok : OnOk result (after ≡ record before { messages = with_receipt name task event before.messages })
-  pub code : IfErr result (λ code. code ≡ unwrap_or (refusal_of_receive before name task) NoMemory)
-  pub err : OnErr result (after ≡ before)
-  pub first : has_receipt (entry_of before.messages name) ≡ false → result_err result ≡ refusal_of_receive before name task
-
--- a message that is there
-module _ (name task : Text) (event : ℕ) (before after : Book) (entry written : Sent) (found : entry_of before.messages name ≡ Some entry)
-    (is : after ≡ record before { messages = set_value (is_same name) before.messages written }) where
-  changed_in : (change : Sent → Sent) → written ≡ change entry → after ≡ record before { messages = with_changed change name before.messages }
-  changed_in change made =
-      let messages = ap (set_value (is_same name) before.messages) made ∙ set_value_is_with_changed change before.messages name entry found in
-      is ∙ ap (λ (messages : Messages). record before { messages = messages }) messages
-
-  same_in : written ≡ entry → after ≡ before
-  same_in made =
-      changed_in (λ entry. entry) made ∙ ap (λ (messages : Messages). record before { messages = messages }) (with_changed-same (λ entry. entry) before.messages name (λ entry. refl))
-
-  refusal_in : refusal_of_receive before name task ≡ (if has_receipt_by task (Some entry) then Some AlreadyReceived else None)
-  refusal_in = rw found refl
-
-  code_in : unwrap_or (refusal_of_receive before name task) NoMemory ≡ (if has_receipt_by task (Some entry) then AlreadyReceived else NoMemory)
-  code_in = ap (λ refusal. unwrap_or refusal NoMemory) refusal_in ∙ by (has_receipt_by task (Some entry))
+module _ {T : Type 0} where
+  -- the look-up in the table is the search in the list
+  pub found_in : (later : List (Later T)) (messages : List (Text × Message T)) (name : Text)
+      → option_map (sent_in later) (lookup (is_same name) messages) ≡ entry_of (seen_in later messages) name
+  found_in later [] name = refl
+  found_in later (message ∷ rest) name = by (is_same name message.0) (found_in later rest name)
     where
-      by : (has : Bool) → unwrap_or (if has then Some AlreadyReceived else None) NoMemory ≡ (if has then AlreadyReceived else NoMemory)
-      by true = refl
-      by false = refl
+      by : (same : Bool) → option_map (sent_in later) (lookup (is_same name) rest) ≡ entry_of (seen_in later rest) name
+          → option_map (sent_in later) (cond same (Some message.1) (lookup (is_same name) rest)) ≡ cond same (Some (sent_in later message.1)) (entry_of (seen_in later rest) name)
+      by true behind = refl
+      by false behind = behind
 
-  pub receives-found : {A : Type 0} (result : Result A Code) → ReceivesEntry task event entry written result → Receives name task event before after result
-  receives-found (Ok done) says =
-      let allowed = refusal_in ∙ ap (λ has. if has then Some AlreadyReceived else None) says.allowed in
-      record { allowed = allowed; ok = changed_in (entry_with_receipt task event) says.ok; code = tt; err = tt; first = λ none. sym allowed }
-  receives-found (Err code) says = record {
-    allowed = tt;
-    ok = tt;
-    code = says.code ∙ sym code_in;
-    err = same_in says.err;
-    first = λ none. absurd (false≢true (says.first (ap has_receipt (sym found) ∙ none)));
-  }
+  -- a test that all keys behind pass is passed by each of them
+  passes_at : (test : Text → Bool) (messages : Messages T) (place : ℕ) {name : Text} {entry : Sent T} → AllByRecursion (λ key. test key ≡ false) (map (λ message. message.0) messages)
+      → slice_get messages place ≡ Some (name, entry) → test name ≡ false
+  passes_at test [] place all there = cc
+  passes_at test (first ∷ rest) zero {name} {entry} all there =
+      let here : first ≡ (name, entry) = same_Some first (name, entry) there in
+      ap (λ (m : Text × Sent T). test m.0) (sym here) ∙ all.0
+  passes_at test (first ∷ rest) (suc place) all there = passes_at test rest place all.1 there
 
--- a message that is absent
-pub receives-absent : {A : Type 0} (name task : Text) (event : ℕ) (before after : Book) → entry_of before.messages name ≡ None → after ≡ before
-    → Receives {A = A} name task event before after (Err NoMessage)
-receives-absent name task event before after absent same =
-    let refusal : refusal_of_receive before name task ≡ Some NoMessage = rw absent refl in
-    record { allowed = tt; ok = tt; code = sym (ap (λ refusal. unwrap_or refusal NoMemory) refusal); err = same; first = λ none. sym refusal }
+  -- the message at a place is the one that is found by its name
+  pub entry_at : (messages : Messages T) (place : ℕ) {name : Text} {entry : Sent T} → IsDistinct is_same (map (λ message. message.0) messages)
+      → slice_get messages place ≡ Some (name, entry) → entry_of messages name ≡ Some entry
+  unfolding IsDistinct
+  entry_at [] place once there = cc
+  entry_at (first ∷ rest) zero {name} {entry} once there =
+      let here : first ≡ (name, entry) = same_Some first (name, entry) there in
+      (λ i. cond (is_same name (here i).0) (Some (here i).1) (entry_of rest name)) ∙ ap (λ is. cond is (Some entry) (entry_of rest name)) (is_same-itself name)
+  entry_at (first ∷ rest) (suc place) {name} {entry} once there =
+      let apart = is_same-other_way name first.0 ∙ passes_at (is_same first.0) rest place once.0 there in
+      ap (λ is. cond is (Some first.1) (entry_of rest name)) apart ∙ entry_at rest place once.1 there
+
+  -- what is seen of the message at a place
+  pub seen_at : (later : List (Later T)) (messages : List (Text × Message T)) (place : ℕ) {name : Text} {message : Message T} → slice_get messages place ≡ Some (name, message)
+      → slice_get (seen_in later messages) place ≡ Some (name, sent_in later message)
+  seen_at later [] place there = cc
+  seen_at later (first ∷ rest) zero there = ap (option_map (λ (m : Text × Message T). (m.0, sent_in later m.1))) there
+  seen_at later (first ∷ rest) (suc place) there = seen_at later rest place there
+
+  -- and what is written at its place is the change of the messages
+  pub changed_at : (change : Sent T → Sent T) (later : List (Later T)) (messages : List (Text × Message T)) (place : ℕ) (written : Message T) {name : Text} {before : Message T}
+      → IsDistinct is_same (map (λ message. message.0) (seen_in later messages)) → slice_get messages place ≡ Some (name, before)
+      → sent_in later written ≡ change (sent_in later before) → seen_in later (set_value_at messages place written) ≡ with_changed change name (seen_in later messages)
+  unfolding IsDistinct
+  changed_at change later [] place written once there made = cc
+  changed_at change later (first ∷ rest) zero written {name} {before} once there made =
+      let here : first ≡ (name, before) = same_Some first (name, before) there in
+      let itself : is_same name first.0 ≡ true = ap (λ (m : Text × Message T). is_same name m.0) here ∙ is_same-itself name in
+      let was : change (sent_in later first.1) ≡ change (sent_in later before) = ap (λ (m : Text × Message T). change (sent_in later m.1)) here in
+      (λ i. (first.0, (made ∙ sym was) i) ∷ seen_in later rest)
+      ∙ sym (ap (λ is. cond is ((first.0, change (sent_in later first.1)) ∷ seen_in later rest) ((first.0, sent_in later first.1) ∷ with_changed change name (seen_in later rest))) itself)
+  changed_at change later (first ∷ rest) (suc place) written {name} {before} once there made =
+      let seen : slice_get (seen_in later rest) place ≡ Some (name, sent_in later before) = seen_at later rest place there in
+      let apart = is_same-other_way name first.0 ∙ passes_at (is_same first.0) (seen_in later rest) place once.0 seen in
+      ap (λ behind. (first.0, sent_in later first.1) ∷ behind) (changed_at change later rest place written once.1 there made)
+      ∙ sym (ap (λ is. cond is ((first.0, change (sent_in later first.1)) ∷ seen_in later rest) ((first.0, sent_in later first.1) ∷ with_changed change name (seen_in later rest))) apart)
+
+  -- the names of the messages are those in the table
+  pub names_seen : (later : List (Later T)) (messages : List (Text × Message T)) → map (λ message. message.0) (seen_in later messages) ≡ map (λ message. message.0) messages
+  names_seen later [] = refl
+  names_seen later (first ∷ rest) = ap (λ names. first.0 ∷ names) (names_seen later rest)
+
+  -- a message that can be sent is not there yet
+  pub not_there_yet : (book : Book T) (name : Text) → refusal_of_send book name ≡ None → entry_of book.messages name ≡ None
+  not_there_yet book name none = by (entry_of book.messages name) (no_first_code _ _ _ none).0
+    where
+      by : (found : Option (Sent T)) → is_some found ≡ false → found ≡ None
+      by None absent = refl
+      by (Some entry) absent = cc
+
+  -- so it is not in the table
+  pub not_in_table : (later : List (Later T)) (messages : List (Text × Message T)) (name : Text) → entry_of (seen_in later messages) name ≡ None → lookup (is_same name) messages ≡ None
+  not_in_table later messages name absent = by (lookup (is_same name) messages) (found_in later messages name ∙ absent)
+    where
+      by : (found : Option (Message T)) → option_map (sent_in later) found ≡ None → found ≡ None
+      by None none = refl
+      by (Some message) none = cc
+
+  -- a message with a receipt is not absent
+  pub received_is_not_absent : (messages : Messages T) (name : Text) → has_receipt (entry_of messages name) ≡ true → entry_of messages name ≡ None → ⊥
+  received_is_not_absent messages name received absent = false≢true (ap has_receipt (sym absent) ∙ received)
+
+  -- what is left where the last message is taken away
+  pub left_without_last : (all left : Messages T) (last : Option (Text × Sent T)) → (0 < length all → IsSome last) → LastIsUnreceived all → all ≡ left ++ option_to_list last
+      → without_last all ≡ left
+  left_without_last all left None found unreceived is =
+      absurd (false≢true (found (omega (arith, ap length unreceived.2, length-append (without_last all) ((unreceived.0, record { sent = unreceived.1; receipts = [] }) ∷ [])))))
+  left_without_last all left (Some message) found unreceived is =
+      let seam : length all - 1 ≡ length left = omega (arith, ap length is, length-append left (message ∷ [])) in
+      (λ i. take (seam i) (is i)) ∙ take-append_seam left (message ∷ [])
+
+  -- that message has no receipts
+  pub last_is_unreceived : (later : List (Later T)) (front : List (Text × Message T)) (name : Text) (message : Message T) → LastIsUnreceived (seen_in later (front ++ (name, message) ∷ []))
+      → message.received ≡ None
+  last_is_unreceived later front name message unreceived = none message.received (ap (λ (m : Text × Sent T). m.1.receipts) same)
+    where
+      all : Messages T
+      all = seen_in later (front ++ (name, message) ∷ [])
+
+      taken : Messages T
+      taken = (unreceived.0, record { sent = unreceived.1; receipts = [] }) ∷ []
+
+      own : Messages T
+      own = (name, sent_in later message) ∷ []
+
+      here : slice_get all (length (without_last all)) ≡ Some (unreceived.0, record { sent = unreceived.1; receipts = [] })
+      here = ap (λ (list : Messages T). slice_get list (length (without_last all))) unreceived.2 ∙ slice_get-seam (without_last all) (unreceived.0, record { sent = unreceived.1; receipts = [] }) []
+
+      there : slice_get all (length (seen_in later front)) ≡ Some (name, sent_in later message)
+      there = ap (λ (list : Messages T). slice_get list (length (seen_in later front))) (map-append (λ (m : Text × Message T). (m.0, sent_in later m.1)) front ((name, message) ∷ []))
+          ∙ slice_get-seam (seen_in later front) (name, sent_in later message) []
+
+      as_many : length (without_last all) ≡ length (seen_in later front)
+      as_many = omega (
+        arith,
+        ap length unreceived.2,
+        length-append (without_last all) taken,
+        ap length (map-append (λ (m : Text × Message T). (m.0, sent_in later m.1)) front ((name, message) ∷ [])),
+        length-append (seen_in later front) own,
+      )
+
+      same : (name, sent_in later message) ≡ (unreceived.0, record { sent = unreceived.1; receipts = [] })
+      same = same_Some _ _ (sym there ∙ ap (slice_get all) (sym as_many) ∙ here)
+
+      none : (received : Option (Received T)) → receipts_in later received ≡ [] → received ≡ None
+      none None is = refl
+      none (Some first) is = cc
+
+  -- ---- receipts
+
+  module _ (same : T → T → Bool) (name : Text) (task : T) (event : ℕ) (before after : Book T) where
+    -- of a message that is absent
+    pub receives-absent : {A : Type 0} → entry_of before.messages name ≡ None → after ≡ before → Receives {A = A} same name task event before after (Err NoMessage)
+    receives-absent absent is =
+        let refusal : refusal_of_receive same before name task ≡ Some NoMessage = rw absent refl in
+        record { allowed = tt; ok = tt; code = sym (ap (λ refusal. unwrap_or refusal NoMemory) refusal); err = is; first = λ none. sym refusal }
+
+    -- of one that is there
+    module _ (entry : Sent T) (found : entry_of before.messages name ≡ Some entry) where
+      pub refusal_in : refusal_of_receive same before name task ≡ (if has_receipt_by same task (Some entry) then Some AlreadyReceived else None)
+      refusal_in = rw found refl
+
+      pub receives-ok : {A : Type 0} (done : A) → has_receipt_by same task (Some entry) ≡ false → after ≡ record before { messages = with_receipt name task event before.messages }
+          → Receives same name task event before after (Ok done)
+      receives-ok done new is =
+          let allowed = refusal_in ∙ ap (λ has. if has then Some AlreadyReceived else None) new in
+          record { allowed = allowed; ok = is; code = tt; err = tt; first = λ none. sym allowed }
+
+      pub receives-again : {A : Type 0} → has_receipt_by same task (Some entry) ≡ true → after ≡ before → Receives {A = A} same name task event before after (Err AlreadyReceived)
+      receives-again had is =
+          let refusal = refusal_in ∙ ap (λ has. if has then Some AlreadyReceived else None) had in
+          record { allowed = tt; ok = tt; code = sym (ap (λ refusal. unwrap_or refusal NoMemory) refusal); err = is; first = λ none. sym refusal }
+
+      pub receives-err : {A : Type 0} (code : Code) → code ≡ (if has_receipt_by same task (Some entry) then AlreadyReceived else NoMemory) → has_receipt (Some entry) ≡ true → after ≡ before
+          → Receives {A = A} same name task event before after (Err code)
+      receives-err code is some same_book = record {
+        allowed = tt;
+        ok = tt;
+        code = is ∙ by (has_receipt_by same task (Some entry)) ∙ sym (ap (λ refusal. unwrap_or refusal NoMemory) refusal_in);
+        err = same_book;
+        first = λ none. absurd (false≢true (sym (ap has_receipt (sym found) ∙ none) ∙ some));
+      }
+        where
+          by : (has : Bool) → (if has then AlreadyReceived else NoMemory) ≡ unwrap_or (if has then Some AlreadyReceived else None) NoMemory
+          by true = refl
+          by false = refl

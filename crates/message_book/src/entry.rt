@@ -1,94 +1,80 @@
-//! Entries of the book, one for each message.
-ghost use Rattle.std.specs.Prelude.{◌≡◌, [], map, false, if◌then◌else◌, Some, IsOk, IfErr, OnOk, OnErr};
-ghost use Rattle.message_book.specs.Book.{has_receipt, has_receipt_by, entry_with_receipt, entry_without_last_receipt};
+//! What the book has of one message.
+ghost use Rattle.std.specs.Prelude.{◌≡◌, ◌<◌, ◌-◌, true, drop, length, map, IfOk};
+ghost use Rattle.message_book.specs.Chains.{follow, is_chain, is_chained, sent_in};
 
-use crate::receivers::Receivers;
+use crate::message::{Later, Message};
 use std::alloc::Global;
+use std::hash::Hash;
 use std::marker::Model;
-use trace_types::{Code, Name, Receipts};
+use trace_types::{Memory, Receipts};
 
-/// What the book has of one message.
+/// What the book has of one message, lent.
 ///
 /// A contract sees the event that sent the message, and the receipts in their order, each a task and an event.
 #[derive(Drop)]
-pub struct Entry {
-    sent: u64,
-    receipts: Receipts,
-    /// The task of each receipt.
-    receivers: Receivers,
+pub struct Entry<'a, T: Copy + Eq + Hash> {
+    message: &'a Message<T>,
+    later: &'a [Later<T>],
 }
 
-impl Model for Entry {
-    ghost use Rattle.std.specs.Prelude.{◌≡◌, length};
+impl<'a, T: Copy + Eq + Hash> Model for Entry<'a, T> {
+    ghost use Rattle.std.specs.Prelude.{◌≡◌, true};
     ghost use Rattle.message_book.specs.Book.{Sent};
-    ghost use Rattle.message_book.specs.Receipts.{receipts_by};
+    ghost use Rattle.message_book.specs.Chains.{is_chained, sent_in};
 
-    ghost Value = { Sent };
+    ghost Value = { Sent T };
 
-    ghost view = { λ e. record { sent = e.sent; receipts = receipts_by e.receivers e.receipts } };
+    ghost view = { λ e. sent_in e.later.now e.message.now };
 
-    ghost invariant = { λ e. length e.receivers ≡ length e.receipts };
+    ghost invariant = { λ e. is_chained T.eq e.later.now e.message.now.received ≡ true };
 }
 
-impl Entry {
-    /// A message that this event sends. It takes no memory.
-    pub(crate) fn new(alloc: Global, sent: u64) -> Entry
-        ensures { result ≡ record { sent = sent; receipts = [] } }
+impl<'a, T: Copy + Eq + Hash> Entry<'a, T> {
+    /// The message, whose later receipts are among these.
+    pub(crate) fn of(message: &'a Message<T>, later: &'a [Later<T>]) -> Entry<'a, T>
+        requires { is_chained T.eq later.now message.now.received ≡ true }
+        ensures { result ≡ sent_in later.now message.now }
     {
-        Entry {
-            sent,
-            receipts: Receipts::none(alloc),
-            receivers: Receivers::none(),
-        }
+        Entry { message, later }
     }
 
     /// The number of the event that sent the message, from 1.
     pub fn sent(&self) -> u64
         ensures { result ≡ self.now.sent }
     {
-        self.sent
+        self.message.sent
     }
 
-    /// The events that received the message, in the order of the receipts.
-    pub fn receipts(&self) -> &Receipts
-        ensures { result.now ≡ map (λ receipt. receipt.event) self.now.receipts }
+    /// The events that received the message, in the order of the receipts. Returns `Memory` if it runs out of memory.
+    /// None and one take none.
+    pub fn receipts(&self, alloc: Global) -> Result<Receipts, Memory>
+        ensures { IfOk result (λ events. events ≡ map (λ receipt. receipt.event) self.now.receipts) }
     {
-        &self.receipts
-    }
-
-    /// Whether the task received the message. It takes no memory, and at most one lookup by hash.
-    pub fn has_receiver(&self, task: &Name) -> bool
-        ensures { result ≡ has_receipt_by task.now (Some self.now) }
-    {
-        self.receivers.contains(task)
-    }
-
-    /// Adds a receipt by this task and event.
-    ///
-    /// Returns `AlreadyReceived` (407) if the task received the message before, else `NoMemory` (507) if it runs out of
-    /// memory. The receipts then stay as they are. The first receipt takes no memory.
-    pub(crate) fn receive(&mut self, alloc: Global, task: Name, event: u64) -> Result<(), Code>
-        ensures allowed { OnOk result (has_receipt_by task (Some self.old) ≡ false) }
-        ensures ok { OnOk result (self.new ≡ entry_with_receipt task event self.old) }
-        ensures code { IfErr result (λ code. code ≡ (if has_receipt_by task (Some self.old) then Code.AlreadyReceived else Code.NoMemory)) }
-        ensures err { OnErr result (self.new ≡ self.old) }
-        ensures first { has_receipt (Some self.old) ≡ false → IsOk result }
-    {
-        if !self.receivers.add(alloc, task)? {
-            return Err(Code::AlreadyReceived);
+        match &self.message.received {
+            None => Ok(Receipts::none(alloc)),
+            Some(first) if first.others == 0 => Ok(Receipts::one(alloc, first.event)),
+            Some(first) => {
+                let mut events = Vec::new(alloc);
+                events.resize(first.others.checked_add(1).ok_or(Memory)?, 0)?;
+                fill(self.later, events.as_mut_slice(), first.newest);
+                events[0] = first.event;
+                Ok(Receipts::from(events))
+            }
         }
-        if self.receipts.add(event).is_err() {
-            self.receivers.remove_last();
-            return Err(Code::NoMemory);
-        }
-        Ok(())
     }
+}
 
-    /// Takes the last receipt back, if there is one. It takes no memory.
-    pub(crate) fn remove_last_receipt(&mut self)
-        ensures { self.new ≡ entry_without_last_receipt self.old }
-    {
-        self.receipts.remove_last();
-        self.receivers.remove_last();
+/// Writes the events of receipts of a message from the last place back to the second. The newest receipt is at this place.
+fn fill<T: Copy + Eq + Hash>(later: &[Later<T>], events: &mut [u64], newest: usize)
+    requires some { 0 < length events.old }
+    requires chain { is_chain T.eq later.now (length events.old - 1) newest ≡ true }
+    ensures { drop 1 events.new ≡ map (λ receipt. receipt.event) (follow later.now (length events.old - 1) newest) }
+{
+    let (mut left, mut place) = (events.len() - 1, newest);
+    while left > 0 {
+        let one = &later[place];
+        events[left] = one.event;
+        place = one.before;
+        left -= 1;
     }
 }

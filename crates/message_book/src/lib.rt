@@ -5,7 +5,7 @@
 //! The contract that carries it: the list of messages has one for each send that was taken, with the receipts that were
 //! taken for it. Each call is refused with the first code that applies (`refusal_of_send`, `refusal_of_receive`), and
 //! then changes nothing. Contracts see a [`MessageBook`] as its limit and that list, in the order of the sends (`Book`,
-//! in `specs/`).
+//! in `specs/`), beside the room that it has for more.
 //!
 //! ```
 //! use message_book::MessageBook;
@@ -22,9 +22,9 @@
 #![tactic(auto)]
 
 mod entry;
+mod message;
 mod message_book;
 mod others;
-mod receivers;
 
 pub use entry::Entry;
 pub use message_book::MessageBook;

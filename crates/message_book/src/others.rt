@@ -1,78 +1,132 @@
-//! The tasks that received one message after the first one, found by hash.
-ghost use Rattle.std.specs.Prelude.{◌≡◌, ◌++◌, [], ◌∷◌, not, false, if◌then◌else◌, option_to_list, IfOk, IfNone, OnErr};
-ghost use Rattle.std.specs.List.{list_any};
-ghost use Rattle.trace_types.specs.text.Name.{is_same};
+//! The receipts that are not the first ones of their messages.
+ghost use Rattle.std.specs.Prelude.{◌≡◌, ℕ, [], ◌+◌, ◌≤◌, ◌<◌, ◌∷◌, ◌++◌, ◌&&◌, ◌||◌, not, false, if◌then◌else◌, length, slice_get, Some, IsOk, IfOk, IfErr, OnOk, OnErr};
+ghost use Rattle.message_book.specs.Chains.{has_key, is_same_receipt};
+ghost use Rattle.message_book.specs.declared.message.Later.{Later as Further};
 
+use crate::message::Later;
 use indexmap::IndexSet;
 use std::alloc::Global;
+use std::hash::Hash;
 use std::marker::Model;
-use trace_types::{Memory, Name};
+use trace_types::{Code, Memory};
 
-/// The tasks that received a message after the first one, in the order of their receipts. Each is there once, and is
-/// found by its hash.
+/// The receipts of all messages but for the first one of each, and which tasks they are by, found by hash.
 ///
-/// It is one pointer, and takes no memory while there are none. A contract sees the list of the names.
+/// A contract sees them in the order in which they were taken, the tasks with the places of their messages, and for how
+/// many more there is room.
 #[derive(Drop)]
-pub(crate) struct Others {
-    names: Option<Box<IndexSet<Name>>>,
+pub(crate) struct Others<T: Copy + Eq + Hash + Drop> {
+    later: Vec<Later<T>>,
+    receivers: IndexSet<(T, usize)>,
 }
 
-impl Model for Others {
-    ghost use Rattle.std.specs.Prelude.{List, [], unwrap_or};
-    ghost use Rattle.std.specs.Option.{option_map};
-    ghost use Rattle.trace_types.specs.text.Name.{Text};
+impl<T: Copy + Eq + Hash + Drop> Model for Others<T> {
+    ghost use Rattle.std.specs.Prelude.{◌-◌, min, vec_capacity, vec_len};
+    ghost use Rattle.indexmap.specs.IndexSet.{spare};
+    ghost use Rattle.message_book.specs.Chains.{Kept};
 
-    ghost Value = { List Text };
+    ghost Value = { Kept T };
 
-    ghost view = { λ o. unwrap_or (option_map (λ names. names.value.keys) o.names) [] };
+    ghost view = { λ o. record {
+      later = o.later.items;
+      keys = o.receivers.keys;
+      room = min (spare o.receivers) (vec_capacity o.later - vec_len o.later);
+    } };
 }
 
-impl Others {
-    /// No names. It takes no memory.
-    pub(crate) fn none() -> Others
-        ensures { result ≡ [] }
+impl<T: Copy + Eq + Hash + Drop> Others<T> {
+    /// None. It takes no memory.
+    pub(crate) fn new(alloc: Global) -> Others<T>
+        ensures later { result.later ≡ [] }
+        ensures keys { result.keys ≡ [] }
     {
-        Others { names: None }
-    }
-
-    /// Whether the task is there. It takes no memory.
-    pub(crate) fn contains(&self, task: &Name) -> bool
-        ensures { result ≡ list_any (is_same task.now) self.now }
-    {
-        match &self.names {
-            Some(names) => names.contains(task),
-            None => false,
+        Others {
+            later: Vec::new(alloc),
+            receivers: IndexSet::new(alloc),
         }
     }
 
-    /// Adds the task, unless it is there, and says whether it was added.
+    /// All of them, in the order in which they were taken.
+    #[inline(always)]
+    pub(crate) fn as_slice(&self) -> &[Later<T>]
+        ensures { result.now ≡ self.now.later }
+    {
+        &self.later
+    }
+
+    /// Whether the task has one of the message at this place. It takes no memory, and one look-up by hash.
+    #[inline(always)]
+    pub(crate) fn has(&self, task: T, place: usize) -> bool
+        ensures { result ≡ has_key T.eq self.now.keys (task, place) }
+    {
+        self.receivers.contains(&(task, place))
+    }
+
+    /// For how many more there is room.
+    #[inline(always)]
+    pub(crate) fn room(&self) -> usize
+        ensures { result ≡ self.now.room }
+    {
+        let keys = self.receivers.capacity() - self.receivers.len();
+        keys.min(self.later.capacity() - self.later.len())
+    }
+
+    /// Makes room for so many more. Returns `Memory` if it runs out of memory. There is then no less room than before.
+    pub(crate) fn reserve(&mut self, more: usize) -> Result<(), Memory>
+        ensures later { self.new.later ≡ self.old.later }
+        ensures keys { self.new.keys ≡ self.old.keys }
+        ensures room { OnOk result (more ≤ self.new.room) }
+        ensures no_less { self.old.room ≤ self.new.room }
+    {
+        self.receivers.reserve(more)?;
+        Ok(self.later.reserve(more)?)
+    }
+
+    /// Adds one by this task, of the message at this place, and gives its own place.
     ///
-    /// Returns `Memory`, with the tasks as before, if it runs out of memory.
-    pub(crate) fn add(&mut self, alloc: Global, task: Name) -> Result<bool, Memory>
-        ensures added { IfOk result (λ added. added ≡ not (list_any (is_same task) self.old)) }
-        ensures ok { IfOk result (λ added. self.new ≡ (if added then self.old ++ task ∷ [] else self.old)) }
-        ensures absent { OnErr result (list_any (is_same task) self.old ≡ false) }
-        ensures err { OnErr result (self.new ≡ self.old) }
+    /// Returns `AlreadyReceived` (407) if the task has one of the message, else `NoMemory` (507) if it runs out of memory.
+    #[inline(always)]
+    pub(crate) fn add(&mut self, place: usize, one: Later<T>) -> Result<usize, Code>
+        ensures allowed { OnOk result (has_key T.eq self.old.keys (one.task, place) ≡ false) }
+        ensures newest { IfOk result (λ newest. newest ≡ length self.old.later) }
+        ensures later { OnOk result (self.new.later ≡ self.old.later ++ one ∷ []) }
+        ensures keys { OnOk result ((task : T) (at : ℕ) → has_key T.eq self.new.keys (task, at) ≡ (is_same_receipt T.eq (one.task, place) (task, at) || has_key T.eq self.old.keys (task, at))) }
+        ensures code { IfErr result (λ code. code ≡ (if has_key T.eq self.old.keys (one.task, place) then Code.AlreadyReceived else Code.NoMemory)) }
+        ensures err { OnErr result ((self.new.later ≡ self.old.later) × (self.new.keys ≡ self.old.keys)) }
+        ensures room { 0 < self.old.room → has_key T.eq self.old.keys (one.task, place) ≡ false → IsOk result }
+        ensures used { self.old.room ≤ self.new.room + 1 }
     {
-        match &mut self.names {
-            Some(names) => Ok(names.insert(task)?),
-            None => {
-                let mut names = IndexSet::new(alloc);
-                names.insert(task)?;
-                self.names = Some(Box::new(alloc, names)?);
-                Ok(true)
+        if self.later.reserve(1).is_err() {
+            if self.has(one.task, place) {
+                return Err(Code::AlreadyReceived);
             }
+            return Err(Code::NoMemory);
+        }
+        match self.receivers.insert((one.task, place)) {
+            Ok(true) => {
+                let newest = self.later.len();
+                self.later.push_reserved(one);
+                Ok(newest)
+            }
+            Ok(false) => Err(Code::AlreadyReceived),
+            Err(_) => Err(Code::NoMemory),
         }
     }
 
-    /// Takes the last one out, if there is one. It takes no memory.
-    pub(crate) fn pop(&mut self) -> Option<Name>
-        ensures names { self.old ≡ self.new ++ option_to_list result }
-        ensures none { IfNone result (self.old ≡ []) }
+    /// Forgets that the task of the receipt at `newest` received the message at this place, and gives the place of the
+    /// receipt before it. It takes no memory. The receipt itself stays, and nothing asks for it any more.
+    pub(crate) fn forget(&mut self, place: usize, newest: usize) -> usize
+        ensures later { self.new.later ≡ self.old.later }
+        ensures before { (one : Further T) → slice_get self.old.later newest ≡ Some one → result ≡ one.before }
+        ensures keys { (one : Further T) → slice_get self.old.later newest ≡ Some one → (task : T) (at : ℕ)
+            → has_key T.eq self.new.keys (task, at) ≡ (not (is_same_receipt T.eq (one.task, place) (task, at)) && has_key T.eq self.old.keys (task, at)) }
     {
-        match &mut self.names {
-            Some(names) => names.pop(),
-            None => None,
+        match self.later.get(newest) {
+            Some(one) => {
+                self.receivers.swap_remove(&(one.task, place));
+                one.before
+            }
+            None => 0,
         }
     }
 }
