@@ -1,5 +1,5 @@
 -- Receipts that are not the first of their messages.
-use Rattle.std.proofs.Common.{◌≡◌, ◌≢◌, ◌⊎◌, ℕ, zero, suc, ◌+◌, ◌-◌, ◌<◌, ◌≤◌, eqb, nat_le, Bool, true, false, cond, not, ◌||◌, ◌&&◌, List, [], ◌∷◌, ◌++◌, length, map, drop, set, take, slice_get, Option, Some, None, refl, sym, ap, ◌∙◌, inl, inr, arith}
+use Rattle.std.proofs.Common.{◌≡◌, ◌≢◌, ◌⊎◌, ℕ, zero, suc, ◌+◌, ◌-◌, ◌<◌, eqb, nat_le, Bool, true, false, cond, not, ◌||◌, ◌&&◌, List, [], ◌∷◌, ◌++◌, length, map, drop, set, take, slice_get, Option, Some, None, refl, sym, ap, ◌∙◌, inl, inr, arith}
 use Rattle.std.proofs.Math.Bool.{or_comm}
 use Rattle.std.proofs.Math.Seq.{drop-length, take-append_seam}
 use Rattle.std.proofs.lemmas.Bool.{false≢true, and_parts, cases_Bool, eq-eqb, eqb-true}
@@ -13,7 +13,7 @@ use Rattle.std.specs.Option.{option_map_or}
 use Rattle.indexmap.specs.IndexMap.{set_value_at}
 use Rattle.trace_types.specs.text.Name.{Text, is_same}
 use Rattle.message_book.specs.Book.{Receipt, has_receipt_by}
-use Rattle.message_book.specs.Chains.{AreKnown, are_chained, follow, has_key, has_task, is_chain, is_chained, is_same_receipt, others_at, others_in, receipt_of, receipts_in, seen_in, sent_in}
+use Rattle.message_book.specs.Chains.{AreKnown, are_chained, follow, has_key, has_task, is_chain, is_chained, is_receiver, is_same_receipt, others_at, others_in, receipt_of, receipts_in, seen_in, sent_in}
 use Rattle.message_book.specs.declared.message.Later.{Later}
 use Rattle.message_book.specs.declared.message.Message.{Message}
 use Rattle.message_book.specs.declared.message.Received.{Received}
@@ -66,18 +66,6 @@ module _ {T : Type 0} (same : T → T → Bool) where
   chain_link : (later : List (Later T)) (n place : ℕ) (one : Later T) → slice_get later place ≡ Some one → has_task same one.task (follow later n one.before) ≡ false
       → is_chain same later n one.before ≡ true → is_chain same later (suc n) place ≡ true
   chain_link later n place one there new before = ap (is_link later n) there ∙ (λ i. not (new i) && before i)
-
-  -- a chain has so many receipts
-  pub length-follow : (later : List (Later T)) (n place : ℕ) → is_chain same later n place ≡ true → length (follow later n place) ≡ n
-  length-follow later zero place is = refl
-  length-follow later (suc n) place is =
-      let link = newest_link later n place is in
-      omega (
-        arith,
-        ap length (follow_link later n place link.one link.there),
-        length-append (follow later n link.one.before) (receipt_of link.one ∷ []),
-        length-follow later n link.one.before link.before,
-      )
 
   -- a chain stays one, of the same receipts, where more are added to the list
   pub chain_longer : (later more : List (Later T)) (n place : ℕ) → is_chain same later n place ≡ true
@@ -132,6 +120,9 @@ module _ {T : Type 0} (same : T → T → Bool) where
   seen-longer later more (message ∷ rest) is =
       let parts = and_parts (is_chained same later message.1.received) (are_chained same later rest) is in
       λ i. (message.0, record { sent = message.1.sent; receipts = (stays_in later more message.1.received parts.0).receipts i }) ∷ seen-longer later more rest parts.1 i
+
+  pub receipts-longer : (later more : List (Later T)) (received : Option (Received T)) → is_chained same later received ≡ true → receipts_in (later ++ more) received ≡ receipts_in later received
+  receipts-longer later more received is = (stays_in later more received is).receipts
 
   others_at-longer : (later more : List (Later T)) (messages : List (Text × Message T)) → are_chained same later messages ≡ true → (place : ℕ)
       → others_at (later ++ more) messages place ≡ others_at later messages place
@@ -191,7 +182,7 @@ module _ {T : Type 0} (same : T → T → Bool) where
   others_at-pushed later (first ∷ rest) name message none zero = refl
   others_at-pushed later (first ∷ rest) name message none (suc at) = others_at-pushed later rest name message none at
 
-  others_there : (later : List (Later T)) (messages : List (Text × Message T)) (place : ℕ) {name : Text} {message : Message T} → slice_get messages place ≡ Some (name, message)
+  pub others_there : (later : List (Later T)) (messages : List (Text × Message T)) (place : ℕ) {name : Text} {message : Message T} → slice_get messages place ≡ Some (name, message)
       → others_at later messages place ≡ others_in later message.received
   others_there later messages place there = ap (λ found. option_map_or (λ (m : Text × Message T). others_in later m.1.received) found []) there
 
@@ -347,12 +338,15 @@ module _ {T : Type 0} (same : T → T → Bool) where
             ∙ ap (has_task same t) (sym ((others_at-set later messages place written at there).1 differ))
 
   -- whether a task received the message at a place is told by its first receipt and the set
-  pub has_receiver : (keys : List (T × ℕ)) (later : List (Later T)) (messages : List (Text × Message T)) (place : ℕ) (task : T) {name : Text} {message : Message T} {first : Received T}
-      → AreKnown same keys later messages → slice_get messages place ≡ Some (name, message) → message.received ≡ Some first
-      → has_receipt_by same task (Some (sent_in later message)) ≡ (same first.task task || has_key same keys (task, place))
-  has_receiver keys later messages place task {name} {message} {first} known there received =
-      ap (λ received. has_task same task (receipts_in later received)) received
-      ∙ ap (λ has. same first.task task || has) (sym (known task place ∙ ap (has_task same task) (others_there later messages place there ∙ ap (others_in later) received)))
+  pub receiver_is : (keys : List (T × ℕ)) (later : List (Later T)) (messages : List (Text × Message T)) (place : ℕ) (task : T) {name : Text} {message : Message T}
+      → AreKnown same keys later messages → slice_get messages place ≡ Some (name, message)
+      → has_receipt_by same task (Some (sent_in later message)) ≡ is_receiver same keys place message.received task
+  receiver_is keys later messages place task {name} {message} known there = by message.received refl
+    where
+      by : (received : Option (Received T)) → message.received ≡ received → has_task same task (receipts_in later received) ≡ is_receiver same keys place received task
+      by None none = refl
+      by (Some first) some =
+          ap (λ has. same first.task task || has) (sym (known task place ∙ ap (has_task same task) (others_there later messages place there ∙ ap (others_in later) some)))
 
   -- the receipts of a message that is found are chained
   pub chained_found : (later : List (Later T)) (messages : List (Text × Message T)) (name : Text) {message : Message T} → are_chained same later messages ≡ true
@@ -370,11 +364,7 @@ module _ {T : Type 0} (same : T → T → Bool) where
           ap (λ (m : Message T). is_chained same later m.received) (sym same_one) ∙ parts.0
       by (inr away) is_it behind = behind (sym (ap (λ is. cond is (Some first.1) (lookup (is_same name) rest)) away) ∙ is_it)
 
--- the set after a key is added or taken away, in the words of the receipts
-pub with_key : (is had : Bool) → cond is true had ≡ (is || had)
-with_key true had = refl
-with_key false had = refl
-
+-- the set after a key is taken away, in the words of the receipts
 pub without_key : (is had : Bool) → cond is false had ≡ (not is && had)
 without_key true had = refl
 without_key false had = refl
@@ -416,20 +406,3 @@ module _ {T : Type 0} (same : T → T → Bool) (later : List (Later T)) where
               (sym (map-append (λ (receipt : Receipt T). receipt.event) (follow later n one.before) (receipt_of one ∷ [])) ∙ ap events_of (sym (follow_link same later n place one there)))
               ∙ filled.written;
         }
-
-  -- none is written at first, and all of them at last
-  pub fills_none : (place : ℕ) (events : List ℕ) → 0 < length events → is_chain same later (length events - 1) place ≡ true
-      → IsFilled (events_of (follow later (length events - 1) place)) (length events - 1) place events (length events)
-  fills_none place events some chain =
-      let whole : suc (length events - 1) ≡ length events = omega (arith, some) in
-      let none : drop (suc (length events - 1)) events ≡ [] = ap (λ n. drop n events) whole ∙ drop-length events in
-      record {
-        counted = refl;
-        within = omega (arith, some);
-        chain = chain;
-        written = ap (λ rest. events_of (follow later (length events - 1) place) ++ rest) none ∙ append-nil (events_of (follow later (length events - 1) place));
-      }
-
-  pub fills_all : {all : List ℕ} {left place : ℕ} {events : List ℕ} {count : ℕ} → left ≡ 0 → IsFilled all left place events count → drop 1 events ≡ all
-  fills_all {all} {left} {place} {events} none filled =
-      ap (λ n. events_of (follow later n place) ++ drop (suc n) events) (sym none) ∙ filled.written

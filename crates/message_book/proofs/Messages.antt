@@ -1,19 +1,18 @@
 -- What the table of messages and the refusals say of the book.
-use Rattle.std.proofs.Common.{◌≡◌, ℕ, zero, suc, ◌-◌, ◌<◌, if◌then◌else◌, Bool, true, false, cond, List, [], ◌∷◌, ◌++◌, length, map, take, slice_get, Option, Some, None, IsSome, option_map, option_to_list, is_some, refl, sym, ap, ◌∙◌, inl, inr, unwrap_or, Result, Ok, Err, arith}
+use Rattle.std.proofs.Common.{◌≡◌, ℕ, zero, suc, ◌-◌, ◌<◌, nat_le, if◌then◌else◌, Bool, true, false, cond, List, [], ◌∷◌, ◌++◌, length, map, take, slice_get, Option, Some, None, IsSome, option_map, option_to_list, is_some, refl, sym, ap, ◌∙◌, unwrap_or, Ok, Err, arith}
 use Rattle.std.proofs.lemmas.Bool.Decides.{nat_tests}
 use Rattle.std.proofs.Math.Seq.{take-append_seam}
-use Rattle.std.proofs.lemmas.Bool.{false≢true, cases_Bool}
-use Rattle.std.proofs.lemmas.List.{length-append, length-map, map-append}
+use Rattle.std.proofs.lemmas.Bool.{false≢true}
+use Rattle.std.proofs.lemmas.List.{length-append, map-append}
 use Rattle.std.proofs.lemmas.Option.{same_Some}
 use Rattle.std.specs.List.{AllByRecursion, IsDistinct}
 use Rattle.std.specs.Map.{lookup}
-use Rattle.std.specs.Result.{result_err}
 use Rattle.indexmap.specs.IndexMap.{set_value_at}
 use Rattle.trace_types.specs.text.Name.{Text, is_same}
 use Rattle.trace_types.proofs.Names.{is_same_iff, is_same-itself}
 use Rattle.trace_types.specs.declared.code.Code.{Code}
-use Rattle.trace_types.specs.declared.code.Code.TheVariants.{NoMessage, AlreadyReceived, NoMemory}
-use Rattle.message_book.specs.Book.{Book, Messages, Sent, entry_of, has_receipt, has_receipt_by, entry_with_receipt, with_changed, with_message, with_receipt, without_last, LastIsUnreceived, refusal_of_send, refusal_of_receive}
+use Rattle.trace_types.specs.declared.code.Code.TheVariants.{NoMessage, MessageExists, AlreadyReceived, MessagesFull, NoMemory}
+use Rattle.message_book.specs.Book.{Book, Messages, Sent, entry_of, has_receipt, has_receipt_by, with_changed, with_receipt, without_last, LastIsUnreceived, refusal_of_send, refusal_of_receive}
 use Rattle.message_book.specs.Chains.{receipts_in, seen_in, sent_in}
 use Rattle.message_book.specs.Receiving.{IsAt, Receives}
 use Rattle.message_book.specs.declared.message.Later.{Later}
@@ -76,6 +75,10 @@ module _ {T : Type 0} where
   seen_at later (first ∷ rest) zero there = ap (option_map (λ (m : Text × Message T). (m.0, sent_in later m.1))) there
   seen_at later (first ∷ rest) (suc place) there = seen_at later rest place there
 
+  pub is_at : (later : List (Later T)) (messages : List (Text × Message T)) (place : ℕ) {name : Text} {message : Message T} → slice_get messages place ≡ Some (name, message)
+      → IsAt (seen_in later messages) name place
+  is_at later messages place there = ap (option_map (λ (m : Text × Sent T). m.0)) (seen_at later messages place there)
+
   -- and what is written at its place is the change of the messages
   pub changed_at : (change : Sent T → Sent T) (later : List (Later T)) (messages : List (Text × Message T)) (place : ℕ) (written : Message T) {name : Text} {before : Message T}
       → IsDistinct is_same (map (λ message. message.0) (seen_in later messages)) → slice_get messages place ≡ Some (name, before)
@@ -107,6 +110,16 @@ module _ {T : Type 0} where
       by None absent = refl
       by (Some entry) absent = cc
 
+  -- and there is room for it below the limit
+  pub not_full_yet : (book : Book T) (name : Text) → refusal_of_send book name ≡ None → length book.messages < book.limit
+  not_full_yet book name none =
+      let full : Bool = nat_le book.limit (length book.messages) in
+      let others = (no_first_code (is_some (entry_of book.messages name)) MessageExists (if full then Some MessagesFull else None) none).1 in
+      below book.limit (length book.messages) (no_first_code full MessagesFull None others).0
+    where
+      below : (limit count : ℕ) → nat_le limit count ≡ false → count < limit
+      below limit count not_full = grind (arith, nat_tests)
+
   -- so it is not in the table
   pub not_in_table : (later : List (Later T)) (messages : List (Text × Message T)) (name : Text) → entry_of (seen_in later messages) name ≡ None → lookup (is_same name) messages ≡ None
   not_in_table later messages name absent = by (lookup (is_same name) messages) (found_in later messages name ∙ absent)
@@ -119,16 +132,7 @@ module _ {T : Type 0} where
   pub received_is_not_absent : (messages : Messages T) (name : Text) → has_receipt (entry_of messages name) ≡ true → entry_of messages name ≡ None → ⊥
   received_is_not_absent messages name received absent = false≢true (ap has_receipt (sym absent) ∙ received)
 
-  -- what is left where the last message is taken away
-  pub left_without_last : (all left : Messages T) (last : Option (Text × Sent T)) → (0 < length all → IsSome last) → LastIsUnreceived all → all ≡ left ++ option_to_list last
-      → without_last all ≡ left
-  left_without_last all left None found unreceived is =
-      absurd (false≢true (found (omega (arith, ap length unreceived.2, length-append (without_last all) ((unreceived.0, record { sent = unreceived.1; receipts = [] }) ∷ [])))))
-  left_without_last all left (Some message) found unreceived is =
-      let seam : length all - 1 ≡ length left = omega (arith, ap length is, length-append left (message ∷ [])) in
-      (λ i. take (seam i) (is i)) ∙ take-append_seam left (message ∷ [])
-
-  -- that message has no receipts
+  -- a message that is the last one, and whose send can be taken back, has no receipts
   pub last_is_unreceived : (later : List (Later T)) (front : List (Text × Message T)) (name : Text) (message : Message T) → LastIsUnreceived (seen_in later (front ++ (name, message) ∷ []))
       → message.received ≡ None
   last_is_unreceived later front name message unreceived = none message.received (ap (λ (m : Text × Sent T). m.1.receipts) same)
@@ -136,30 +140,32 @@ module _ {T : Type 0} where
       all : Messages T
       all = seen_in later (front ++ (name, message) ∷ [])
 
-      taken : Messages T
-      taken = (unreceived.0, record { sent = unreceived.1; receipts = [] }) ∷ []
+      taken : Text × Sent T
+      taken = (unreceived.0, record { sent = unreceived.1; receipts = [] })
 
-      own : Messages T
-      own = (name, sent_in later message) ∷ []
+      own : Text × Sent T
+      own = (name, sent_in later message)
 
-      here : slice_get all (length (without_last all)) ≡ Some (unreceived.0, record { sent = unreceived.1; receipts = [] })
-      here = ap (λ (list : Messages T). slice_get list (length (without_last all))) unreceived.2 ∙ slice_get-seam (without_last all) (unreceived.0, record { sent = unreceived.1; receipts = [] }) []
+      split : all ≡ seen_in later front ++ own ∷ []
+      split = map-append (λ (m : Text × Message T). (m.0, sent_in later m.1)) front ((name, message) ∷ [])
 
-      there : slice_get all (length (seen_in later front)) ≡ Some (name, sent_in later message)
-      there = ap (λ (list : Messages T). slice_get list (length (seen_in later front))) (map-append (λ (m : Text × Message T). (m.0, sent_in later m.1)) front ((name, message) ∷ []))
-          ∙ slice_get-seam (seen_in later front) (name, sent_in later message) []
+      here : slice_get all (length (without_last all)) ≡ Some taken
+      here = ap (λ (list : Messages T). slice_get list (length (without_last all))) unreceived.2 ∙ slice_get-seam (without_last all) taken []
+
+      there : slice_get all (length (seen_in later front)) ≡ Some own
+      there = ap (λ (list : Messages T). slice_get list (length (seen_in later front))) split ∙ slice_get-seam (seen_in later front) own []
 
       as_many : length (without_last all) ≡ length (seen_in later front)
       as_many = omega (
         arith,
-        ap length unreceived.2,
-        length-append (without_last all) taken,
-        ap length (map-append (λ (m : Text × Message T). (m.0, sent_in later m.1)) front ((name, message) ∷ [])),
-        length-append (seen_in later front) own,
+        ap (λ (list : Messages T). length list) unreceived.2,
+        length-append (without_last all) (taken ∷ []),
+        ap (λ (list : Messages T). length list) split,
+        length-append (seen_in later front) (own ∷ []),
       )
 
-      same : (name, sent_in later message) ≡ (unreceived.0, record { sent = unreceived.1; receipts = [] })
-      same = same_Some _ _ (sym there ∙ ap (slice_get all) (sym as_many) ∙ here)
+      same : own ≡ taken
+      same = same_Some own taken (sym there ∙ ap (slice_get all) (sym as_many) ∙ here)
 
       none : (received : Option (Received T)) → receipts_in later received ≡ [] → received ≡ None
       none None is = refl
@@ -167,39 +173,44 @@ module _ {T : Type 0} where
 
   -- ---- receipts
 
+  module _ (same : T → T → Bool) (book : Book T) (name : Text) (task : T) where
+    -- why a receipt is refused, of a message that is absent
+    pub refusal-absent : entry_of book.messages name ≡ None → refusal_of_receive same book name task ≡ Some NoMessage
+    refusal-absent absent = rw absent refl
+
+    -- and of one that is there
+    module _ (entry : Sent T) (found : entry_of book.messages name ≡ Some entry) where
+      refusal-found : refusal_of_receive same book name task ≡ (if has_receipt_by same task (Some entry) then Some AlreadyReceived else None)
+      refusal-found = rw found refl
+
+      pub refusal-again : has_receipt_by same task (Some entry) ≡ true → refusal_of_receive same book name task ≡ Some AlreadyReceived
+      refusal-again had = refusal-found ∙ ap (λ has. if has then Some AlreadyReceived else None) had
+
+      pub refusal-new : has_receipt_by same task (Some entry) ≡ false → refusal_of_receive same book name task ≡ None
+      refusal-new new = refusal-found ∙ ap (λ has. if has then Some AlreadyReceived else None) new
+
   module _ (same : T → T → Bool) (name : Text) (task : T) (event : ℕ) (before after : Book T) where
-    -- of a message that is absent
-    pub receives-absent : {A : Type 0} → entry_of before.messages name ≡ None → after ≡ before → Receives {A = A} same name task event before after (Err NoMessage)
-    receives-absent absent is =
-        let refusal : refusal_of_receive same before name task ≡ Some NoMessage = rw absent refl in
-        record { allowed = tt; ok = tt; code = sym (ap (λ refusal. unwrap_or refusal NoMemory) refusal); err = is; first = λ none. sym refusal }
+    -- what a receipt answers that is refused with the code that is due
+    pub receives-refused : {A : Type 0} (code : Code) → refusal_of_receive same before name task ≡ Some code → after ≡ before → Receives {A = A} same name task event before after (Err code)
+    receives-refused code refusal is = record {
+      allowed = tt;
+      ok = tt;
+      code = sym (ap (λ refusal. unwrap_or refusal NoMemory) refusal);
+      err = is;
+      first = λ none. sym refusal;
+    }
 
-    -- of one that is there
-    module _ (entry : Sent T) (found : entry_of before.messages name ≡ Some entry) where
-      pub refusal_in : refusal_of_receive same before name task ≡ (if has_receipt_by same task (Some entry) then Some AlreadyReceived else None)
-      refusal_in = rw found refl
+    pub receives-ok : {A : Type 0} (done : A) → refusal_of_receive same before name task ≡ None → after ≡ record before { messages = with_receipt name task event before.messages }
+        → Receives same name task event before after (Ok done)
+    receives-ok done allowed is = record { allowed = allowed; ok = is; code = tt; err = tt; first = λ none. sym allowed }
 
-      pub receives-ok : {A : Type 0} (done : A) → has_receipt_by same task (Some entry) ≡ false → after ≡ record before { messages = with_receipt name task event before.messages }
-          → Receives same name task event before after (Ok done)
-      receives-ok done new is =
-          let allowed = refusal_in ∙ ap (λ has. if has then Some AlreadyReceived else None) new in
-          record { allowed = allowed; ok = is; code = tt; err = tt; first = λ none. sym allowed }
-
-      pub receives-again : {A : Type 0} → has_receipt_by same task (Some entry) ≡ true → after ≡ before → Receives {A = A} same name task event before after (Err AlreadyReceived)
-      receives-again had is =
-          let refusal = refusal_in ∙ ap (λ has. if has then Some AlreadyReceived else None) had in
-          record { allowed = tt; ok = tt; code = sym (ap (λ refusal. unwrap_or refusal NoMemory) refusal); err = is; first = λ none. sym refusal }
-
-      pub receives-err : {A : Type 0} (code : Code) → code ≡ (if has_receipt_by same task (Some entry) then AlreadyReceived else NoMemory) → has_receipt (Some entry) ≡ true → after ≡ before
-          → Receives {A = A} same name task event before after (Err code)
-      receives-err code is some same_book = record {
-        allowed = tt;
-        ok = tt;
-        code = is ∙ by (has_receipt_by same task (Some entry)) ∙ sym (ap (λ refusal. unwrap_or refusal NoMemory) refusal_in);
-        err = same_book;
-        first = λ none. absurd (false≢true (sym (ap has_receipt (sym found) ∙ none) ∙ some));
-      }
-        where
-          by : (has : Bool) → (if has then AlreadyReceived else NoMemory) ≡ unwrap_or (if has then Some AlreadyReceived else None) NoMemory
-          by true = refl
-          by false = refl
+    -- and one that finds no memory, of a message that was received before
+    pub receives-no_memory : {A : Type 0} → refusal_of_receive same before name task ≡ None → has_receipt (entry_of before.messages name) ≡ true → after ≡ before
+        → Receives {A = A} same name task event before after (Err NoMemory)
+    receives-no_memory allowed received is = record {
+      allowed = tt;
+      ok = tt;
+      code = sym (ap (λ refusal. unwrap_or refusal NoMemory) allowed);
+      err = is;
+      first = λ none. absurd (false≢true (sym none ∙ received));
+    }

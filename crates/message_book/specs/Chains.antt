@@ -1,10 +1,10 @@
 -- How a book keeps receipts: the first one of a message with the message, and all others in one list. Each of these tells where the
 -- one before it stands, and a set tells which tasks they are by.
-use Rattle.std.specs.Prelude.{◌≡◌, ℕ, zero, suc, ◌==◌, ◌&&◌, Bool, true, false, not, List, [], ◌∷◌, ◌++◌, length, map, Option, Some, None, nat_le, slice_get}
+use Rattle.std.specs.Prelude.{◌≡◌, ℕ, zero, suc, ◌≤◌, ◌==◌, ◌&&◌, ◌||◌, Bool, true, false, not, List, [], ◌∷◌, ◌++◌, length, map, Option, Some, None, nat_le, slice_get}
 use Rattle.std.specs.List.{list_all, list_any}
 use Rattle.std.specs.Option.{option_map_or}
 use Rattle.trace_types.specs.text.Name.{Text}
-use Rattle.message_book.specs.Book.{Messages, Receipt, Sent}
+use Rattle.message_book.specs.Book.{Book, Messages, Receipt, Sent}
 use Rattle.message_book.specs.declared.message.Later.{Later}
 use Rattle.message_book.specs.declared.message.Message.{Message}
 use Rattle.message_book.specs.declared.message.Received.{Received}
@@ -67,6 +67,11 @@ module _ {T : Type 0} where
     abbrev pub has_key : List (T × ℕ) → T × ℕ → Bool
     has_key keys key = list_any (is_same_receipt key) keys
 
+    -- whether the task received the message at this place, whose receipts are these
+    abbrev pub is_receiver : List (T × ℕ) → ℕ → Option (Received T) → T → Bool
+    is_receiver keys place None task = false
+    is_receiver keys place (Some first) task = same first.task task || has_key keys (task, place)
+
     -- the set has exactly those receipts
     abbrev pub AreKnown : List (T × ℕ) → List (Later T) → List (Text × Message T) → Type 0
     AreKnown keys later messages = (task : T) (place : ℕ) → has_key keys (task, place) ≡ has_task same task (others_at later messages place)
@@ -77,3 +82,12 @@ pub record Kept (T : Type 0) : Type 0 where
   pub later : List (Later T)
   pub keys : List (T × ℕ)
   pub room : ℕ
+
+-- the book of a table of messages, at this limit
+abbrev pub book_of : {T : Type 0} → ℕ → List (Later T) → List (Text × Message T) → Book T
+book_of limit later messages = record { limit = limit; messages = seen_in later messages }
+
+-- There are no more messages than the limit, the receipts of each are chained, and the set has exactly those.
+abbrev pub IsSound : {T : Type 0} → (T → T → Bool) → ℕ → Kept T → List (Text × Message T) → Type 0
+IsSound same limit others messages =
+    (length messages ≤ limit) × (are_chained same others.later messages ≡ true) × AreKnown same others.keys others.later messages

@@ -1,5 +1,5 @@
 -- What a receipt makes of a book, and answers.
-use Rattle.std.specs.Prelude.{◌≡◌, ℕ, Bool, false, Option, Some, None, Result, IfErr, OnErr, OnOk, slice_get, unwrap_or}
+use Rattle.std.specs.Prelude.{◌≡◌, ℕ, Bool, false, Some, None, Result, IfErr, OnErr, OnOk, slice_get, unwrap_or}
 use Rattle.std.specs.Option.{option_map}
 use Rattle.std.specs.Result.{result_err}
 use Rattle.trace_types.specs.text.Name.{Text}

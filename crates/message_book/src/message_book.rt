@@ -31,20 +31,18 @@ pub struct MessageBook<T: Copy + Eq + Hash + Drop> {
 }
 
 impl<T: Copy + Eq + Hash + Drop> Model for MessageBook<T> {
-    ghost use Rattle.std.specs.Prelude.{◌≡◌, ◌≤◌, true, length};
     ghost use Rattle.indexmap.specs.IndexMap.{spare};
     ghost use Rattle.message_book.specs.Book.{Roomy};
-    ghost use Rattle.message_book.specs.Chains.{AreKnown, are_chained, seen_in};
+    ghost use Rattle.message_book.specs.Chains.{IsSound, book_of};
 
     ghost Value = { Roomy T };
 
     ghost view = { λ b. record {
-      book = record { limit = b.limit; messages = seen_in b.others.later b.messages.entries };
+      book = book_of b.limit b.others.later b.messages.entries;
       room = record { messages = spare b.messages; receipts = b.others.room };
     } };
 
-    ghost invariant = { λ b. (length b.messages.entries ≤ b.limit) × (are_chained T.eq b.others.later b.messages.entries ≡ true)
-        × AreKnown T.eq b.others.keys b.others.later b.messages.entries };
+    ghost invariant = { λ b. IsSound T.eq b.limit b.others b.messages.entries };
 }
 
 impl<T: Copy + Eq + Hash + Drop> MessageBook<T> {
@@ -110,7 +108,7 @@ impl<T: Copy + Eq + Hash + Drop> MessageBook<T> {
     pub fn check_send(&self, name: &Name) -> Result<(), Code>
         ensures { result_err result ≡ refusal_of_send self.now.book name.now }
     {
-        if self.messages.contains_key(name) {
+        if self.find(name).is_some() {
             Err(Code::MessageExists)
         } else if self.message_count() >= self.limit {
             Err(Code::MessagesFull)
@@ -171,12 +169,13 @@ impl<T: Copy + Eq + Hash + Drop> MessageBook<T> {
     {
         match self.messages.get_full(name) {
             None => Err(Code::NoMessage),
-            Some((place, _, message)) => match &message.received {
-                Some(first) if first.task == *task || self.others.has(*task, place) => {
+            Some((place, _, message)) => {
+                if self.others.has_receiver(place, &message.received, *task) {
                     Err(Code::AlreadyReceived)
+                } else {
+                    Ok((message.sent, place))
                 }
-                _ => Ok((message.sent, place)),
-            },
+            }
         }
     }
 
@@ -231,28 +230,37 @@ impl<T: Copy + Eq + Hash + Drop> MessageBook<T> {
         let Some((_, message)) = self.messages.get_index(place) else {
             return Err(Code::NoMessage);
         };
-        let received = match message.received {
-            None => Received {
-                task,
-                event,
-                others: 0,
-                newest: 0,
-            },
+        match message.received {
+            None => {
+                let first = Received {
+                    task,
+                    event,
+                    others: 0,
+                    newest: 0,
+                };
+                set_received(&mut self.messages, place, Some(first));
+                Ok(())
+            }
             Some(first) => {
                 if first.task == task {
                     return Err(Code::AlreadyReceived);
                 }
-                let before = first.newest;
-                let newest = self.others.add(place, Later { task, event, before })?;
-                Received {
-                    others: first.others + 1,
+                let one = Later {
+                    task,
+                    event,
+                    before: first.newest,
+                };
+                let newest = self.others.add(place, one)?;
+                let others = first.others + 1;
+                let received = Received {
+                    others,
                     newest,
                     ..first
-                }
+                };
+                set_received(&mut self.messages, place, Some(received));
+                Ok(())
             }
-        };
-        set_received(&mut self.messages, place, Some(received));
-        Ok(())
+        }
     }
 
     /// Takes the last send back, so the message is there no more. It takes no memory.
@@ -271,15 +279,21 @@ impl<T: Copy + Eq + Hash + Drop> MessageBook<T> {
         let Some((place, _, message)) = self.messages.get_full(name) else {
             return;
         };
-        let received = match message.received {
-            Some(first) if first.others > 0 => Some(Received {
-                others: first.others - 1,
-                newest: self.others.forget(place, first.newest),
-                ..first
-            }),
-            _ => None,
+        let Some(first) = message.received else {
+            return;
         };
-        set_received(&mut self.messages, place, received);
+        if first.others == 0 {
+            set_received(&mut self.messages, place, None);
+            return;
+        }
+        let newest = self.others.forget(place, first.newest);
+        let others = first.others - 1;
+        let received = Received {
+            others,
+            newest,
+            ..first
+        };
+        set_received(&mut self.messages, place, Some(received));
     }
 }
 

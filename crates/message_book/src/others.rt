@@ -1,9 +1,9 @@
 //! The receipts that are not the first ones of their messages.
-ghost use Rattle.std.specs.Prelude.{◌≡◌, ℕ, [], ◌+◌, ◌≤◌, ◌<◌, ◌∷◌, ◌++◌, ◌&&◌, ◌||◌, not, false, if◌then◌else◌, length, slice_get, Some, IsOk, IfOk, IfErr, OnOk, OnErr};
-ghost use Rattle.message_book.specs.Chains.{has_key, is_same_receipt};
+ghost use Rattle.std.specs.Prelude.{◌≡◌, ℕ, [], ◌+◌, ◌^◌, ◌≤◌, ◌<◌, ◌∷◌, ◌++◌, ◌&&◌, ◌||◌, not, false, if◌then◌else◌, length, slice_get, Some, IsOk, IfOk, IfErr, OnOk, OnErr};
+ghost use Rattle.message_book.specs.Chains.{has_key, is_receiver, is_same_receipt};
 ghost use Rattle.message_book.specs.declared.message.Later.{Later as Further};
 
-use crate::message::Later;
+use crate::message::{Later, Received};
 use indexmap::IndexSet;
 use std::alloc::Global;
 use std::hash::Hash;
@@ -54,9 +54,21 @@ impl<T: Copy + Eq + Hash + Drop> Others<T> {
         &self.later
     }
 
+    /// Whether the task received the message at this place, whose receipts are these. It takes no memory, and at most one
+    /// look-up by hash.
+    #[inline(always)]
+    pub(crate) fn has_receiver(&self, place: usize, received: &Option<Received<T>>, task: T) -> bool
+        ensures { result ≡ is_receiver T.eq self.now.keys place received.now task }
+    {
+        match received {
+            None => false,
+            Some(first) => first.task == task || self.has(task, place),
+        }
+    }
+
     /// Whether the task has one of the message at this place. It takes no memory, and one look-up by hash.
     #[inline(always)]
-    pub(crate) fn has(&self, task: T, place: usize) -> bool
+    fn has(&self, task: T, place: usize) -> bool
         ensures { result ≡ has_key T.eq self.now.keys (task, place) }
     {
         self.receivers.contains(&(task, place))
@@ -90,6 +102,7 @@ impl<T: Copy + Eq + Hash + Drop> Others<T> {
         ensures allowed { OnOk result (has_key T.eq self.old.keys (one.task, place) ≡ false) }
         ensures newest { IfOk result (λ newest. newest ≡ length self.old.later) }
         ensures later { OnOk result (self.new.later ≡ self.old.later ++ one ∷ []) }
+        ensures fits { OnOk result (length self.new.later < 2 ^ 64) }
         ensures keys { OnOk result ((task : T) (at : ℕ) → has_key T.eq self.new.keys (task, at) ≡ (is_same_receipt T.eq (one.task, place) (task, at) || has_key T.eq self.old.keys (task, at))) }
         ensures code { IfErr result (λ code. code ≡ (if has_key T.eq self.old.keys (one.task, place) then Code.AlreadyReceived else Code.NoMemory)) }
         ensures err { OnErr result ((self.new.later ≡ self.old.later) × (self.new.keys ≡ self.old.keys)) }
@@ -116,17 +129,14 @@ impl<T: Copy + Eq + Hash + Drop> Others<T> {
     /// Forgets that the task of the receipt at `newest` received the message at this place, and gives the place of the
     /// receipt before it. It takes no memory. The receipt itself stays, and nothing asks for it any more.
     pub(crate) fn forget(&mut self, place: usize, newest: usize) -> usize
+        requires { newest < length self.old.later }
         ensures later { self.new.later ≡ self.old.later }
         ensures before { (one : Further T) → slice_get self.old.later newest ≡ Some one → result ≡ one.before }
         ensures keys { (one : Further T) → slice_get self.old.later newest ≡ Some one → (task : T) (at : ℕ)
             → has_key T.eq self.new.keys (task, at) ≡ (not (is_same_receipt T.eq (one.task, place) (task, at)) && has_key T.eq self.old.keys (task, at)) }
     {
-        match self.later.get(newest) {
-            Some(one) => {
-                self.receivers.swap_remove(&(one.task, place));
-                one.before
-            }
-            None => 0,
-        }
+        let one = self.later[newest];
+        self.receivers.swap_remove(&(one.task, place));
+        one.before
     }
 }
