@@ -1,10 +1,10 @@
 -- Receipts that are not the first of their messages.
 use Rattle.std.proofs.Common.{◌≡◌, ◌≢◌, ◌⊎◌, ℕ, zero, suc, ◌+◌, ◌-◌, ◌<◌, eqb, nat_le, Bool, true, false, cond, not, ◌||◌, ◌&&◌, List, [], ◌∷◌, ◌++◌, length, map, drop, set, take, slice_get, Option, Some, None, refl, sym, ap, ◌∙◌, inl, inr, arith}
 use Rattle.std.proofs.Math.Bool.{or_comm}
-use Rattle.std.proofs.Math.Seq.{drop-length, take-append_seam}
+use Rattle.std.proofs.Math.Seq.{take-append_seam}
 use Rattle.std.proofs.lemmas.Bool.{false≢true, and_parts, cases_Bool, eq-eqb, eqb-true}
 use Rattle.std.proofs.lemmas.Bool.Decides.{nat_tests}
-use Rattle.std.proofs.lemmas.List.{append_assoc, append-nil, drop-set, length-append, length-set, map-append}
+use Rattle.std.proofs.lemmas.List.{append_assoc, drop-set, length-append, length-set, map-append}
 use Rattle.std.proofs.lemmas.List.Folds.{list_any-append, list_all-append}
 use Rattle.std.proofs.lemmas.Option.{same_Some, slice_get_within}
 use Rattle.std.specs.Cmp.{IsEquivalence}
@@ -66,6 +66,24 @@ module _ {T : Type 0} (same : T → T → Bool) where
   chain_link : (later : List (Later T)) (n place : ℕ) (one : Later T) → slice_get later place ≡ Some one → has_task same one.task (follow later n one.before) ≡ false
       → is_chain same later n one.before ≡ true → is_chain same later (suc n) place ≡ true
   chain_link later n place one there new before = ap (is_link later n) there ∙ (λ i. not (new i) && before i)
+
+  -- a chain has so many receipts
+  pub length-follow : (later : List (Later T)) (n place : ℕ) → is_chain same later n place ≡ true → length (follow later n place) ≡ n
+  length-follow later zero place is = refl
+  length-follow later (suc n) place is =
+      let link = newest_link later n place is in
+      omega (
+        arith,
+        ap length (follow_link later n place link.one link.there),
+        length-append (follow later n link.one.before) (receipt_of link.one ∷ []),
+        length-follow later n link.one.before link.before,
+      )
+
+  -- a message with other receipts than its first one has more than one
+  pub has_many : (later : List (Later T)) (first : Received T) → is_chained same later (Some first) ≡ true → first.others ≢ 0 → 1 < length (receipts_in later (Some first))
+  has_many later first is many =
+      let chain = and_parts (is_chain same later first.others first.newest) (nat_le first.others (length later)) is in
+      omega (arith, length-follow later first.others first.newest chain.0)
 
   -- a chain stays one, of the same receipts, where more are added to the list
   pub chain_longer : (later more : List (Later T)) (n place : ℕ) → is_chain same later n place ≡ true

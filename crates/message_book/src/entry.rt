@@ -1,5 +1,5 @@
 //! What the book has of one message.
-ghost use Rattle.std.specs.Prelude.{◌≡◌, ◌<◌, ◌-◌, true, drop, length, map, IfOk};
+ghost use Rattle.std.specs.Prelude.{◌≡◌, ◌<◌, ◌≤◌, ◌-◌, true, drop, length, map, IfOk, IsOk};
 ghost use Rattle.message_book.specs.Chains.{follow, is_chain, is_chained, sent_in};
 
 use crate::message::{Later, Message};
@@ -48,7 +48,8 @@ impl<'a, T: Copy + Eq + Hash> Entry<'a, T> {
     /// The events that received the message, in the order of the receipts. Returns `Memory` if it runs out of memory.
     /// None and one take none.
     pub fn receipts(&self, alloc: Global) -> Result<Receipts, Memory>
-        ensures { IfOk result (λ events. events ≡ map (λ receipt. receipt.event) self.now.receipts) }
+        ensures events { IfOk result (λ events. events ≡ map (λ receipt. receipt.event) self.now.receipts) }
+        ensures few { length self.now.receipts ≤ 1 → IsOk result }
     {
         match &self.message.received {
             None => Ok(Receipts::none(alloc)),

@@ -87,6 +87,7 @@ impl<T: Copy + Eq + Hash + Drop> MessageBook<T> {
         ensures book { self.new.book ≡ self.old.book }
         ensures room { OnOk result ((messages ≤ self.new.room.messages) × (receipts ≤ self.new.room.receipts)) }
         ensures more { (self.old.room.messages ≤ self.new.room.messages) × (self.old.room.receipts ≤ self.new.room.receipts) }
+        ensures there { messages ≤ self.old.room.messages → receipts ≤ self.old.room.receipts → IsOk result }
     {
         self.messages.reserve(messages)?;
         self.others.reserve(receipts)

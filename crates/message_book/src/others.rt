@@ -89,6 +89,7 @@ impl<T: Copy + Eq + Hash + Drop> Others<T> {
         ensures keys { self.new.keys ≡ self.old.keys }
         ensures room { OnOk result (more ≤ self.new.room) }
         ensures no_less { self.old.room ≤ self.new.room }
+        ensures there { more ≤ self.old.room → IsOk result }
     {
         self.receivers.reserve(more)?;
         Ok(self.later.reserve(more)?)
