@@ -10,21 +10,19 @@ pub use Rattle.event_tree.specs.Comparison.{IsBelow, StandsAs}
 pub use Rattle.tenant_ledger.specs.Answers.{code_of}
 pub use Rattle.tenant_ledger.specs.ClockLaws.{ClockLaws, OwnsSome, Raises}
 pub use Rattle.tenant_ledger.specs.Invariant.{EventsHavePrivatePoints, HasPrivatePoint, HolderIsAhead, holds, Invariant, IsPrivate, OneHolder, TreesRise, value_of}
-pub use Rattle.tenant_ledger.specs.Contents.{Contents, history_in, message_in, task_in, tenant_of, with_seed}
+pub use Rattle.tenant_ledger.specs.Contents.{Contents, history_in, task_in, tenant_of, with_seed}
 pub use Rattle.tenant_ledger.specs.Tasks.{IsTask}
-pub use Rattle.tenant_ledger.specs.Messages.{HasReceipts, IsMessage, last_receipt, receipt_before}
-pub use Rattle.tenant_ledger.specs.Told.{earlier_of, id_after, of_each, start_of}
+pub use Rattle.tenant_ledger.specs.Told.{id_after, of_each, start_of}
 pub use Rattle.tenant_ledger.specs.Points.{ArePoints, MayHavePoint}
 pub use Rattle.tenant_ledger.specs.Kept.{IsKept, IsKeptWith}
 pub use Rattle.tenant_ledger.specs.Room.{HasRoom}
 pub use Rattle.tenant_ledger.specs.Refusals.{Decides, refusals_of_named, refusals_of_received, refusals_of_report, refusals_of_room}
-pub use Rattle.tenant_ledger.specs.Reports.{IsFound, IsNamed, IsReport, kind_of, name_of, received_in, second_of, row_of_report}
+pub use Rattle.tenant_ledger.specs.Reports.{IsFound, IsNamed, IsReport, kind_of, name_of, second_of, row_of_report}
 pub use Rattle.tenant_ledger.specs.Making.{id_for, ids_made, made_ids, MayRaise}
-pub use Rattle.tenant_ledger.specs.Events.{acting_after, Event, event_of, last_in, named_after, noted_after, receipts_in}
-pub use Rattle.tenant_ledger.specs.Adding.{count_with, count_with_some, id_left, IsReady, message_count_with, messages_with, task_count_with, tasks_with, value_with, value_with_some, with_event}
+pub use Rattle.tenant_ledger.specs.Events.{acting_after, Event, event_of, named_after}
+pub use Rattle.tenant_ledger.specs.Adding.{count_with, count_with_some, id_left, IsReady, task_count_with, tasks_with, value_with, value_with_some, with_event}
 pub use Rattle.tenant_ledger.specs.Taking.{Prepares}
 pub use Rattle.tenant_ledger.specs.Legal.{Allows, AllowsNamed, IsLegal, IsLive}
-pub use Rattle.tenant_ledger.specs.declared.book.message.Message.{Message}
 pub use Rattle.tenant_ledger.specs.declared.book.report.Deed.{Deed}
 pub use Rattle.tenant_ledger.specs.declared.book.report.Report.{Report}
 pub use Rattle.tenant_ledger.specs.declared.book.task.Task.{Task}

@@ -3,11 +3,8 @@ pub mod Known
 pub mod Points
 pub mod Tasks
 pub mod Messages
-pub mod Receipts
 pub mod Drafted
-pub mod Received
 pub mod Tables
-pub mod Walks
 pub mod Kept
 pub mod Report
 pub mod Starts

@@ -1,18 +1,19 @@
 -- A book with one event more.
-use Rattle.std.specs.Prelude.{◌≡◌, ℕ, ◌+◌, if◌then◌else◌, List, [], ◌∷◌, ◌++◌, length, Option, Some, None, is_some, slice_get}
+use Rattle.std.specs.Prelude.{◌≡◌, ℕ, suc, ◌+◌, if◌then◌else◌, List, [], ◌∷◌, ◌++◌, length, nat_eq, Option, Some, None, is_some, slice_get}
 use Rattle.indexmap.specs.IndexMap.{insert_entry}
 use Rattle.trace_types.specs.text.Name.{Text, is_same}
 use Rattle.trace_types.specs.clock.Clock.{tree_clock}
 use Rattle.trace_types.specs.clock.Stamps.{id_of}
 use Rattle.trace_types.specs.clock.Id.{Id}
 use Rattle.trace_types.specs.clock.EventTree.{value}
-use Rattle.tenant_ledger.specs.declared.book.message.Message.{Message}
+use Rattle.trace_types.specs.declared.row.Kind.{Kind}
+use Rattle.trace_types.specs.declared.row.Kind.TheVariants.{Send, Recv}
+use Rattle.message_book.specs.Book.{Book, Messages, after_receive, after_send}
 use Rattle.tenant_ledger.specs.declared.book.task.Task.{Task}
-use Rattle.tenant_ledger.specs.Contents.{Contents, history_in, task_in, message_in}
-use Rattle.tenant_ledger.specs.Receipts.{with_key}
+use Rattle.tenant_ledger.specs.Contents.{Contents, history_in, messages_in, task_in}
 use Rattle.tenant_ledger.specs.Kept.{IsKept}
 use Rattle.tenant_ledger.specs.Room.{HasRoom}
-use Rattle.tenant_ledger.specs.Events.{last_in, key_by, Event, noted_with}
+use Rattle.tenant_ledger.specs.Events.{Event}
 
 -- what is kept under each name, and how many names there are, once a value is kept under this one
 abbrev pub value_with : {V : Type 0} → Text → V → (Text → Option V) → Text → Option V
@@ -38,6 +39,12 @@ entries_with None name entries = entries
 entries_with (Some value) None entries = entries
 entries_with (Some value) (Some name) entries = insert_entry is_same entries name value
 
+-- the messages after an event of this kind and number, whose task this event started
+abbrev pub messages_after : Kind → Option Text → ℕ → ℕ → Book ℕ → Messages ℕ
+messages_after Send (Some name) start event book = after_send name event book
+messages_after Recv (Some name) start event book = after_receive nat_eq name start event book
+messages_after kind name start event book = book.messages
+
 -- the book with the event
 abbrev pub with_event : Event → Contents → Contents
 with_event event book = record book {
@@ -47,12 +54,10 @@ with_event event book = record book {
   points = book.points ++ event.point ∷ [];
   starts = book.starts ++ event.acting.start ∷ [];
   places = book.places ++ event.acting.id ∷ [];
-  earlier = book.earlier ++ last_in event.received ∷ [];
-  received = with_key (key_by event.acting.start event.received) book.received;
   ids = book.ids ++ event.ids;
   kept_ids = book.kept_ids + length event.ids;
   tasks = insert_entry is_same (entries_with event.named event.row.name book.tasks) event.row.task event.acting;
-  messages = entries_with (noted_with event book) event.row.name book.messages;
+  messages = messages_after event.row.kind event.row.name event.acting.start (suc (length book.rows)) (messages_in book);
 }
 
 -- its tasks, and how many they are
@@ -62,13 +67,6 @@ tasks_with event book = value_with event.row.task event.acting (value_with_some 
 abbrev pub task_count_with : Event → Contents → ℕ
 task_count_with event book =
     count_with event.row.task (value_with_some event.named event.row.name (task_in book)) (count_with_some event.named event.row.name (task_in book) (length book.tasks))
-
--- its messages, and how many they are
-abbrev pub messages_with : Event → Contents → Text → Option Message
-messages_with event book = value_with_some (noted_with event book) event.row.name (message_in book)
-
-abbrev pub message_count_with : Event → Contents → ℕ
-message_count_with event book = count_with_some (noted_with event book) event.row.name (message_in book) (length book.messages)
 
 -- the id of its task after an event: the first that the event makes, else the one that is kept at this place
 abbrev pub id_left : List Id → List Id → ℕ → Option Id

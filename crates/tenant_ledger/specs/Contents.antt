@@ -1,5 +1,6 @@
 -- What a book has.
 use Rattle.std.specs.Prelude.{ℕ, List, [], ◌∷◌, Option}
+use Rattle.message_book.specs.Book.{Book, Messages}
 use Rattle.std.specs.Map.{lookup}
 use Rattle.trace_types.specs.text.Name.{Text, is_same}
 use Rattle.trace_types.specs.tenant.Limits.{Limits}
@@ -9,13 +10,8 @@ use Rattle.trace_types.specs.clock.Id.{Id, One}
 use Rattle.trace_types.specs.clock.EventTree.{EventTree}
 use Rattle.trace_types.specs.declared.row.Row.{Row}
 use Rattle.event_tree.specs.declared.point.RaisedPoint.{RaisedPoint}
-use Rattle.tenant_ledger.specs.declared.book.message.Message.{Message}
 use Rattle.tenant_ledger.specs.declared.book.task.Task.{Task}
 use Rattle.tenant_ledger.specs.declared.book.room.Room.{Room}
-
--- A receipt, by the event that started the task, or 0, and the event that sent the message.
-abbrev pub ReceiptKey : Type 0
-ReceiptKey = ℕ × ℕ
 
 -- What a book has: the trees and the ids as what they mean. Until the first id is kept, that of `root` stands for it.
 pub record Contents : Type 0 where
@@ -30,14 +26,11 @@ pub record Contents : Type 0 where
   -- the event that started each event's task, or 0
   pub starts : List ℕ
   pub places : List ℕ
-  -- the receipt before each event that receives a message, of the same message, or 0, as for any other event
-  pub earlier : List ℕ
-  -- which tasks received which messages
-  pub received : List ReceiptKey
   pub ids : List Id
   pub kept_ids : ℕ
   pub tasks : List (Text × Task)
-  pub messages : List (Text × Message)
+  -- each message with its receipts, by the events that started their tasks, or 0
+  pub messages : Messages ℕ
   pub room : Room
 
 -- the ids that are kept: until the first is, that of `root`, which has every point
@@ -57,6 +50,6 @@ tenant_of book = record { limits = book.limits; rows = book.rows }
 abbrev pub task_in : Contents → Text → Option Task
 task_in book name = lookup (is_same name) book.tasks
 
--- and the message
-abbrev pub message_in : Contents → Text → Option Message
-message_in book name = lookup (is_same name) book.messages
+-- its book of messages
+abbrev pub messages_in : Contents → Book ℕ
+messages_in book = record { limit = book.limits.messages; messages = book.messages }

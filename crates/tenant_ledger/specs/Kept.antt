@@ -1,21 +1,19 @@
 -- A book is kept for its rows.
 use Rattle.std.specs.Prelude.{◌≡◌, ℕ, ◌≤◌, ◌<◌, All, length, map, Option, Some, slice_get}
 use Rattle.trace_types.specs.text.Name.{Text}
-use Rattle.trace_types.specs.tenant.Rows.{task_count, message_count}
+use Rattle.trace_types.specs.tenant.Rows.{task_count}
 use Rattle.trace_types.specs.clock.Clock.{tree_clock}
 use Rattle.trace_types.specs.clock.Stamps.{tree_of}
 use Rattle.trace_types.specs.tenant.Tenant.{AreLegal}
-use Rattle.tenant_ledger.specs.declared.book.message.Message.{Message}
 use Rattle.tenant_ledger.specs.declared.book.task.Task.{Task}
-use Rattle.tenant_ledger.specs.Contents.{Contents, history_in, task_in, message_in}
+use Rattle.tenant_ledger.specs.Contents.{Contents, history_in, task_in}
 use Rattle.tenant_ledger.specs.Tasks.{IsTask}
-use Rattle.tenant_ledger.specs.Messages.{IsMessage}
-use Rattle.tenant_ledger.specs.Receipts.{keys_in}
-use Rattle.tenant_ledger.specs.Told.{of_each, id_after, start_of, earlier_of}
+use Rattle.tenant_ledger.specs.Messages.{messages_of}
+use Rattle.tenant_ledger.specs.Told.{of_each, id_after, start_of}
 use Rattle.tenant_ledger.specs.Points.{ArePoints}
 
--- The book is kept for its rows, with these tasks and these messages.
-pub record IsKeptWith (book : Contents) (tasks : Text → Option Task) (tasks_ever : ℕ) (messages : Text → Option Message) (messages_ever : ℕ) : Type 0 where
+-- The book is kept for its rows, with these tasks.
+pub record IsKeptWith (book : Contents) (tasks : Text → Option Task) (tasks_ever : ℕ) : Type 0 where
   pub legal : AreLegal book.limits book.rows
   pub small : length book.rows ≤ 16384
   pub trees : book.trees ≡ of_each (tree_of tree_clock) (history_in book)
@@ -25,12 +23,9 @@ pub record IsKeptWith (book : Contents) (tasks : Text → Option Task) (tasks_ev
   pub places : map (slice_get book.ids) book.places ≡ map Some (of_each id_after (history_in book))
   pub tasks_are : (name : Text) → IsTask book.ids (history_in book) name (tasks name)
   pub counted : tasks_ever ≡ task_count (history_in book)
-  pub earlier : book.earlier ≡ of_each earlier_of (history_in book)
-  pub received : book.received ≡ keys_in (history_in book)
-  pub messages_are : (name : Text) → IsMessage (history_in book) name (messages name)
-  pub messages_counted : messages_ever ≡ message_count (history_in book)
+  pub messages : book.messages ≡ messages_of (history_in book)
   pub seeded : 0 < length book.rows → 0 < book.kept_ids
 
--- The book is kept for its rows, with the tasks and the messages that it has.
+-- The book is kept for its rows, with the tasks that it has.
 abbrev pub IsKept : Contents → Type 0
-IsKept book = IsKeptWith book (task_in book) (length book.tasks) (message_in book) (length book.messages)
+IsKept book = IsKeptWith book (task_in book) (length book.tasks)

@@ -14,7 +14,6 @@ pub mod Messages
 pub mod NewBook
 pub mod Packing
 pub mod Points
-pub mod Receipts
 pub mod Refusals
 pub mod Reports
 pub mod Room

@@ -1,29 +1,18 @@
--- What is kept of a message.
-use Rattle.std.specs.Prelude.{◌≡◌, ℕ, false, true, length, Option, Some, None}
+-- The messages that a tenant's rows tell of.
+use Rattle.std.specs.Prelude.{ℕ, suc, [], ◌∷◌, length, Option, Some}
+use Rattle.message_book.specs.Book.{Messages, with_message, with_receipt}
 use Rattle.trace_types.specs.text.Name.{Text}
-use Rattle.trace_types.specs.tenant.Rows.{History, is_sent, newest, receives, send_event, receipts}
+use Rattle.trace_types.specs.tenant.Rows.{History, start_event}
 use Rattle.trace_types.specs.declared.row.Kind.{Kind}
-use Rattle.trace_types.specs.declared.row.Kind.TheVariants.{Recv}
-use Rattle.tenant_ledger.specs.declared.book.message.Message.{Message}
-use Rattle.tenant_ledger.specs.Contents.{Contents, history_in}
+use Rattle.trace_types.specs.declared.row.Kind.TheVariants.{Send, Recv}
 
--- the last event that received the message, or 0
-abbrev pub last_receipt : History → Text → ℕ
-last_receipt history message = newest (receives message) history
+-- the messages with that which an event of this kind and number sends, or receives, whose task this event started
+abbrev pub noted : Kind → Option Text → ℕ → ℕ → Messages ℕ → Messages ℕ
+noted Send (Some name) start event messages = with_message name event messages
+noted Recv (Some name) start event messages = with_receipt name start event messages
+noted kind name start event messages = messages
 
--- what is kept of a message: nothing where none of this name was sent
-abbrev pub IsMessage : History → Text → Option Message → Type 0
-IsMessage history name None = is_sent history name ≡ false
-IsMessage history name (Some message) =
-    (is_sent history name ≡ true) × (message.sent ≡ send_event history name) × (message.last ≡ last_receipt history name)
-    × (message.receipts ≡ length (receipts history name))
-
--- some message has this last receipt, or 0, and so many receipts
-abbrev pub HasReceipts : Contents → ℕ → ℕ → Type 0
-HasReceipts book last count =
-    (message : Text) × (last ≡ last_receipt (history_in book) message) × (count ≡ length (receipts (history_in book) message))
-
--- the last receipt of the message that such a report receives, or 0
-abbrev pub receipt_before : History → Kind → Option Text → ℕ
-receipt_before history Recv (Some message) = last_receipt history message
-receipt_before history kind name = 0
+-- the messages of these rows, each with its receipts by the events that started their tasks, or 0
+abbrev pub messages_of : History → Messages ℕ
+messages_of [] = []
+messages_of (row ∷ earlier) = noted row.kind row.name (start_event earlier row.task) (suc (length earlier)) (messages_of earlier)

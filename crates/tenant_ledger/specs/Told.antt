@@ -4,7 +4,6 @@ use Rattle.trace_types.specs.tenant.Rows.{History, start_event}
 use Rattle.trace_types.specs.clock.Clock.{tree_clock}
 use Rattle.trace_types.specs.clock.Stamps.{stamp_of}
 use Rattle.trace_types.specs.clock.Id.{Id}
-use Rattle.tenant_ledger.specs.Messages.{receipt_before}
 
 -- what is told of each event, in the order of the events
 abbrev pub of_each : {A : Type 0} → (History → ℕ → A) → History → List A
@@ -19,8 +18,3 @@ id_after history event = (stamp_of tree_clock history event).0
 abbrev pub start_of : History → ℕ → ℕ
 start_of [] event = 0
 start_of (row ∷ earlier) event = if event == suc (length earlier) then start_event (row ∷ earlier) row.task else start_of earlier event
-
--- the receipt before the event, of the message that it receives, or 0
-abbrev pub earlier_of : History → ℕ → ℕ
-earlier_of [] event = 0
-earlier_of (row ∷ earlier) event = if event == suc (length earlier) then receipt_before earlier row.kind row.name else earlier_of earlier event

@@ -3,7 +3,7 @@ ghost use Rattle.std.specs.Prelude.{◌≡◌, ◌-◌, ◌<◌, ◌≤◌, ◌=
 ghost use Rattle.trace_types.specs.tenant.Limits.{are_limits};
 ghost use Rattle.trace_types.specs.tenant.Rows.{is_event};
 ghost use Rattle.tenant_ledger.specs.IdValues.{id_of};
-ghost use Rattle.tenant_ledger.specs.Contents.{history_in, message_in, task_in};
+ghost use Rattle.tenant_ledger.specs.Contents.{history_in, task_in};
 ghost use Rattle.tenant_ledger.specs.Told.{id_after};
 ghost use Rattle.tenant_ledger.specs.Kept.{IsKept};
 ghost use Rattle.tenant_ledger.specs.Room.{HasAllRoom, HasRoom, HasRoomFor, roomless};
@@ -13,9 +13,7 @@ mod commit;
 mod draft;
 mod ids;
 mod kept;
-mod message;
 mod packing;
-mod receipts;
 mod report;
 mod room;
 mod task;
@@ -25,8 +23,8 @@ pub use draft::Draft;
 use event_tree::RaisedPoint;
 use id_tree::IdTree;
 use ids::Ids;
-use indexmap::{IndexMap, IndexSet};
-pub(crate) use message::Message;
+use indexmap::IndexMap;
+use message_book::MessageBook;
 use report::Report;
 use room::Room;
 use std::alloc::Global;
@@ -55,11 +53,6 @@ pub struct Book<S: Keep> {
     starts: Vec<u64>,
     /// The place of the id of each event's task after it, in the order of the events.
     places: Vec<usize>,
-    /// The receipt before each event that receives a message, of the same message, or 0, as for any other event. They are in the
-    /// order of the events.
-    earlier: Vec<u64>,
-    /// Each receipt, by the event that started its task, or 0, and the event that sent its message.
-    received: IndexSet<(u64, u64)>,
     /// For how many more events, receipts, ids, tasks and messages there is room.
     room: Room,
     /// Each id that some task has or had, that of `root` first.
@@ -67,14 +60,14 @@ pub struct Book<S: Keep> {
     /// How many nodes of these ids could be given back, or fewer. It is there for less memory alone.
     loose: u64,
     tasks: IndexMap<Name, Task>,
-    messages: IndexMap<Name, Message>,
+    /// Each message, and its receipts. A task is named by the event that started it, or by 0.
+    messages: MessageBook<u64>,
 }
 
 impl<S: Keep> Model for Book<S> {
     ghost use Rattle.std.specs.Prelude.{◌≡◌, ◌+◌, ◌-◌, ◌≤◌, length, map, vec_len, vec_capacity};
     ghost use Rattle.std.specs.Coded.{codes};
     ghost use Rattle.indexmap.specs.IndexMap.{spare};
-    ghost use Rattle.indexmap.specs.IndexSet.{spare as set_spare};
     ghost use Rattle.event_tree.specs.EventTreeCode.{event_tree_code};
     ghost use Rattle.id_tree.specs.IdCode.{id_code};
     ghost use Rattle.tenant_ledger.specs.Contents.{Contents, with_seed};
@@ -92,20 +85,18 @@ impl<S: Keep> Model for Book<S> {
       points = b.points.items;
       starts = b.starts.items;
       places = b.places.items;
-      earlier = b.earlier.items;
-      received = b.received.keys;
       ids = with_seed (map S.Id.id b.ids.items);
       kept_ids = length b.ids.items;
       tasks = b.tasks.entries;
-      messages = b.messages.entries;
+      messages = b.messages.book.messages;
       room = b.room;
     } };
 
     ghost invariant = { λ b. (vec_len b.rows + b.room.events ≤ vec_capacity b.rows) × (vec_len b.trees + b.room.events ≤ vec_capacity b.trees)
         × (vec_len b.points + b.room.events ≤ vec_capacity b.points) × (vec_len b.starts + b.room.events ≤ vec_capacity b.starts)
-        × (vec_len b.places + b.room.events ≤ vec_capacity b.places) × (vec_len b.earlier + b.room.events ≤ vec_capacity b.earlier)
-        × (b.room.receipts ≡ set_spare b.received) × (vec_len b.ids + b.room.ids ≡ vec_capacity b.ids)
-        × (b.room.tasks ≡ spare b.tasks) × (b.room.messages ≡ spare b.messages) };
+        × (vec_len b.places + b.room.events ≤ vec_capacity b.places) × (b.room.receipts ≡ b.messages.room.receipts)
+        × (vec_len b.ids + b.room.ids ≡ vec_capacity b.ids) × (b.room.tasks ≡ spare b.tasks)
+        × (b.room.messages ≡ b.messages.room.messages) × (b.messages.book.limit ≡ b.limits.messages) };
 }
 
 impl<S: Keep> Book<S> {
@@ -122,12 +113,9 @@ impl<S: Keep> Book<S> {
             id: 0,
         };
         tasks.insert(Name::root(), root)?;
-        let (received, ids, messages) = (
-            IndexSet::new(alloc),
-            Vec::new(alloc),
-            IndexMap::new(alloc),
-        );
-        let room = Room::of(0, &received, &ids, &tasks, &messages);
+        let ids = Vec::new(alloc);
+        let messages = MessageBook::new(alloc, limits.messages())?;
+        let room = Room::of(0, &ids, &tasks, &messages);
         Ok(Book {
             share,
             limits,
@@ -137,8 +125,6 @@ impl<S: Keep> Book<S> {
             points: Vec::new(alloc),
             starts: Vec::new(alloc),
             places: Vec::new(alloc),
-            earlier: Vec::new(alloc),
-            received,
             room,
             ids,
             loose: 0,
@@ -181,25 +167,17 @@ impl<S: Keep> Book<S> {
         self.points.reserve(more.events)?;
         self.starts.reserve(more.events)?;
         self.places.reserve(more.events)?;
-        self.earlier.reserve(more.events)?;
-        let receipts = self.received.reserve(more.receipts);
         let ids = self.ids.reserve(more.ids);
         let tasks = self.tasks.reserve(more.tasks);
-        let messages = self.messages.reserve(more.messages);
+        let messages = self.messages.reserve(more.messages, more.receipts);
         let events = (self.rows.capacity() - self.rows.len())
             .min(self.trees.capacity() - self.trees.len())
             .min(self.points.capacity() - self.points.len())
             .min(self.starts.capacity() - self.starts.len())
-            .min(self.places.capacity() - self.places.len())
-            .min(self.earlier.capacity() - self.earlier.len());
-        self.room = Room::of(
-            events,
-            &self.received,
-            &self.ids,
-            &self.tasks,
-            &self.messages,
-        );
-        Ok(receipts.and(ids).and(tasks).and(messages)?)
+            .min(self.places.capacity() - self.places.len());
+        self.room = Room::of(events, &self.ids, &self.tasks, &self.messages);
+        ids.and(tasks)?;
+        messages
     }
 
     /// Keeps the id of `root`, unless that was done.
@@ -317,17 +295,6 @@ impl<S: Keep> Book<S> {
         match self.tasks.get_full(name) {
             Some((place, _, task)) => Ok((task, place)),
             None => Err(Code::NoTask),
-        }
-    }
-
-    /// The message of this name, and its place in the table of messages, or `NoMessage` if there is none.
-    fn known_message(&self, name: &Name) -> Result<(&Message, usize), Code>
-        ensures ok { IfOk result (λ found. message_in self.now name.now ≡ Some found.0.now) }
-        ensures err { IfErr result (λ code. (code ≡ Code.NoMessage) × (message_in self.now name.now ≡ None)) }
-    {
-        match self.messages.get_full(name) {
-            Some((place, _, message)) => Ok((message, place)),
-            None => Err(Code::NoMessage),
         }
     }
 }

@@ -2,19 +2,20 @@
 use Rattle.std.proofs.Common.{◌≡◌, ℕ, false, ◌||◌, IsTrue, List, suc, ◌-◌, ◌<◌, ◌≤◌, [], ◌∷◌, ◌++◌, length, map, slice_get, option_map, Option, Some, refl, sym, ap, ◌∙◌, subst, inl, inr, arith}
 use Rattle.std.proofs.lemmas.List.Elements.{All-nil, All-push}
 use Rattle.trace_types.specs.clock.Id.{One}
-use Rattle.tenant_ledger.specs.Receipts.{key_of, keys_in, with_key}
+use Rattle.tenant_ledger.specs.Messages.{messages_of, noted}
 use Rattle.tenant_ledger.specs.Room.{roomless}
-use Rattle.tenant_ledger.specs.Events.{key_by}
 use Rattle.tenant_ledger.specs.NewBook.{new_book}
-use Rattle.tenant_ledger.proofs.Words.{nat_tests, cases_Bool, cond-true, or_left, length-append, length-map, length-reverse, reverse-append, map-append, same_Some, slice_get-map, is_same, root, Text, History, history_of, is_event, EventTree, task_count, tree_clock, id_of, tree_of, with_row, fresh, Limits, Row, IsLegal, Contents, Event, IsKept, IsTask, IsReport, IsReady, HasRoom, IsMessage, ArePoints, MayRaise, history_in, tenant_of, task_in, of_each, id_after, start_of, earlier_of, event_of, with_event, tasks_with, messages_with, last_in, message_count, kind_of, name_of, row_of_report, Report}
+use Rattle.tenant_ledger.proofs.Words.{nat_tests, cases_Bool, cond-true, or_left, length-append, length-map, length-reverse, reverse-append, map-append, same_Some, slice_get-map, is_same, root, Text, History, history_of, is_event, EventTree, task_count, tree_clock, id_of, tree_of, with_row, fresh, Limits, Row, IsLegal, Contents, Event, IsKept, IsTask, IsReport, IsReady, HasRoom, ArePoints, MayRaise, history_in, tenant_of, task_in, of_each, id_after, start_of, event_of, with_event, tasks_with, kind_of, name_of, row_of_report, Report}
 use Rattle.event_tree.specs.declared.point.RaisedPoint.{RaisedPoint}
 use Rattle.tenant_ledger.proofs.clock.Events.{event_bounds, tree_of-older}
 use Rattle.tenant_ledger.proofs.clock.Legality.{IsLegal_from_AreLegal}
+use Rattle.tenant_ledger.specs.Adding.{messages_after}
+use Rattle.tenant_ledger.specs.Contents.{messages_in}
+use Rattle.tenant_ledger.proofs.keeping.Known.{task_kept}
 use Rattle.tenant_ledger.proofs.keeping.Lists.{length-of_each, at_event, same_places, slice_get-seam, Stays}
-use Rattle.tenant_ledger.proofs.keeping.Messages.{messages_are_kept, messages_are_counted, earlier_is_kept}
+use Rattle.tenant_ledger.proofs.keeping.Messages.{is_noted}
 use Rattle.tenant_ledger.proofs.keeping.Points.{no_points, points_with_one}
-use Rattle.tenant_ledger.proofs.keeping.Received.{receipt_is_kept}
-use Rattle.tenant_ledger.proofs.keeping.Tables.{messages_counted, messages_found, tasks_counted, tasks_found}
+use Rattle.tenant_ledger.proofs.keeping.Tables.{tasks_counted, tasks_found}
 use Rattle.tenant_ledger.proofs.keeping.Tasks.{id_is_kept, id_is_left, start_is_kept, started_as, tasks_are_kept, tasks_are_counted}
 
 module _ (rows : List Row) (trees : List EventTree) (are : trees ≡ of_each (tree_of tree_clock) (history_of rows)) where
@@ -78,9 +79,8 @@ module _ (book : Contents) (kept : IsKept book) (report : Report) (is : IsReport
       let live = legal_with_row.0.0 in
       let allowed = legal_with_row.0.1 in
       let to_longer = sym (reverse-append book.rows (row ∷ [])) in
-      let receipt_is : key_by event.acting.start event.received ≡ key_of history report.task (kind_of report.deed) (name_of report.deed) =
-      (λ i. key_by (started_as report.deed (suc (length history)) (length book.ids) report.acting i) event.received)
-      ∙ receipt_is_kept book kept report.task report.acting is.acting report.deed is.found in
+      let number : suc (length book.rows) ≡ suc (length history) = omega (arith, length-reverse book.rows) in
+      let start = started_as report.deed (suc (length history)) (length book.ids) report.acting in
       let newest : id_after (row ∷ history) (suc (length history)) ≡ id_of tree_clock (row ∷ history) row.task = grind (arith, nat_tests) in
       record {
         legal = is.legal;
@@ -102,14 +102,10 @@ module _ (book : Contents) (kept : IsKept book) (report : Report) (is : IsReport
             (subst (λ h. IsTask (book.ids ++ event.ids) h name (tasks_with event book name)) to_longer
             (tasks_are_kept book kept report.task report.acting is.acting live report.deed is.found allowed name));
         counted = tasks_counted event book ∙ tasks_are_counted book kept report.task report.acting is.acting live report.deed is.found allowed ∙ ap task_count to_longer;
-        earlier = ap (λ list. list ++ last_in event.received ∷ []) kept.earlier
-            ∙ ap (λ last. of_each earlier_of history ++ last ∷ []) (earlier_is_kept book kept report.task report.deed is.found)
-            ∙ ap (of_each earlier_of) to_longer;
-        received = (λ i. with_key (receipt_is i) (kept.received i)) ∙ ap keys_in to_longer;
-        messages_are = λ name. subst (IsMessage (history_of (book.rows ++ row ∷ [])) name) (sym (messages_found event book name))
-            (subst (λ h. IsMessage h name (messages_with event book name)) to_longer
-            (messages_are_kept book kept report.task report.deed is.found allowed name));
-        messages_counted = messages_counted event book ∙ messages_are_counted book kept report.task report.deed is.found allowed ∙ ap message_count to_longer;
+        messages = (λ i. messages_after (kind_of report.deed) (name_of report.deed) (start i) (number i) (messages_in book))
+            ∙ is_noted book report.acting.start (suc (length history)) report.deed is.found
+            ∙ (λ i. noted (kind_of report.deed) (name_of report.deed) ((task_kept book kept report.task is.acting).4 i) (suc (length history)) (kept.messages i))
+            ∙ ap messages_of to_longer;
         seeded = λ _. omega (arith, seeded);
       }
 
@@ -168,10 +164,7 @@ new_is_kept home limits kept_ids new is = (
       places = refl;
       tasks_are = no_task;
       counted = refl;
-      earlier = refl;
-      received = refl;
-      messages_are = λ name. refl;
-      messages_counted = refl;
+      messages = refl;
       seeded = λ some. absurd (omega (arith, some));
     }
 

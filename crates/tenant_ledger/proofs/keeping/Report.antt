@@ -1,6 +1,6 @@
 -- What a report that is not refused says of the ids and of the trees that its event is made of.
 use Rattle.std.proofs.Common.{◌≡◌, ◌≢◌, ℕ, ◌+◌, ◌<◌, ◌≤◌, true, false, length, slice_get, Some, refl, sym, ap, ◌∙◌, subst, inl, inr, arith}
-use Rattle.tenant_ledger.proofs.Words.{false≢true, cond-true, cond-false, length-reverse, same_Some, slice_get_within, differ_by_test, Text, second_event, History, last_event, tree_clock, id_of, tree_of, acting_id, id_at, takes_in, Id, Zero, AreDisjoint, owns, EventTree, maximum, Row, Kind, Join, AllowsNamed, Contents, IsKept, IsReport, history_in, task_in, row_of_report, ids_made, id_for, kind_of, name_of, second_of, received_in, receipts_in, IsFound, Deed, Report, Task}
+use Rattle.tenant_ledger.proofs.Words.{false≢true, cond-true, cond-false, length-reverse, same_Some, slice_get_within, differ_by_test, Text, second_event, History, last_event, tree_clock, id_of, tree_of, acting_id, id_at, takes_in, Id, Zero, AreDisjoint, owns, EventTree, maximum, Row, Kind, Join, AllowsNamed, Contents, IsKept, IsReport, history_in, task_in, row_of_report, ids_made, id_for, kind_of, name_of, second_of, IsFound, Deed, Report, Task}
 use Rattle.tenant_ledger.specs.declared.book.report.Deed.TheVariants as deed
 use Rattle.tenant_ledger.proofs.clock.Consequences.{ids_are_disjoint, acting_id_is_not_Zero, known_before_maximum-le}
 use Rattle.tenant_ledger.proofs.clock.Events.{known_before_new}
@@ -8,7 +8,7 @@ use Rattle.tenant_ledger.proofs.clock.Reaching.{followed-le}
 use Rattle.tenant_ledger.proofs.clock.Tasks.{live_is_not_ended}
 use Rattle.tenant_ledger.proofs.keeping.Kept.{legal_with_row}
 use Rattle.tenant_ledger.proofs.keeping.Known.{legal_history, task_kept, IsAt, is_at}
-use Rattle.tenant_ledger.proofs.keeping.Messages.{message_kept, received-le}
+use Rattle.tenant_ledger.proofs.keeping.Messages.{sent_by}
 use Rattle.tenant_ledger.proofs.keeping.Tasks.{own_id}
 
 -- the id with which an event is made
@@ -17,10 +17,10 @@ acting_of_made Join own named = refl
 acting_of_made kind own named = refl
 
 -- the event that a report follows beside the last one of its task
-second_is_kept : (book : Contents) → IsKept book → (deed : Deed) → IsFound book deed → second_of deed ≡ second_event (history_in book) (kind_of deed) (name_of deed)
-second_is_kept book kept (deed.Recv message there found) is = (message_kept book kept message is).1
-second_is_kept book kept (deed.Join child there found) is = (task_kept book kept child is).2
-second_is_kept book kept deed is = refl
+second_is_kept : (book : Contents) → IsKept book → (start : ℕ) (deed : Deed) → IsFound book start deed → second_of deed ≡ second_event (history_in book) (kind_of deed) (name_of deed)
+second_is_kept book kept start (deed.Recv message there sent) is = sent_by book kept message is.1
+second_is_kept book kept start (deed.Join child there found) is = (task_kept book kept child is).2
+second_is_kept book kept start deed is = refl
 
 module _ {book : Contents} {report : Report} (kept : IsKept book) (is : IsReport book report) where
   abbrev history : History
@@ -46,15 +46,11 @@ module _ {book : Contents} {report : Report} (kept : IsKept book) (is : IsReport
   last-le = omega (arith, acting_last, followed-le row history (last_event history report.task) (inl refl), length-reverse book.rows)
 
   second_is : second_of report.deed ≡ second_event history (kind_of report.deed) (name_of report.deed)
-  second_is = second_is_kept book kept report.deed is.found
+  second_is = second_is_kept book kept report.acting.start report.deed is.found
 
   pub second-le : second_of report.deed ≤ length book.rows
   second-le =
       omega (arith, second_is, followed-le row history (second_event history (kind_of report.deed) (name_of report.deed)) (inr refl), length-reverse book.rows)
-
-  -- what it receives has fewer receipts than there may be
-  pub few_receipts : receipts_in (received_in report.deed) < 16384
-  few_receipts = omega (arith, received-le book kept report.deed is.found, length-reverse book.rows, is.few)
 
   -- an event may be made of what is known before it
   pub id_some : {id : Id} → id ≡ acting_id tree_clock history row → id ≢ Zero
@@ -82,7 +78,7 @@ module _ {book : Contents} {report : Report} (kept : IsKept book) (is : IsReport
     allowed_join = subst (λ one. AllowsNamed history (kind_of one) (name_of one)) join_is (legal_with_row book kept report is).0.1
 
     joined_found : task_in book child ≡ Some had
-    joined_found = subst (IsFound book) join_is is.found
+    joined_found = subst (IsFound book report.acting.start) join_is is.found
 
     joined_id_kept : slice_get book.ids had.id ≡ Some (id_of tree_clock history child)
     joined_id_kept =

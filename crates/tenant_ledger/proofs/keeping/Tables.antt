@@ -2,9 +2,8 @@
 use Rattle.std.proofs.Common.{◌≡◌, ◌+◌, true, false, cond, List, [], ◌∷◌, length, Option, Some, None, is_some, refl, sym, ap, ◌∙◌, subst, inl, inr, arith}
 use Rattle.std.specs.Map.{lookup}
 use Rattle.indexmap.specs.IndexMap.{insert_entry}
-use Rattle.tenant_ledger.specs.Events.{noted_with}
 use Rattle.tenant_ledger.specs.Adding.{entries_with}
-use Rattle.tenant_ledger.proofs.Words.{cases_Bool, cond-false, is_same_iff, Text, is_same, Event, Contents, value_with, value_with_some, count_with, count_with_some, with_event, tasks_with, task_count_with, messages_with, message_count_with, task_in, message_in}
+use Rattle.tenant_ledger.proofs.Words.{cases_Bool, cond-false, is_same_iff, Text, is_same, Event, Contents, value_with, value_with_some, count_with, count_with_some, with_event, tasks_with, task_count_with, task_in}
 use Rattle.tenant_ledger.proofs.keeping.Known.{differ_back}
 
 same_back : (one other : Text) → is_same one other ≡ true → is_same other one ≡ true
@@ -66,7 +65,7 @@ module _ {V : Type 0} where
   length-with (Some value) None entries = refl
   length-with (Some value) (Some name) entries = length-inserted entries name value
 
--- the tasks and the messages that a book has with an event
+-- the tasks that a book has with an event
 module _ (event : Event) (book : Contents) where
   pub tasks_found : (name : Text) → task_in (with_event event book) name ≡ tasks_with event book name
   tasks_found name =
@@ -78,21 +77,15 @@ module _ (event : Event) (book : Contents) where
       length-inserted (entries_with event.named event.row.name book.tasks) event.row.task event.acting
       ∙ (λ i. length-with event.named event.row.name book.tasks i + cond (is_some (found_with event.named event.row.name book.tasks event.row.task i)) 0 1)
 
-  pub messages_found : (name : Text) → message_in (with_event event book) name ≡ messages_with event book name
-  messages_found name = found_with (noted_with event book) event.row.name book.messages name
-
-  pub messages_counted : length (with_event event book).messages ≡ message_count_with event book
-  messages_counted = length-with (noted_with event book) event.row.name book.messages
-
 -- A book to which this event was added has it, however much room there is then. The event and the book before are told by equal ones.
 pub committed : (new : Contents) {event event_now : Event} {book book_now : Contents} → event ≡ event_now → book ≡ book_now
     → new.home ≡ (with_event event book).home → new.limits ≡ (with_event event book).limits → new.rows ≡ (with_event event book).rows
     → new.trees ≡ (with_event event book).trees → new.homes ≡ (with_event event book).homes → new.points ≡ (with_event event book).points
-    → new.starts ≡ (with_event event book).starts → new.places ≡ (with_event event book).places → new.earlier ≡ (with_event event book).earlier
-    → new.received ≡ (with_event event book).received → new.ids ≡ (with_event event book).ids → new.kept_ids ≡ (with_event event book).kept_ids
+    → new.starts ≡ (with_event event book).starts → new.places ≡ (with_event event book).places → new.ids ≡ (with_event event book).ids
+    → new.kept_ids ≡ (with_event event book).kept_ids
     → new.tasks ≡ (with_event event book).tasks → new.messages ≡ (with_event event book).messages
     → new ≡ record (with_event event_now book_now) { room = new.room }
-committed new {event} {event_now} {book} {book_now} event_is book_is home limits rows trees homes points starts places earlier received ids kept_ids tasks messages =
+committed new {event} {event_now} {book} {book_now} event_is book_is home limits rows trees homes points starts places ids kept_ids tasks messages =
     (λ i. record {
       home = home i;
       limits = limits i;
@@ -102,8 +95,6 @@ committed new {event} {event_now} {book} {book_now} event_is book_is home limits
       points = points i;
       starts = starts i;
       places = places i;
-      earlier = earlier i;
-      received = received i;
       ids = ids i;
       kept_ids = kept_ids i;
       tasks = tasks i;

@@ -165,7 +165,7 @@ module _ (book : Contents) (kept : IsKept book) (task : Text) (acting : Task) (f
         stands_by (row deed) history book.ids _ other differ (and_right (starts_task (kind_of deed)) _ unnamed) (and_right (joins_task (kind_of deed)) _ unnamed)
         (cond-false (is_same task other) _ _ differ ∙ cond-false (names (row deed) other) _ _ unnamed) (task_in book other) (kept.tasks_are other))
 
-    others_are_tasks : (deed : Deed) → IsFound book deed → Allowed deed → (other : Text) → is_same task other ≡ false
+    others_are_tasks : (deed : Deed) → IsFound book acting.start deed → Allowed deed → (other : Text) → is_same task other ≡ false
         → IsRight deed other (value_with_some (named_after deed event place) (name_of deed) (task_in book) other)
     others_are_tasks (deed.Spawn child) is allowed other differ = named_or_not (deed.Spawn child) child _ refl (started_is_task child allowed) other differ
     others_are_tasks (deed.Join child there had) is allowed other differ =
@@ -178,7 +178,7 @@ module _ (book : Contents) (kept : IsKept book) (task : Text) (acting : Task) (f
     tasks_after deed = value_with_some (named_after deed event place) (name_of deed) (task_in book)
 
     -- so it is of each task
-    pub tasks_are_kept : (deed : Deed) → IsFound book deed → Allowed deed → (other : Text)
+    pub tasks_are_kept : (deed : Deed) → IsFound book acting.start deed → Allowed deed → (other : Text)
         → IsRight deed other (value_with task (acting_after deed event place acting) (tasks_after deed) other)
     tasks_are_kept deed is allowed other =
         cond_both (is_same task other) _ _ (IsRight deed other)
@@ -192,13 +192,13 @@ module _ (book : Contents) (kept : IsKept book) (task : Text) (acting : Task) (f
     acting_is_there (Some child) (Some put) = cond_both (is_same child task) _ _ (λ had. is_some had ≡ true) (λ _. refl) (λ _. ap is_some found)
 
     -- and the tasks are counted
-    pub tasks_are_counted : (deed : Deed) → IsFound book deed → Allowed deed
+    pub tasks_are_counted : (deed : Deed) → IsFound book acting.start deed → Allowed deed
         → count_with task (tasks_after deed) (count_with_some (named_after deed event place) (name_of deed) (task_in book) (length book.tasks))
         ≡ task_count (row deed ∷ history)
     tasks_are_counted done is allowed =
         rw (acting_is_there (name_of done) (named_after done event place)) (omega (arith, by done is allowed, task_count-more (row done) history))
       where
-        by : (deed : Deed) → IsFound book deed → Allowed deed
+        by : (deed : Deed) → IsFound book acting.start deed → Allowed deed
             → count_with_some (named_after deed event place) (name_of deed) (task_in book) (length book.tasks) ≡ task_count history + cond (starts_task (kind_of deed)) 1 0
         by (deed.Spawn child) is allowed = rw (has_known book kept child ∙ allowed) (omega (arith, kept.counted))
         by (deed.Join child there had) is allowed = rw (has_known book kept child ∙ allowed.0) (omega (arith, kept.counted))

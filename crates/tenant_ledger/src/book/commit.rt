@@ -1,21 +1,19 @@
 //! Drafts are committed.
 ghost use Rattle.std.specs.Prelude.{◌≡◌, suc, ◌+◌, ◌<◌, ◌≤◌, ◌∷◌, IsTrue, Some, length, option_to_list, slice_get, vec_len, vec_capacity, ◌++◌};
 ghost use Rattle.indexmap.specs.IndexMap.{insert_entry, spare};
-ghost use Rattle.indexmap.specs.IndexSet.{spare as set_spare};
 ghost use Rattle.trace_types.specs.text.Name.{Text as Characters, is_same};
 ghost use Rattle.trace_types.specs.clock.Clock.{tree_clock};
 ghost use Rattle.trace_types.specs.clock.Stamps.{id_of};
 ghost use Rattle.tenant_ledger.specs.Contents.{history_in};
-ghost use Rattle.tenant_ledger.specs.Receipts.{with_key};
 ghost use Rattle.tenant_ledger.specs.Room.{HasRoom, UsesRoomOfOne};
-ghost use Rattle.tenant_ledger.specs.Adding.{IsReady, entries_with, with_event};
+ghost use Rattle.tenant_ledger.specs.Adding.{IsReady, entries_with, messages_after, with_event};
 
 use super::draft::Made;
-use super::message::{key_by, last_in, noted_after};
 use super::{Book, Draft};
 use crate::share::{Keep, KeptId};
-use indexmap::{IndexMap, IndexSet};
-use trace_types::Name;
+use indexmap::IndexMap;
+use message_book::MessageBook;
+use trace_types::{Kind, Name, Row};
 
 impl<S: Keep> Book<S> {
     /// The id that the draft's task has after its event: the first that the event makes, else the one from before.
@@ -46,7 +44,6 @@ impl<S: Keep> Book<S> {
             index,
             named,
             place,
-            received,
         } = draft;
         let Made {
             tree,
@@ -64,17 +61,14 @@ impl<S: Keep> Book<S> {
         add_some(&mut self.ids, &mut room.ids, second);
         put_some(&mut self.tasks, &mut room.tasks, place, name, named);
         put(&mut self.tasks, &mut room.tasks, index, &row.task, acting);
-        let noted = noted_after(row.kind, event, received);
-        put_some(&mut self.messages, &mut room.messages, place, name, noted);
-        let receipt = key_by(acting.start, received);
-        add_receipt(&mut self.received, &mut room.receipts, receipt);
+        let (messages, receipts) = (&mut room.messages, &mut room.receipts);
+        note(&mut self.messages, messages, receipts, &row, acting.start, place, event);
         room.events -= 1;
         self.rows.push_reserved(row);
         self.trees.push_reserved(tree);
         self.points.push_reserved(point);
         self.starts.push_reserved(acting.start);
         self.places.push_reserved(acting.id);
-        self.earlier.push_reserved(last_in(received));
         event
     }
 }
@@ -103,18 +97,35 @@ fn add_some<T>(items: &mut Vec<T>, room: &mut usize, item: Option<T>)
     }
 }
 
-/// Adds a receipt for which there is room, if one is given. What room is left is counted.
+/// Notes the message that an event sends or receives, if it does. A message that is received is looked for at this place first. There
+/// is room for it, and what is left for messages and receipts is counted.
 #[inline(always)]
-fn add_receipt(received: &mut IndexSet<(u64, u64)>, room: &mut usize, receipt: Option<(u64, u64)>)
-    requires some { 0 < room.old }
-    requires room { room.old ≡ set_spare received.old }
-    ensures keys { received.new.keys ≡ with_key receipt received.old.keys }
-    ensures room { room.new ≡ set_spare received.new }
-    ensures used { room.old ≤ room.new + 1 }
+fn note(
+    messages: &mut MessageBook<u64>,
+    for_messages: &mut usize,
+    for_receipts: &mut usize,
+    row: &Row,
+    start: u64,
+    place: usize,
+    event: u64,
+)
+    requires some { (0 < for_messages.old) × (0 < for_receipts.old) }
+    requires room { (for_messages.old ≡ messages.old.room.messages) × (for_receipts.old ≡ messages.old.room.receipts) }
+    ensures limit { messages.new.book.limit ≡ messages.old.book.limit }
+    ensures messages { messages.new.book.messages ≡ messages_after row.now.kind row.now.name start event messages.old.book }
+    ensures room { (for_messages.new ≡ messages.new.room.messages) × (for_receipts.new ≡ messages.new.room.receipts) }
+    ensures used { (for_messages.old ≤ for_messages.new + 1) × (for_receipts.old ≤ for_receipts.new + 1) }
 {
-    if let Some(receipt) = receipt {
-        received.insert(receipt).unwrap();
-        *room = received.capacity() - received.len();
+    match (row.kind, &row.name) {
+        (Kind::Send, Some(name)) => {
+            let _ = messages.send(*name, event);
+            *for_messages = messages.message_room();
+        }
+        (Kind::Recv, Some(name)) => {
+            let _ = messages.receive_at(place, name, start, event);
+            *for_receipts = messages.receipt_room();
+        }
+        _ => {}
     }
 }
 

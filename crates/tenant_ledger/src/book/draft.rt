@@ -14,7 +14,7 @@ ghost use Rattle.tenant_ledger.specs.Events.{event_of};
 ghost use Rattle.tenant_ledger.specs.Taking.{Drafts, Prepares, Takes, TakesReport};
 
 use super::report::Deed;
-use super::{Book, Message, Report, Room, Task};
+use super::{Book, Report, Room, Task};
 use crate::share::{Keep, KeptId, Share};
 use crate::{Shared, Stack};
 use event_tree::{EvTree, RaisedPoint};
@@ -36,18 +36,15 @@ pub struct Draft<S: Keep> {
     pub(super) index: usize,
     /// What is to be kept of the task that the event names.
     pub(super) named: Option<Task>,
-    /// The place of what the event joins or receives in the table of tasks or of messages, or 0.
+    /// The place of what the event joins or receives among the tasks or messages, or 0.
     pub(super) place: usize,
-    /// The message that the event receives, as it was before.
-    pub(super) received: Option<Message>,
 }
 
 impl<S: Keep> Model for Draft<S> {
     ghost use Rattle.std.specs.Coded.{codes};
     ghost use Rattle.event_tree.specs.EventTreeCode.{event_tree_code};
     ghost use Rattle.id_tree.specs.IdCode.{id_code};
-    ghost use Rattle.std.specs.Prelude.{◌<◌};
-    ghost use Rattle.tenant_ledger.specs.Events.{Event, receipts_in};
+    ghost use Rattle.tenant_ledger.specs.Events.{Event};
 
     ghost Value = { Event };
 
@@ -61,10 +58,7 @@ impl<S: Keep> Model for Draft<S> {
       ids = d.made.ids;
       acting = d.acting;
       named = d.named;
-      received = d.received;
     } };
-
-    ghost invariant = { λ d. receipts_in d.received < 16384 };
 }
 
 /// What is made of an event. The share keeps its tree and its ids.
@@ -145,7 +139,6 @@ impl Draft<Arc<Shared>> {
             index: self.index,
             named: self.named,
             place: self.place,
-            received: self.received,
         })
     }
 }
@@ -233,8 +226,8 @@ impl<S: Keep> Book<S> {
             Deed::Local => self.take_local(rt, stack, &report),
             Deed::Spawn(child) => self.take_spawn(rt, stack, &report, child),
             Deed::Send(message) => self.take_send(rt, stack, &report, message),
-            Deed::Recv(message, place, found) => {
-                self.take_recv(rt, stack, &report, message, *place, found)
+            Deed::Recv(message, place, sent) => {
+                self.take_recv(rt, stack, &report, message, *place, *sent)
             }
             Deed::End => self.take_end(rt, stack, &report),
             Deed::Join(child, place, found) => {
@@ -312,15 +305,15 @@ impl<S: Keep> Book<S> {
         report: &Report,
         message: &Name,
         place: usize,
-        found: &Message,
+        sent: u64,
     ) -> Result<u64, Code>
     where
         S: Share<R>,
         requires book { IsKept self.old }
-        requires report { IsReport self.old (record report.now { deed = Deed.Recv message.now place found.now }) }
-        ensures { TakesReport result self.old (record report.now { deed = Deed.Recv message.now place found.now }) self.new }
+        requires report { IsReport self.old (record report.now { deed = Deed.Recv message.now place sent }) }
+        ensures { TakesReport result self.old (record report.now { deed = Deed.Recv message.now place sent }) self.new }
     {
-        let deed = Deed::Recv(*message, place, *found);
+        let deed = Deed::Recv(*message, place, sent);
         let report = &Report { deed, ..*report };
         self.ready(rt, stack, report)?;
         let made = self.made(rt, report)?;
@@ -426,7 +419,6 @@ impl<S: Keep> Book<S> {
             index: report.index,
             named: after.named,
             place: after.place,
-            received: after.received,
         }
     }
 

@@ -73,12 +73,9 @@ impl<S: Keep> Book<S> {
         ensures found { IfOk result (λ found. found ≡ message_due (history_in self.now) name.now) }
         ensures sent { OnErr result (is_sent (history_in self.now) name.now ≡ true) }
     {
-        match self.known_message(name) {
-            Ok((message, _)) => Ok(Some((
-                message.sent,
-                self.receipts(message.last, message.receipts)?,
-            ))),
-            Err(_) => Ok(None),
+        match self.messages.find(name) {
+            Some(message) => Ok(Some((message.sent(), message.receipts(self.alloc)?))),
+            None => Ok(None),
         }
     }
 
@@ -95,7 +92,7 @@ impl<S: Keep> Book<S> {
         requires { IsKept self.now }
         ensures { result ≡ message_count (history_in self.now) }
     {
-        self.messages.len() as u64
+        self.messages.message_count()
     }
 
     /// The place of the event in the lists, or `None` if there is no such event.

@@ -1,16 +1,17 @@
 //! Reports that are not refused.
 ghost use Rattle.std.specs.Prelude.{◌≡◌, ◌<◌, true, IfOk, OnOk, Some, None, length};
+ghost use Rattle.message_book.specs.Book.{refusal_of_send};
 ghost use Rattle.std.specs.Result.{result_err};
 ghost use Rattle.trace_types.specs.tenant.Refusal.{refusal_of};
 ghost use Rattle.trace_types.specs.tenant.Tenant.{is_report, answer_to, accepted};
-ghost use Rattle.tenant_ledger.specs.Contents.{history_in, task_in, message_in};
+ghost use Rattle.tenant_ledger.specs.Contents.{history_in, messages_in, task_in};
 ghost use Rattle.tenant_ledger.specs.Kept.{IsKept};
 ghost use Rattle.tenant_ledger.specs.Refusals.{Decides, refusals_of_task, refusals_of_child, refusals_of_sent, refusals_of_received, refusals_of_joined, refusals_of_named, refusals_of_room};
-ghost use Rattle.tenant_ledger.specs.Reports.{IsFound, IsNamed, IsReport, kind_of, name_of, received_in, second_of};
+ghost use Rattle.tenant_ledger.specs.Reports.{IsFound, IsNamed, IsReport, kind_of, name_of, second_of};
 ghost use Rattle.tenant_ledger.specs.Events.{acting_after, named_after};
 ghost use Rattle.trace_types.specs.clock.Stamps.{takes_in};
 
-use super::{Book, Message, Task};
+use super::{Book, Task};
 use crate::share::Keep;
 use trace_types::{Code, Kind, Name, Request, TaskState};
 
@@ -24,7 +25,8 @@ pub(super) struct Report {
     pub(super) deed: Deed,
 }
 
-/// What the task did, with what the book has of the message or task that it names, and the place in the table of messages or tasks.
+/// What the task did. A message or task that it receives or joins comes with its place among them, and with the event that sent
+/// it, or with what the book has of it.
 #[derive(Clone, Copy)]
 pub(super) enum Deed {
     Local,
@@ -33,23 +35,21 @@ pub(super) enum Deed {
     /// It sends the message of this name.
     Send(Name),
     /// It receives this message.
-    Recv(Name, usize, Message),
+    Recv(Name, usize, u64),
     End,
     /// It joins this task.
     Join(Name, usize, Task),
 }
 
-/// What a report leaves of its tasks and its message.
+/// What a report leaves of its tasks.
 #[derive(Clone, Copy)]
 pub(super) struct Left {
     /// What is to be kept of the acting task.
     pub(super) acting: Task,
     /// What is to be kept of the task that it starts or joins.
     pub(super) named: Option<Task>,
-    /// The place of what it joins or receives in the table of tasks or of messages, or 0.
+    /// The place of what it joins or receives among the tasks or messages, or 0.
     pub(super) place: usize,
-    /// The message that it receives, as it was before.
-    pub(super) received: Option<Message>,
 }
 
 impl Deed {
@@ -87,7 +87,7 @@ impl Deed {
     {
         match self {
             Deed::Local | Deed::Spawn(_) | Deed::Send(_) | Deed::End => 0,
-            Deed::Recv(_, _, message) => message.sent,
+            Deed::Recv(_, _, sent) => *sent,
             Deed::Join(_, _, task) => task.last,
         }
     }
@@ -102,14 +102,13 @@ impl Deed {
 }
 
 impl Report {
-    /// What the report leaves of its tasks and its message, if it is this event. The first of the ids that are made is at this
+    /// What the report leaves of its tasks, if it is this event. The first of the ids that are made is at this
     /// place.
     #[inline(always)]
     pub(super) fn left(&self, event: u64, place: usize) -> Left
         requires { place < 18446744073709551615 }
         ensures acting { result.acting ≡ acting_after self.now.deed event place self.now.acting }
         ensures named { result.named ≡ named_after self.now.deed event place }
-        ensures received { result.received ≡ received_in self.now.deed }
     {
         let acting = Task {
             last: event,
@@ -119,7 +118,6 @@ impl Report {
             acting,
             named: None,
             place: 0,
-            received: None,
         };
         match self.deed {
             Deed::Local | Deed::Send(_) => alone,
@@ -136,9 +134,8 @@ impl Report {
                 }),
                 ..alone
             },
-            Deed::Recv(_, there, message) => Left {
+            Deed::Recv(_, there, _) => Left {
                 place: there,
-                received: Some(message),
                 ..alone
             },
             Deed::End => Left {
@@ -207,34 +204,20 @@ impl<S: Keep> Book<S> {
     /// Refuses a message that was sent, and one message more at the limit.
     fn check_message(&self, name: &Name) -> Result<(), Code>
         requires { IsKept self.now }
+        ensures message { OnOk result (refusal_of_send (messages_in self.now) name.now ≡ None) }
         ensures decides { Decides (refusals_of_sent self.now.limits (history_in self.now) name.now) result }
     {
-        match self.known_message(name) {
-            Ok(_) => Err(Code::MessageExists),
-            Err(_) if self.messages.len() as u64 >= self.limits.messages() => {
-                Err(Code::MessagesFull)
-            }
-            Err(_) => Ok(()),
-        }
+        self.messages.check_send(name)
     }
 
-    /// The message and its place, if the task may receive it, else `NoMessage` or `AlreadyReceived`.
-    fn sent_message(
-        &self,
-        task: &Name,
-        acting: &Task,
-        name: &Name,
-    ) -> Result<(Message, usize), Code>
+    /// The event that sent the message, and its place, if the task may receive it, else `NoMessage` or `AlreadyReceived`.
+    fn sent_message(&self, task: &Name, acting: &Task, name: &Name) -> Result<(u64, usize), Code>
         requires book { IsKept self.now }
         requires acting { task_in self.now task.now ≡ Some acting.now }
-        ensures message { IfOk result (λ found. message_in self.now name.now ≡ Some found.0) }
+        ensures message { IfOk result (λ found. IsFound self.now acting.now.start (Deed.Recv name.now found.1 found.0)) }
         ensures decides { Decides (refusals_of_received (history_in self.now) task.now name.now) result }
     {
-        let (message, place) = self.known_message(name)?;
-        if self.is_receiver(acting, message) {
-            return Err(Code::AlreadyReceived);
-        }
-        Ok((*message, place))
+        self.messages.find_to_receive(name, &acting.start)
     }
 
     /// Refuses one event more at the limit.
@@ -257,7 +240,7 @@ impl<S: Keep> Book<S> {
         requires named { IsNamed kind name }
         ensures kind { IfOk result (λ deed. kind_of deed ≡ kind) }
         ensures name { IfOk result (λ deed. name_of deed ≡ name) }
-        ensures found { IfOk result (IsFound self.now) }
+        ensures found { IfOk result (IsFound self.now acting.now.start) }
         ensures decides { Decides (refusals_of_named self.now.limits (history_in self.now) task.now kind name) result }
     {
         match kind {
@@ -274,8 +257,8 @@ impl<S: Keep> Book<S> {
             }
             Kind::Recv => {
                 let message = name.unwrap();
-                let (found, place) = self.sent_message(task, acting, &message)?;
-                Ok(Deed::Recv(message, place, found))
+                let (sent, place) = self.sent_message(task, acting, &message)?;
+                Ok(Deed::Recv(message, place, sent))
             }
             Kind::End => Ok(Deed::End),
             Kind::Join => {

@@ -1,10 +1,10 @@
 //! For how much more there is room.
 ghost use Rattle.std.specs.Prelude.{◌≡◌, ◌+◌, vec_capacity, vec_len};
 ghost use Rattle.indexmap.specs.IndexMap.{spare};
-ghost use Rattle.indexmap.specs.IndexSet.{spare as set_spare};
 
-use super::{Message, Task};
-use indexmap::{IndexMap, IndexSet};
+use super::Task;
+use indexmap::IndexMap;
+use message_book::MessageBook;
 use trace_types::Name;
 
 /// For how many more a book has room.
@@ -22,23 +22,22 @@ impl Room {
     /// Room for so many events, and for what these tables have room for.
     pub(super) fn of<T>(
         events: usize,
-        received: &IndexSet<(u64, u64)>,
         ids: &Vec<T>,
         tasks: &IndexMap<Name, Task>,
-        messages: &IndexMap<Name, Message>,
+        messages: &MessageBook<u64>,
     ) -> Room
         ensures events { result.events ≡ events }
-        ensures receipts { result.receipts ≡ set_spare received.now }
+        ensures receipts { result.receipts ≡ messages.now.room.receipts }
         ensures ids { vec_len ids.now + result.ids ≡ vec_capacity ids.now }
         ensures tasks { result.tasks ≡ spare tasks.now }
-        ensures messages { result.messages ≡ spare messages.now }
+        ensures messages { result.messages ≡ messages.now.room.messages }
     {
         Room {
             events,
-            receipts: received.capacity() - received.len(),
+            receipts: messages.receipt_room(),
             ids: ids.capacity() - ids.len(),
             tasks: tasks.capacity() - tasks.len(),
-            messages: messages.capacity() - messages.len(),
+            messages: messages.message_room(),
         }
     }
 }

@@ -1,11 +1,7 @@
-use Rattle.std.proofs.Common.{◌≡◌, suc, ◌+◌, length, ap, ◌∙◌, arith}
+use Rattle.std.proofs.Common.{◌≡◌, suc, ◌+◌, length, ◌∙◌, arith}
 use Rattle.tenant_ledger.specs.Events.{acting_after, named_after}
-use Rattle.tenant_ledger.proofs.Words.{length-reverse, history_in, receipts_in}
-use Rattle.tenant_ledger.proofs.keeping.Report.{few_receipts}
+use Rattle.tenant_ledger.proofs.Words.{length-reverse, history_in}
 use Rattle.tenant_ledger.proofs.book.Book.event.Goals as goal
-
-pub invariant_of-result : goal.invariant_of-result
-invariant_of-result g c = omega (arith, ap receipts_in c.left-after.ensures.received, few_receipts c.requires.book c.requires.report)
 
 pub returns-clause-event : goal.returns-clause-event
 returns-clause-event g c =
@@ -20,5 +16,4 @@ returns-clause-event g c =
       ids = c.requires.made.ids i;
       acting = (c.left-after.ensures.acting ∙ (λ i. acting_after report.deed (number i) (c.id_count.ensures.count i) report.acting)) i;
       named = (c.left-after.ensures.named ∙ (λ i. named_after report.deed (number i) (c.id_count.ensures.count i))) i;
-      received = c.left-after.ensures.received i;
     }
