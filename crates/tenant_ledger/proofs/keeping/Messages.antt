@@ -1,5 +1,5 @@
 -- The book of messages that the rows tell of answers as it is due.
-use Rattle.std.proofs.Common.{◌≡◌, ◌⊎◌, ℕ, suc, ◌+◌, ◌<◌, ◌||◌, ◌&&◌, Bool, true, false, cond, not, eqb, nat_le, nat_eq, List, [], ◌∷◌, ◌++◌, length, map, Option, Some, None, option_map, is_some, Result, Ok, Err, IfOk, OnOk, refl, sym, ap, ◌∙◌, subst, inl, inr, arith}
+use Rattle.std.proofs.Common.{◌≡◌, ◌⊎◌, ℕ, suc, ◌+◌, ◌<◌, ◌||◌, ◌&&◌, Bool, true, false, cond, if◌then◌else◌, not, eqb, nat_le, nat_eq, List, [], ◌∷◌, ◌++◌, length, map, Option, Some, None, option_map, is_some, Result, Ok, Err, IfOk, OnOk, refl, sym, ap, ◌∙◌, subst, inl, inr, arith}
 use Rattle.std.proofs.lemmas.List.Folds.{list_any-append}
 use Rattle.std.specs.Option.{option_map_or}
 use Rattle.std.specs.Result.{result_err}
@@ -99,6 +99,15 @@ told found = option_map (λ (entry : Sent ℕ). (entry.sent, map (λ (receipt : 
 abbrev due : Bool → ℕ → List ℕ → Option (ℕ × List ℕ)
 due sent event events = if sent then Some (event, events) else None
 
+-- and each of the two
+abbrev sent_in : Option (ℕ × List ℕ) → ℕ
+sent_in None = 0
+sent_in (Some found) = found.0
+
+abbrev events_in : Option (ℕ × List ℕ) → List ℕ
+events_in None = []
+events_in (Some found) = found.1
+
 pub is_told : (history : History) → IsLegal history → (name : Text) → told (entry_of (messages_of history) name) ≡ message_due history name
 is_told [] legal name = refl
 is_told (row ∷ earlier) legal name = by row.kind row.name legal.0.1 (is_told earlier legal.1)
@@ -137,9 +146,8 @@ is_told (row ∷ earlier) legal name = by row.kind row.name legal.0.1 (is_told e
         → told (option_map (entry_with_receipt start event) found) ≡ Some (number, events ++ event ∷ [])
     with_one None start number events is = cc
     with_one (Some entry) start number events is =
-        let pair : (entry.sent, map (λ (receipt : Receipt ℕ). receipt.event) entry.receipts) ≡ (number, events) = cc in
         ap (λ list. Some (entry.sent, list)) (map-append (λ (receipt : Receipt ℕ). receipt.event) entry.receipts (record { task = start; event = event } ∷ []))
-        ∙ (λ i. Some ((pair i).0, (pair i).1 ++ event ∷ []))
+        ∙ (λ i. Some (ap sent_in is i, ap events_in is i ++ event ∷ []))
 
     got_now : (got : Text) → is_sent earlier got ≡ true → ((other : Text) → told (entry_of (messages_of earlier) other) ≡ message_due earlier other)
         → (is_same got name ≡ true) ⊎ (is_same got name ≡ false)
@@ -314,6 +322,13 @@ is_receiver (row ∷ earlier) legal task message known = at (cases_Bool (starts 
         ap (λ start. has_receipt_by nat_eq start (entry_of (messages_of (row ∷ earlier)) message)) (start_event-other row earlier task unstarted)
         ∙ at_row (was_known unstarted) row.kind row.name legal.0.1 (before (was_known unstarted))
 
+-- a message that is told was sent by the event that is found
+sent_as : (found : Option (Sent ℕ)) {sent event : ℕ} → option_map (λ (entry : Sent ℕ). entry.sent) found ≡ Some sent → (was : Bool) (events : List ℕ)
+    → told found ≡ due was event events → sent ≡ event
+sent_as None none was events is = cc
+sent_as (Some entry) some false events is = cc
+sent_as (Some entry) some true events is = sym (ap (λ (found : Option ℕ). option_map_or (λ n. n) found 0) some) ∙ ap sent_in is
+
 module _ (book : Contents) (kept : IsKept book) where
   -- what a book tells of a message
   message_told : (name : Text) → told (entry_of book.messages name) ≡ message_due (history_in book) name
@@ -351,13 +366,7 @@ module _ (book : Contents) (kept : IsKept book) where
 
   -- the event that sent a message that is received
   pub sent_by : (name : Text) {sent : ℕ} → option_map (λ (entry : Sent ℕ). entry.sent) (entry_of book.messages name) ≡ Some sent → sent ≡ send_event (history_in book) name
-  sent_by name {sent} is = by (entry_of book.messages name) is (is_sent (history_in book) name) (message_told name)
-    where
-      by : (found : Option (Sent ℕ)) → option_map (λ (entry : Sent ℕ). entry.sent) found ≡ Some sent → (was : Bool)
-          → told found ≡ due was (send_event (history_in book) name) (receipts (history_in book) name) → sent ≡ send_event (history_in book) name
-      by None none was is = cc
-      by (Some entry) some false is = cc
-      by (Some entry) some true is = cc
+  sent_by name is = sent_as (entry_of book.messages name) is (is_sent (history_in book) name) (receipts (history_in book) name) (message_told name)
 
 -- what was not refused, by the code with which it would have been
 pub not_refused : {A : Type 0} (result : Result A Code) {refusal : Option Code} → result_err result ≡ refusal → OnOk result (refusal ≡ None)

@@ -6,6 +6,7 @@ use Rattle.event_tree.specs.declared.point.RaisedPoint.{RaisedPoint}
 use Rattle.event_tree.specs.Risen.{IsRaisedAt}
 use Rattle.trace_types.specs.clock.Points.{Point}
 use Rattle.tenant_ledger.specs.Laws.{IsRaisedBy, known_before_event}
+use Rattle.tenant_ledger.specs.Making.{tree_of_report}
 use Rattle.tenant_ledger.proofs.clock.Events.{known_before_new, tree_of-new, tree_of-older}
 use Rattle.tenant_ledger.proofs.clock.Reaching.{new_event}
 
@@ -85,16 +86,24 @@ raised_by_newest row history (Some deciding) raised own = record {
   own = own;
 }
 
+-- what an event of a report was made as is what it knows
+pub tree_by_report : (book : Contents) (report : Report) {id : Id} {known : EventTree} {Fault : Type 0}
+    → id ≡ acting_id tree_clock (history_in book) (row_of_report book report) → known ≡ known_before_new tree_clock (row_of_report book report) (history_in book)
+    → (found : Result (EventTree × Option RaisedPoint) Fault) → IfOk found (λ f. f.0 ≡ tree_clock.event id known) → IfOk found (λ f. f.0 ≡ tree_of_report book report)
+tree_by_report book report id_is known_is (Ok (tree, point)) tree_is =
+    tree_is ∙ (λ i. tree_clock.event (id_is i) (known_is i)) ∙ sym (tree_of-new tree_clock (row_of_report book report) (history_in book))
+tree_by_report book report id_is known_is (Err fault) tree_is = tt
+
 -- so is one that was found with the tree that the event of a report was made of
 pub found_by_report : (book : Contents) (report : Report) {id : Id} {known : EventTree} {Fault : Type 0}
     → id ≡ acting_id tree_clock (history_in book) (row_of_report book report) → known ≡ known_before_new tree_clock (row_of_report book report) (history_in book)
     → (found : Result (EventTree × Option RaisedPoint) Fault) → IfOk found (λ f. f.0 ≡ tree_clock.event id known)
     → IfOk found (λ f. IfSome f.1 (λ deciding. IsRaisedAt id known f.0 deciding.point)) → IfOk found (λ f. IfSome f.1 (λ deciding. deciding.value ≡ value f.0 deciding.point))
     → IfOk found (λ f. MayRaise book report f.1)
-found_by_report book report id_is known_is (Ok (tree, point)) tree_is raised own =
+found_by_report book report {id} {known} {Fault} id_is known_is (Ok (tree, point)) tree_is raised own =
     let row = row_of_report book report in
     let same : tree ≡ tree_of tree_clock (row ∷ history_in book) (new_event (history_in book)) =
-    tree_is ∙ (λ i. tree_clock.event (id_is i) (known_is i)) ∙ sym (tree_of-new tree_clock row (history_in book)) in
+    tree_by_report book report {id = id} {known = known} {Fault = Fault} id_is known_is (Ok (tree, point)) tree_is in
     raised_by_newest row (history_in book) point (transport (λ i. IfSome point (λ deciding. IsRaisedAt (id_is i) (known_is i) (same i) deciding.point)) raised)
     (transport (λ i. IfSome point (λ deciding. deciding.value ≡ value (same i) deciding.point)) own)
 found_by_report book report id_is known_is (Err fault) tree_is raised own = tt

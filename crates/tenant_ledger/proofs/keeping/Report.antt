@@ -45,7 +45,7 @@ module _ {book : Contents} {report : Report} (kept : IsKept book) (is : IsReport
   pub last-le : report.acting.last ≤ length book.rows
   last-le = omega (arith, acting_last, followed-le row history (last_event history report.task) (inl refl), length-reverse book.rows)
 
-  second_is : second_of report.deed ≡ second_event history (kind_of report.deed) (name_of report.deed)
+  pub second_is : second_of report.deed ≡ second_event history (kind_of report.deed) (name_of report.deed)
   second_is = second_is_kept book kept report.acting.start report.deed is.found
 
   pub second-le : second_of report.deed ≤ length book.rows

@@ -25,7 +25,7 @@ returns-clause-book g c =
     let count : length c.add_some-2.new.items.items ≡ length book.ids.items + length (map id made) =
     omega (arith, ap length ids, length-append book.ids.items made, length-map made id) in
     let some : 0 < length book.ids.items = omega (arith, c.requires.seeded, seeded) in
-    let number : c.len-event.result + 1 ≡ suc (length book.rows.items) = omega (arith, c.len-event.ensures) in
+    let number : c.len.result + 1 ≡ suc (length book.rows.items) = omega (arith, c.len.ensures) in
     let limit : book.messages.book.limit ≡ book.limits.messages = c.self.invariant.9 in
     let messages : c.note.new.messages.book.messages ≡ messages_after draft.row.kind draft.row.name draft.acting.start (suc (length book.rows.items)) (record { limit = book.limits.messages; messages = book.messages.book.messages }) =
     c.note.ensures.messages ∙ (λ i. messages_after draft.row.kind draft.row.name draft.acting.start (number i) (record { limit = limit i; messages = book.messages.book.messages })) in
