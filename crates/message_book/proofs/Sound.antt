@@ -229,10 +229,10 @@ module _ {T : Type 0} where
                     ∙ receipts-longer same others.later (one_more ∷ []) message.received chained
                     ∙ ap (receipts_in others.later) some
 
-            pub few_enough : length after.later < 2 ^ 64 → first.others + 1 < 2 ^ 64
+            pub few_enough : length after.later < 2 ^ 32 → first.others + 1 < 2 ^ 32
             few_enough fits = few (and_parts (is_chain same others.later first.others first.newest) (nat_le first.others (length others.later)) first_chained).1
               where
-                few : nat_le first.others (length others.later) ≡ true → first.others + 1 < 2 ^ 64
+                few : nat_le first.others (length others.later) ≡ true → first.others + 1 < 2 ^ 32
                 few is = grind (arith, nat_tests, is, fits, ap length added.later, length-append others.later (one_more ∷ []))
 
         -- ---- and what is left of it without its last one

@@ -42,7 +42,7 @@ impl<'a, T: Copy + Eq + Hash> Entry<'a, T> {
     pub fn sent(&self) -> u64
         ensures { result ≡ self.now.sent }
     {
-        self.message.sent
+        u64::from(self.message.sent)
     }
 
     /// The events that received the message, in the order of the receipts. Returns `Memory` if it runs out of memory.
@@ -53,12 +53,12 @@ impl<'a, T: Copy + Eq + Hash> Entry<'a, T> {
     {
         match &self.message.received {
             None => Ok(Receipts::none(alloc)),
-            Some(first) if first.others == 0 => Ok(Receipts::one(alloc, first.event)),
+            Some(first) if first.others == 0 => Ok(Receipts::one(alloc, u64::from(first.event))),
             Some(first) => {
                 let mut events = Vec::new(alloc);
-                events.resize(first.others.checked_add(1).ok_or(Memory)?, 0)?;
+                events.resize(first.others as usize + 1, 0)?;
                 fill(self.later, events.as_mut_slice(), first.newest);
-                events[0] = first.event;
+                events[0] = u64::from(first.event);
                 Ok(Receipts::from(events))
             }
         }
@@ -66,16 +66,16 @@ impl<'a, T: Copy + Eq + Hash> Entry<'a, T> {
 }
 
 /// Writes the events of receipts of a message from the last place back to the second. The newest receipt is at this place.
-fn fill<T: Copy + Eq + Hash>(later: &[Later<T>], events: &mut [u64], newest: usize)
+fn fill<T: Copy + Eq + Hash>(later: &[Later<T>], events: &mut [u64], newest: u32)
     requires some { 0 < length events.old }
     requires chain { is_chain T.eq later.now (length events.old - 1) newest ≡ true }
     ensures { drop 1 events.new ≡ map (λ receipt. receipt.event) (follow later.now (length events.old - 1) newest) }
 {
-    let (mut left, mut place) = (events.len() - 1, newest);
+    let (mut left, mut place) = (events.len() - 1, newest as usize);
     while left > 0 {
         let one = &later[place];
-        events[left] = one.event;
-        place = one.before;
+        events[left] = u64::from(one.event);
+        place = one.before as usize;
         left -= 1;
     }
 }

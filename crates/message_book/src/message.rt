@@ -4,7 +4,7 @@
 #[derive(Clone, Copy)]
 pub(crate) struct Message<T> {
     /// The event that sent the message.
-    pub(crate) sent: u64,
+    pub(crate) sent: u32,
     pub(crate) received: Option<Received<T>>,
 }
 
@@ -13,18 +13,18 @@ pub(crate) struct Message<T> {
 pub(crate) struct Received<T> {
     /// The task of the first receipt, and its event.
     pub(crate) task: T,
-    pub(crate) event: u64,
+    pub(crate) event: u32,
     /// How many others there are.
-    pub(crate) others: usize,
+    pub(crate) others: u32,
     /// The place of the newest of them. Nothing asks for it if there are none.
-    pub(crate) newest: usize,
+    pub(crate) newest: u32,
 }
 
 /// A receipt that is not the first one of its message.
 #[derive(Clone, Copy)]
 pub(crate) struct Later<T> {
     pub(crate) task: T,
-    pub(crate) event: u64,
+    pub(crate) event: u32,
     /// The place of the one before it, of the same message. Nothing asks for that of the oldest one.
-    pub(crate) before: usize,
+    pub(crate) before: u32,
 }

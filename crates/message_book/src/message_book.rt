@@ -121,7 +121,7 @@ impl<T: Copy + Eq + Hash + Drop> MessageBook<T> {
     /// Adds a message that this event sends.
     ///
     /// It is refused as [`MessageBook::check_send`] says, else with `NoMemory` (507) if it runs out of memory.
-    pub fn send(&mut self, name: Name, event: u64) -> Result<(), Code>
+    pub fn send(&mut self, name: Name, event: u32) -> Result<(), Code>
         ensures allowed { OnOk result (refusal_of_send self.old.book name ≡ None) }
         ensures ok { OnOk result (self.new.book ≡ record self.old.book { messages = with_message name event self.old.book.messages }) }
         ensures code { IfErr result (λ code. code ≡ unwrap_or (refusal_of_send self.old.book name) Code.NoMemory) }
@@ -136,7 +136,7 @@ impl<T: Copy + Eq + Hash + Drop> MessageBook<T> {
     /// Adds a message that can be sent, by this event.
     ///
     /// Returns `Memory`, and changes nothing, if it runs out of memory.
-    pub fn add(&mut self, name: Name, event: u64) -> Result<(), Memory>
+    pub fn add(&mut self, name: Name, event: u32) -> Result<(), Memory>
         requires { refusal_of_send self.old.book name ≡ None }
         ensures ok { OnOk result (self.new.book ≡ record self.old.book { messages = with_message name event self.old.book.messages }) }
         ensures err { OnErr result (self.new.book ≡ self.old.book) }
@@ -174,7 +174,7 @@ impl<T: Copy + Eq + Hash + Drop> MessageBook<T> {
                 if self.others.has_receiver(place, &message.received, *task) {
                     Err(Code::AlreadyReceived)
                 } else {
-                    Ok((message.sent, place))
+                    Ok((u64::from(message.sent), place))
                 }
             }
         }
@@ -184,7 +184,7 @@ impl<T: Copy + Eq + Hash + Drop> MessageBook<T> {
     ///
     /// It is refused as [`MessageBook::check_receive`] says, else with `NoMemory` (507) if it runs out of memory. The
     /// first receipt of a message takes no memory.
-    pub fn receive(&mut self, name: &Name, task: T, event: u64) -> Result<(), Code>
+    pub fn receive(&mut self, name: &Name, task: T, event: u32) -> Result<(), Code>
         ensures allowed { OnOk result (refusal_of_receive T.eq self.old.book name.now task ≡ None) }
         ensures ok { OnOk result (self.new.book ≡ record self.old.book { messages = with_receipt name.now task event self.old.book.messages }) }
         ensures code { IfErr result (λ code. code ≡ unwrap_or (refusal_of_receive T.eq self.old.book name.now task) Code.NoMemory) }
@@ -195,7 +195,7 @@ impl<T: Copy + Eq + Hash + Drop> MessageBook<T> {
     }
 
     /// The same, where the message is looked for at this place first. If there is room for a receipt, it takes no memory.
-    pub fn receive_at(&mut self, place: usize, name: &Name, task: T, event: u64) -> Result<(), Code>
+    pub fn receive_at(&mut self, place: usize, name: &Name, task: T, event: u32) -> Result<(), Code>
         ensures received { Receives T.eq name.now task event self.old.book self.new.book result }
         ensures room { 0 < self.old.room.receipts → result_err result ≡ refusal_of_receive T.eq self.old.book name.now task }
         ensures used { (self.old.room.receipts ≤ self.new.room.receipts + 1) × (self.new.room.messages ≡ self.old.room.messages) }
@@ -223,7 +223,7 @@ impl<T: Copy + Eq + Hash + Drop> MessageBook<T> {
 
     /// Adds the receipt of the message at this place, of which nothing is said if there is none.
     #[inline(always)]
-    fn receive_in(&mut self, place: usize, task: T, event: u64) -> Result<(), Code>
+    fn receive_in(&mut self, place: usize, task: T, event: u32) -> Result<(), Code>
         ensures received { (name : Characters) → IsAt self.old.book.messages name place → Receives T.eq name task event self.old.book self.new.book result }
         ensures room { (name : Characters) → IsAt self.old.book.messages name place → 0 < self.old.room.receipts → result_err result ≡ refusal_of_receive T.eq self.old.book name task }
         ensures used { (self.old.room.receipts ≤ self.new.room.receipts + 1) × (self.new.room.messages ≡ self.old.room.messages) }

@@ -10,6 +10,9 @@ use std::hash::Hash;
 use std::marker::Model;
 use trace_types::{Code, Memory};
 
+/// So many receipts can be told apart by their places.
+const MOST: usize = 4294967295;
+
 /// The receipts of all messages but for the first one of each, and which tasks they are by, found by hash.
 ///
 /// A contract sees them in the order in which they were taken, the tasks with the places of their messages, and for how
@@ -30,7 +33,7 @@ impl<T: Copy + Eq + Hash + Drop> Model for Others<T> {
     ghost view = { λ o. record {
       later = o.later.items;
       keys = o.receivers.keys;
-      room = min (spare o.receivers) (vec_capacity o.later - vec_len o.later);
+      room = min (min (spare o.receivers) (vec_capacity o.later - vec_len o.later)) (4294967295 - vec_len o.later);
     } };
 }
 
@@ -81,6 +84,7 @@ impl<T: Copy + Eq + Hash + Drop> Others<T> {
     {
         let keys = self.receivers.capacity() - self.receivers.len();
         keys.min(self.later.capacity() - self.later.len())
+            .min(MOST.saturating_sub(self.later.len()))
     }
 
     /// Makes room for so many more. Returns `Memory` if it runs out of memory. There is then no less room than before.
@@ -91,6 +95,9 @@ impl<T: Copy + Eq + Hash + Drop> Others<T> {
         ensures no_less { self.old.room ≤ self.new.room }
         ensures there { more ≤ self.old.room → IsOk result }
     {
+        if more > MOST.saturating_sub(self.later.len()) {
+            return Err(Memory);
+        }
         self.receivers.reserve(more)?;
         Ok(self.later.reserve(more)?)
     }
@@ -99,18 +106,19 @@ impl<T: Copy + Eq + Hash + Drop> Others<T> {
     ///
     /// Returns `AlreadyReceived` (407) if the task has one of the message, else `NoMemory` (507) if it runs out of memory.
     #[inline(always)]
-    pub(crate) fn add(&mut self, place: usize, one: Later<T>) -> Result<usize, Code>
+    pub(crate) fn add(&mut self, place: usize, one: Later<T>) -> Result<u32, Code>
         ensures allowed { OnOk result (has_key T.eq self.old.keys (one.task, place) ≡ false) }
         ensures newest { IfOk result (λ newest. newest ≡ length self.old.later) }
         ensures later { OnOk result (self.new.later ≡ self.old.later ++ one ∷ []) }
-        ensures fits { OnOk result (length self.new.later < 2 ^ 64) }
+        ensures fits { OnOk result (length self.new.later < 2 ^ 32) }
         ensures keys { OnOk result ((task : T) (at : ℕ) → has_key T.eq self.new.keys (task, at) ≡ (is_same_receipt T.eq (one.task, place) (task, at) || has_key T.eq self.old.keys (task, at))) }
         ensures code { IfErr result (λ code. code ≡ (if has_key T.eq self.old.keys (one.task, place) then Code.AlreadyReceived else Code.NoMemory)) }
         ensures err { OnErr result ((self.new.later ≡ self.old.later) × (self.new.keys ≡ self.old.keys)) }
         ensures room { 0 < self.old.room → has_key T.eq self.old.keys (one.task, place) ≡ false → IsOk result }
         ensures used { self.old.room ≤ self.new.room + 1 }
     {
-        if self.later.reserve(1).is_err() {
+        let newest = self.later.len();
+        if newest >= MOST || self.later.reserve(1).is_err() {
             if self.has(one.task, place) {
                 return Err(Code::AlreadyReceived);
             }
@@ -118,9 +126,8 @@ impl<T: Copy + Eq + Hash + Drop> Others<T> {
         }
         match self.receivers.insert((one.task, place)) {
             Ok(true) => {
-                let newest = self.later.len();
                 self.later.push_reserved(one);
-                Ok(newest)
+                Ok(newest as u32)
             }
             Ok(false) => Err(Code::AlreadyReceived),
             Err(_) => Err(Code::NoMemory),
@@ -129,14 +136,14 @@ impl<T: Copy + Eq + Hash + Drop> Others<T> {
 
     /// Forgets that the task of the receipt at `newest` received the message at this place, and gives the place of the
     /// receipt before it. It takes no memory. The receipt itself stays, and nothing asks for it any more.
-    pub(crate) fn forget(&mut self, place: usize, newest: usize) -> usize
+    pub(crate) fn forget(&mut self, place: usize, newest: u32) -> u32
         requires { newest < length self.old.later }
         ensures later { self.new.later ≡ self.old.later }
         ensures before { (one : Further T) → slice_get self.old.later newest ≡ Some one → result ≡ one.before }
         ensures keys { (one : Further T) → slice_get self.old.later newest ≡ Some one → (task : T) (at : ℕ)
             → has_key T.eq self.new.keys (task, at) ≡ (not (is_same_receipt T.eq (one.task, place) (task, at)) && has_key T.eq self.old.keys (task, at)) }
     {
-        let one = self.later[newest];
+        let one = self.later[newest as usize];
         self.receivers.swap_remove(&(one.task, place));
         one.before
     }

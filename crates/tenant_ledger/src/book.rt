@@ -32,6 +32,9 @@ use std::marker::Model;
 pub(crate) use task::Task;
 use trace_types::{Code, Limits, Memory, Name, Row, TaskState};
 
+/// So many events have numbers of 32 bits. A tenant has far fewer.
+const MOST_EVENTS: usize = 4294967295;
+
 /// All that is kept of one tenant: its rows, what is kept of each event, and its tasks and messages by their names.
 ///
 /// An event is added in two steps. A draft reads the book, and may run out of memory. Adding the draft takes none, if the book has
@@ -61,7 +64,7 @@ pub struct Book<S: Keep> {
     loose: u64,
     tasks: IndexMap<Name, Task>,
     /// Each message, and its receipts. A task is named by the event that started it, or by 0.
-    messages: MessageBook<u64>,
+    messages: MessageBook<u32>,
 }
 
 impl<S: Keep> Model for Book<S> {
@@ -96,7 +99,8 @@ impl<S: Keep> Model for Book<S> {
         × (vec_len b.points + b.room.events ≤ vec_capacity b.points) × (vec_len b.starts + b.room.events ≤ vec_capacity b.starts)
         × (vec_len b.places + b.room.events ≤ vec_capacity b.places) × (b.room.receipts ≡ b.messages.room.receipts)
         × (vec_len b.ids + b.room.ids ≡ vec_capacity b.ids) × (b.room.tasks ≡ spare b.tasks)
-        × (b.room.messages ≡ b.messages.room.messages) × (b.messages.book.limit ≡ b.limits.messages) };
+        × (b.room.messages ≡ b.messages.room.messages) × (b.messages.book.limit ≡ b.limits.messages)
+        × (vec_len b.rows + b.room.events ≤ 4294967295) };
 }
 
 impl<S: Keep> Book<S> {
@@ -174,8 +178,12 @@ impl<S: Keep> Book<S> {
             .min(self.trees.capacity() - self.trees.len())
             .min(self.points.capacity() - self.points.len())
             .min(self.starts.capacity() - self.starts.len())
-            .min(self.places.capacity() - self.places.len());
+            .min(self.places.capacity() - self.places.len())
+            .min(MOST_EVENTS.saturating_sub(self.rows.len()));
         self.room = Room::of(events, &self.ids, &self.tasks, &self.messages);
+        if events < more.events {
+            return Err(Memory);
+        }
         ids.and(tasks)?;
         messages
     }

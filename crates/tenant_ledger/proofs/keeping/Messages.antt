@@ -3,7 +3,7 @@ use Rattle.std.proofs.Common.{◌≡◌, ◌⊎◌, ℕ, suc, ◌+◌, ◌<◌, 
 use Rattle.std.proofs.lemmas.List.Folds.{list_any-append}
 use Rattle.std.specs.Option.{option_map_or}
 use Rattle.std.specs.Result.{result_err}
-use Rattle.message_book.specs.Book.{Book, Messages, Receipt, Sent, after_receive, after_send, entry_of, entry_with_receipt, has_receipt_by, refusal_of_receive, refusal_of_send, with_changed, with_message, with_receipt}
+use Rattle.message_book.specs.Book.{Book, Messages, Receipt, Sent, entry_of, entry_with_receipt, has_receipt_by, refusal_of_receive, refusal_of_send, with_changed, with_message, with_receipt}
 use Rattle.trace_types.specs.declared.code.Code.{Code}
 use Rattle.trace_types.specs.declared.code.Code.TheVariants.{NoMessage, MessageExists, AlreadyReceived, MessagesFull}
 use Rattle.tenant_ledger.specs.Answers.{message_due}
@@ -14,7 +14,7 @@ use Rattle.tenant_ledger.specs.Refusals.{refusals_of_received, refusals_of_sent}
 use Rattle.tenant_ledger.specs.declared.book.report.Deed.TheVariants as deed
 use Rattle.trace_types.specs.tenant.Refusal.{first_code}
 use Rattle.trace_types.proofs.Reachability.{newest-le}
-use Rattle.tenant_ledger.proofs.Words.{false≢true, cases_Bool, cond-true, cond-false, eq-eqb, eqb-true, nat_tests, sum_by-append, length-append, map-append, is_same-itself, is_same_iff, Text, is_same, History, sends, sends_message, starts, receives, names, is_known, is_sent, has_received, start_event, send_event, receipts, message_count, row_after, Row, Kind, Send, Recv, Spawn, AllowsNamed, IsLegal, Limits, Contents, IsKept, history_in, kind_of, name_of, IsFound, Deed, Task, task_in}
+use Rattle.tenant_ledger.proofs.Words.{false≢true, cases_Bool, cond-false, eq-eqb, eqb-true, nat_tests, sum_by-append, length-append, map-append, is_same_iff, Text, is_same, History, sends_message, starts, receives, is_known, is_sent, has_received, start_event, send_event, receipts, message_count, Row, Kind, Send, Recv, Spawn, AllowsNamed, IsLegal, Contents, IsKept, history_in, kind_of, name_of, IsFound, Deed, Task, task_in}
 use Rattle.tenant_ledger.proofs.clock.Tasks.{live_is_not_unknown, unwas_known}
 use Rattle.tenant_ledger.proofs.keeping.Known.{differ_back, legal_history, task_kept}
 use Rattle.tenant_ledger.proofs.keeping.Starts.{one_start, start_event-other, start_event-started, started_was_unknown}

@@ -62,12 +62,20 @@ impl<S: Keep> Book<S> {
         put_some(&mut self.tasks, &mut room.tasks, place, name, named);
         put(&mut self.tasks, &mut room.tasks, index, &row.task, acting);
         let (messages, receipts) = (&mut room.messages, &mut room.receipts);
-        note(&mut self.messages, messages, receipts, &row, acting.start, place, event);
+        note(
+            &mut self.messages,
+            messages,
+            receipts,
+            &row,
+            acting.start,
+            place,
+            event as u32,
+        );
         room.events -= 1;
         self.rows.push_reserved(row);
         self.trees.push_reserved(tree);
         self.points.push_reserved(point);
-        self.starts.push_reserved(acting.start);
+        self.starts.push_reserved(acting.start as u64);
         self.places.push_reserved(acting.id);
         event
     }
@@ -101,13 +109,13 @@ fn add_some<T>(items: &mut Vec<T>, room: &mut usize, item: Option<T>)
 /// is room for it, and what is left for messages and receipts is counted.
 #[inline(always)]
 fn note(
-    messages: &mut MessageBook<u64>,
+    messages: &mut MessageBook<u32>,
     for_messages: &mut usize,
     for_receipts: &mut usize,
     row: &Row,
-    start: u64,
+    start: u32,
     place: usize,
-    event: u64,
+    event: u32,
 )
     requires some { (0 < for_messages.old) × (0 < for_receipts.old) }
     requires room { (for_messages.old ≡ messages.old.room.messages) × (for_receipts.old ≡ messages.old.room.receipts) }

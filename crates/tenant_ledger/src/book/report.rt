@@ -106,7 +106,8 @@ impl Report {
     /// place.
     #[inline(always)]
     pub(super) fn left(&self, event: u64, place: usize) -> Left
-        requires { place < 18446744073709551615 }
+        requires event { event < 4294967296 }
+        requires place { place < 18446744073709551615 }
         ensures acting { result.acting ≡ acting_after self.now.deed event place self.now.acting }
         ensures named { result.named ≡ named_after self.now.deed event place }
     {
@@ -129,7 +130,7 @@ impl Report {
                 named: Some(Task {
                     state: TaskState::Live,
                     last: event,
-                    start: event,
+                    start: event as u32,
                     id: place + 1,
                 }),
                 ..alone

@@ -24,7 +24,7 @@ impl Room {
         events: usize,
         ids: &Vec<T>,
         tasks: &IndexMap<Name, Task>,
-        messages: &MessageBook<u64>,
+        messages: &MessageBook<u32>,
     ) -> Room
         ensures events { result.events ≡ events }
         ensures receipts { result.receipts ≡ messages.now.room.receipts }

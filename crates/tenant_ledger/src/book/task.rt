@@ -9,7 +9,7 @@ pub(crate) struct Task {
     /// The last event of the task, else the event that started it, else 0.
     pub(crate) last: u64,
     /// The event that started the task, or 0.
-    pub(crate) start: u64,
+    pub(crate) start: u32,
     /// The place of the task's id. Nothing asks for that of a joined task.
     pub(crate) id: usize,
 }

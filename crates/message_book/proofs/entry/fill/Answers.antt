@@ -16,4 +16,5 @@ loop-left-preserved g c =
     let whole : left ≡ suc (left - 1) = omega arith in
     let filled : IsFilled same later all (suc (left - 1)) c.loop-left.place events count = subst (λ n. IsFilled same later all n c.loop-left.place events count) whole c.loop-left.invariant in
     let there : slice_get later c.loop-left.place ≡ Some one = slice_get_read later (length later) c.loop-left.place one refl (in_list same later filled) c.index-later-place.is in
-    subst (λ n. IsFilled same later all (left - 1) one.before (set events n one.event) count) (sym whole) (fills_on same later filled one there)
+    subst (λ event. IsFilled same later all (left - 1) one.before (set events left event) count) (sym c.from.ensures)
+    (subst (λ n. IsFilled same later all (left - 1) one.before (set events n one.event) count) (sym whole) (fills_on same later filled one there))

@@ -4,8 +4,8 @@ use Rattle.message_book.specs.Chains.{is_chained, receipts_in}
 use Rattle.message_book.proofs.Chains.{has_many}
 use Rattle.message_book.proofs.entry.Entry.receipts.Goals as goal
 
-pub returns-in_err-ok_or-in-Some-2-clause-few : goal.returns-in_err-ok_or-in-Some-2-clause-few
-returns-in_err-ok_or-in-Some-2-clause-few g c = λ short.
+pub returns-in_err-resize-in-Some-2-clause-few : goal.returns-in_err-resize-in-Some-2-clause-few
+returns-in_err-resize-in-Some-2-clause-few g c = λ short.
     let same = g.T.PartialEq.eq in
     let later = c.self.inside.later.now in
     let first = c.in-Some.first in

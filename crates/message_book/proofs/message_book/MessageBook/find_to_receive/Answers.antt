@@ -44,7 +44,7 @@ returns-else-has_receiver-clause-sent g c =
     let later = c.self.inside.others.later in
     let found = ap (option_map (sent_in later)) c.in-Some.ensures.value ∙ found_in later c.self.inside.messages.entries c.args.name.now in
     subst (λ (roomy : Roomy _). option_map (λ (entry : Sent _). entry.sent) (entry_of roomy.book.messages c.args.name.now) ≡ Some c.in-Some.message.now.sent) c.self.view_is
-    (ap (option_map (λ (entry : Sent _). entry.sent)) (sym found))
+    (ap (option_map (λ (entry : Sent _). entry.sent)) (sym found)) ∙ ap Some (sym c.from.ensures)
 
 pub returns-else-has_receiver-clause-place : goal.returns-else-has_receiver-clause-place
 returns-else-has_receiver-clause-place g c =

@@ -1,4 +1,4 @@
-use Rattle.std.proofs.Common.{◌≡◌, ℕ, Result, refl, sym, ap, ◌∙◌}
+use Rattle.std.proofs.Common.{◌≡◌, ℕ, ap, ◌∙◌}
 use Rattle.message_book.specs.Book.{Book, refusal_of_send}
 use Rattle.tenant_ledger.specs.Contents.{messages_in}
 use Rattle.tenant_ledger.specs.Refusals.{refusals_of_sent}

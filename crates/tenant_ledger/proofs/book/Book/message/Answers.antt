@@ -1,4 +1,4 @@
-use Rattle.std.proofs.Common.{◌≡◌, Result, Ok, Err, OnErr, ap, ◌∙◌}
+use Rattle.std.proofs.Common.{Result, Ok, Err, OnErr, ap, ◌∙◌}
 use Rattle.message_book.specs.Book.{entry_of}
 use Rattle.tenant_ledger.proofs.Words.{Contents}
 use Rattle.tenant_ledger.proofs.keeping.Messages.{told_as, told_as_none, was_sent}

@@ -1,4 +1,4 @@
-use Rattle.std.proofs.Common.{◌≡◌, ℕ, nat_eq, refl, sym, ap, ◌∙◌}
+use Rattle.std.proofs.Common.{◌≡◌, ℕ, nat_eq, ap, ◌∙◌}
 use Rattle.message_book.specs.Book.{Book, refusal_of_receive}
 use Rattle.tenant_ledger.specs.Contents.{messages_in}
 use Rattle.tenant_ledger.specs.Refusals.{refusals_of_received}
