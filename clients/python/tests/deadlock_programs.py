@@ -298,6 +298,100 @@ def stacks() -> Steps:
     return [forth, back]
 
 
+def exit_stacks() -> Steps:
+    """The library acquires each lock for the program."""
+    one, other = threading.Lock(), threading.RLock()
+
+    def work(*locks: Any) -> None:
+        with contextlib.ExitStack() as stack:
+            for lock in locks:
+                stack.enter_context(lock)  # told
+
+    return [lambda: work(one, other), lambda: work(other, one)]
+
+
+def asyncio_exit_stacks() -> Steps:
+    async def main() -> None:
+        one, other = asyncio.Lock(), asyncio.Lock()
+
+        async def work(wait: float, *locks: asyncio.Lock) -> None:
+            await asyncio.sleep(wait)
+            async with contextlib.AsyncExitStack() as stack:
+                for lock in locks:
+                    await stack.enter_async_context(lock)  # told
+
+        await asyncio.gather(work(0, one, other), work(0.01, other, one))
+
+    return [lambda: asyncio.run(main())]
+
+
+def timeouts_that_are_over() -> Steps:
+    """They do not end what is waited for behind them, and one without a time ends nothing."""
+    async def main() -> None:
+        one, other = asyncio.Lock(), asyncio.Semaphore(1)
+
+        async def forth() -> None:
+            async with asyncio.timeout(10):
+                pass
+            async with one, other:  # told
+                pass
+
+        async def back() -> None:
+            await asyncio.sleep(0.01)
+            async with asyncio.timeout(None), other, one:  # told
+                pass
+
+        await asyncio.gather(forth(), back())
+
+    return [lambda: asyncio.run(main())]
+
+
+def crossed() -> Steps:
+    """The outer lock is released first."""
+    one, other = threading.Lock(), threading.Lock()
+
+    def forth() -> None:
+        one.acquire()  # told
+        other.acquire()  # told
+        one.release()
+        other.release()
+
+    def back() -> None:
+        other.acquire()  # told
+        one.acquire()  # told
+        other.release()
+        one.release()
+
+    return [forth, back]
+
+
+def gate_that_is_let_go() -> Steps:
+    """Both acquire their first lock behind a gate, and their second one without it."""
+    door, one, other = (threading.Lock() for _ in range(3))
+
+    def work(first: threading.Lock, second: threading.Lock) -> None:
+        with door:
+            first.acquire()  # told
+        second.acquire()  # told
+        second.release()
+        first.release()
+
+    return [lambda: work(one, other), lambda: work(other, one)]
+
+
+def hand_over_hand_from_both_ends() -> Steps:
+    locks = [threading.Lock() for _ in range(3)]
+
+    def walk(*order: threading.Lock) -> None:
+        order[0].acquire()  # told
+        for one, other in zip(order, order[1:]):
+            other.acquire()  # told
+            one.release()
+        order[-1].release()
+
+    return [lambda: walk(*locks), lambda: walk(*reversed(locks))]
+
+
 def jobs() -> Steps:
     one, other = threading.Lock(), threading.Lock()
 
@@ -552,7 +646,8 @@ def queue_and_late_lock() -> Steps:
 TOLD = [
     two_locks, two_rlocks, lock_and_rlock, by_calls, three_tasks, four_tasks, three_locks_of_two_tasks, second_of_two,
     within_functions, many_times, of_objects, lock_and_condition, two_conditions, wait_with_a_lock, semaphores,
-    semaphore_and_lock, stacks, jobs, job_and_thread, timers, asyncio_locks, asyncio_conditions, asyncio_semaphores,
+    semaphore_and_lock, stacks, exit_stacks, asyncio_exit_stacks, timeouts_that_are_over, crossed,
+    gate_that_is_let_go, hand_over_hand_from_both_ends, jobs, job_and_thread, timers, asyncio_locks, asyncio_conditions, asyncio_semaphores,
     loops_of_two_threads, tried_first, queue_and_lock, queue_and_lock_in_turns, queue_and_two_locks,
     queue_of_a_condition, queue_and_gate, queue_and_late_lock,
 ]
@@ -908,6 +1003,47 @@ def signal() -> Steps:
     return [forth, back]
 
 
+def read_write_lock_of_two() -> Steps:
+    """The first reader acquires the lock of writers under another one, and the last one releases it under that."""
+    guard, writing = threading.Lock(), threading.Lock()
+    readers = []
+
+    def read() -> None:
+        with guard:
+            readers.append(1)
+            if len(readers) == 1:
+                writing.acquire()
+        with guard:
+            readers.pop()
+            if not readers:
+                writing.release()
+
+    def write() -> None:
+        with writing:
+            pass
+
+    return [read, write, read]
+
+
+def timeouts_of_asyncio() -> Steps:
+    """Whoever does not get the lock in time gives back what it holds."""
+    async def main() -> None:
+        one, other, permit = asyncio.Lock(), asyncio.Lock(), asyncio.Semaphore(1)
+
+        async def forth() -> None:
+            async with permit, one, other:
+                await asyncio.sleep(0)
+
+        async def back() -> None:
+            await asyncio.sleep(0.01)
+            async with asyncio.timeout(10), other, one, permit:
+                pass
+
+        await asyncio.gather(forth(), back())
+
+    return [lambda: asyncio.run(main())]
+
+
 def permits() -> Steps:
     one, other = threading.Semaphore(2), threading.Lock()
 
@@ -1085,7 +1221,7 @@ def queue_of_other_locks() -> Steps:
 CLEAN = [
     one_order, gate, gate_of_three, gate_within, gate_that_is_a_condition, gate_that_is_a_semaphore, by_start, by_join,
     by_queue, by_event, by_future, by_barrier, one_task, jobs_of_one_after_another, re_entrance, tried,
-    tried_for_a_while, tried_permit, by_identity, not_at_once, hand_over_hand, signal, permits, asyncio_gate,
-    asyncio_in_turn, one_loop, queue_with_an_item, queue_put_without_the_lock, queue_taken_in_time,
+    tried_for_a_while, tried_permit, by_identity, not_at_once, hand_over_hand, signal,
+    read_write_lock_of_two, timeouts_of_asyncio, permits, asyncio_gate, asyncio_in_turn, one_loop, queue_with_an_item, queue_put_without_the_lock, queue_taken_in_time,
     queue_put_under_a_tried_lock, queue_told_under_the_lock, queue_of_one_task, queue_of_other_locks,
 ]

@@ -181,8 +181,8 @@ class Held(TracedCase):
             outer.release()
             self.assertEqual(current().held, (inner._itc_identity,))  # type: ignore[attr-defined]
             inner.release()
-            self.assertIsNone(outer._itc_token.what.lock)  # type: ignore[attr-defined]
-            self.assertIsNone(inner._itc_token.what.lock)  # type: ignore[attr-defined]
+            self.assertFalse(token_of(outer).what.lock.is_luck)
+            self.assertFalse(token_of(inner).what.lock.is_luck)
             self.assertEqual(current().held, ())
 
         self.races(scenario)

@@ -24,18 +24,20 @@ REQUEST, ANSWER = "the request at ", "an answer"
 class LockIdentity:
     """One lock. A task that holds it has it in `Line.held`, and the token of a release has it as what it stands for.
 
-    A release is a signal if another task acquired the lock. It is one too if a lock is still held that was acquired
-    after it, as in a read-write lock that is built of two. From then on `signal` of the lock says so, and of both in
-    the second case.
+    A release is a signal if another task acquired the lock. From then on `signal` of the lock says so, and the lock
+    keeps nobody out.
 
     The lock of a condition guards what the waiting ones look at. So to acquire it is an order as meant as a wake-up,
-    where touches are compared. A lock that is held while its task waits for one that it started encloses what that one
-    does, though that one does not hold it.
+    where touches are compared. So it is with two locks that are crossed, as in a read-write lock that is built of
+    them: one is released while the other one is still held, which was acquired after it.
+
+    A lock that is held while its task waits for one that it started encloses what that one does, though that one does
+    not hold it.
     """
 
     __slots__ = (
         "serial", "kind", "code", "instruction", "number", "signal", "is_of_condition", "is_inside", "encloses_tasks",
-        "taken_by", "taken_at", "is_nested", "is_tried", "across", "_name", "_hint",
+        "taken_by", "taken_at", "is_nested", "is_crossed", "outlived", "is_tried", "across", "_name", "_hint",
     )
 
     def __init__(self, kind: str, frame: FrameType | None) -> None:
@@ -55,6 +57,10 @@ class LockIdentity:
         """Where it was acquired last: the code, and the instruction in that."""
         self.is_nested = False
         """Whether it was acquired with another one held, or another one while it was held."""
+        self.is_crossed = False
+        """Whether it was released while one was held that was acquired later, or is such a later one."""
+        self.outlived: tuple[LockIdentity, ...] = ()
+        """The locks that its task has acquired before it, and released since."""
         self.is_tried = False
         """Whether somebody has acquired it without waiting for it, or not for ever."""
         self.across = ""
@@ -74,7 +80,7 @@ class LockIdentity:
     @property
     def is_luck(self) -> bool:
         """Whether only luck puts those in order who acquire it."""
-        return not self.is_of_condition
+        return not (self.is_of_condition or self.is_crossed)
 
     @property
     def place(self) -> str:

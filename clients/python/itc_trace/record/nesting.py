@@ -21,11 +21,16 @@ MOST_KNOWN = 256
 def note_nested(held: tuple[LockIdentity, ...], has_waited: bool) -> None:
     """The current task has acquired the last of these locks, and holds the others.
 
-    If it would not have waited for it, nobody can wait for its end by that.
+    If it would not have waited for it, nobody can wait for its end by that. Two locks may be a lock of readers: one of
+    them has the other acquired, is released, and is acquired once more to release that. Readers do not wait for each
+    other by that.
     """
     if not has_waited or state.note is None:
         return
-    places = tuple(Held(one, one.taken_by, one.taken_at) for one in held)
+    wanted = held[-1]
+    places = tuple(Held(one, one.taken_by, one.taken_at) for one in held if wanted not in one.outlived)
+    if len(places) < 2:
+        return
     key = (ACQUIRE, *((place.lock.serial, id(place.code), place.instruction) for place in places))
     for one in held:
         one.is_nested = True

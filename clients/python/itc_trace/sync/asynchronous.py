@@ -54,6 +54,7 @@ def put(patches: Patches) -> None:
     _put_tasks(patches)
     _put_loops(patches)
     _put_locks(patches)
+    _put_timeouts(patches)
     _put_events(patches)
     _put_semaphores(patches)
     if hasattr(locks, "Barrier"):
@@ -192,6 +193,8 @@ class TracedTask(_PlainTask, metaclass=_LikePlain):  # type: ignore[misc]
     _itc_plain = _PlainTask
     _itc_callbacks: list[Any] = []
     _itc_called: Any = ()
+    _itc_timeouts: tuple[Any, ...] = ()
+    """The timeouts that it is within."""
 
     def __init__(self, coro: Any, **named: Any) -> None:
         self._itc_line = _begin_task(self, coro, named.get("name"), named.get("loop"))
@@ -629,7 +632,7 @@ def _lock_acquire(original: Any) -> Any:
     async def acquire(self: Any) -> Any:
         told = await original(self)
         if state.note is not None and _is_told_of(self):
-            took(self)
+            took(self, not _has_limit())
         return told
 
     return acquire
@@ -692,6 +695,47 @@ def _condition_wait(original: Any) -> Any:
                 take(self._waiters.woken())
 
     return wait
+
+
+# Timeouts
+
+
+def _put_timeouts(patches: Patches) -> None:
+    timeout = getattr(asyncio, "Timeout", None)
+    if timeout is not None:
+        patches.wrap(timeout, "__aenter__", _enter_timeout)
+        patches.wrap(timeout, "__aexit__", _leave_timeout)
+
+
+def _enter_timeout(original: Any) -> Any:
+    async def __aenter__(self: Any) -> Any:
+        entered = await original(self)
+        task = _current_task()
+        if hasattr(task, "_itc_timeouts"):
+            task._itc_timeouts = (*task._itc_timeouts, self)
+        return entered
+
+    return __aenter__
+
+
+def _leave_timeout(original: Any) -> Any:
+    async def __aexit__(self: Any, *fault: Any) -> Any:
+        task = _current_task()
+        if hasattr(task, "_itc_timeouts"):
+            task._itc_timeouts = tuple(one for one in task._itc_timeouts if one is not self)
+        try:
+            return await original(self, *fault)
+        except BaseException as late:
+            without_own_frame(late)
+            raise
+
+    return __aexit__
+
+
+def _has_limit() -> bool:
+    """Whether a timeout ends what the current task waits for."""
+    timeouts = getattr(_current_task(), "_itc_timeouts", ())
+    return bool(timeouts) and any(one.when() is not None for one in timeouts)
 
 
 # Events
@@ -784,7 +828,7 @@ def _semaphore_acquire(original: Any) -> Any:
         if permits:
             take(permits.popleft())
         elif permit is not None and state.note is not None:
-            took(permit)
+            took(permit, not _has_limit())
         return told
 
     return acquire

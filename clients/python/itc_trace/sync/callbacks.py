@@ -1,5 +1,5 @@
-"""Tells of methods of containers that a watched program hands to an `ExitStack` or to `weakref.finalize`,
-where these call them."""
+"""Tells of what a watched program hands to an `ExitStack` or to `weakref.finalize`, where these call it: methods of
+containers, and locks."""
 
 from __future__ import annotations
 
@@ -7,8 +7,10 @@ import contextlib
 import weakref
 from typing import Any
 
-from .handed_on import Place, called, handed_at
+from ..record.noting import without_own_frame
 from .base import Patches, like, named_like
+from .handed_on import Place, called, handed_at
+from .locks import is_entered_by_stack
 
 _stack: Any = vars(contextlib)["_BaseExitStack"]
 _CREATE = "_create_cb_wrapper"
@@ -20,6 +22,7 @@ _places: dict[Any, Place] = {}
 def put(patches: Patches) -> None:
     plain = getattr(_stack, _CREATE)
     patches.put(_stack, _CREATE, staticmethod(like(plain, _create(plain))))
+    patches.wrap(_stack, "enter_context", _enter_context)
     patches.wrap(weakref.finalize, "__init__", _begin_finalizer)
     patches.wrap(weakref.finalize, "__call__", _call_finalizer)
     patches.wrap(weakref.finalize, "detach", _detach_finalizer)
@@ -39,6 +42,18 @@ def _create(original: Any) -> Any:
         return named_like(leave, leave_by_method)
 
     return create
+
+
+def _enter_context(original: Any) -> Any:
+    def enter_context(self: Any, cm: Any) -> Any:
+        is_entered_by_stack(cm)
+        try:
+            return original(self, cm)
+        except BaseException as fault:
+            without_own_frame(fault)
+            raise
+
+    return enter_context
 
 
 def _begin_finalizer(original: Any) -> Any:

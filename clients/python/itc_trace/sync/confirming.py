@@ -9,13 +9,13 @@ from time import monotonic, sleep
 from typing import Any, NamedTuple
 
 from ..model.file_names import name_of_file
-from ..model.frames import frame_at, line_of, place
+from ..model.frames import frame_at, line_of
 from ..model.lines import Line, state
 from ..model.lock_identity import LockIdentity
 from ..record import plain
 from ..record.noting import line_of_now
 from .base import like
-from .locks import TracedLock, TracedRLock, walk_always
+from .locks import TracedLock, TracedRLock, acquired_at, walk_always
 
 HOLD = 2.0
 """So many seconds a task is held at most."""
@@ -75,7 +75,7 @@ class Confirming:
             if state.note is not None:
                 line = line_of_now()
                 if line.held:
-                    self._hold(lock, line, _here(*place(frame_at(1))))
+                    self._hold(lock, line, _here(*acquired_at(frame_at(1))))
             return original(lock, *words, **named)
 
         return holding

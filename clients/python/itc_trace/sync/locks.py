@@ -6,6 +6,7 @@ A traced lock has three fields: the token of its last release, its identity, and
 from __future__ import annotations
 
 import _thread
+import contextlib
 import functools
 import linecache
 import re
@@ -14,19 +15,22 @@ import threading
 from _thread import get_ident
 from collections import deque
 from sys import _getframe
-from types import FrameType
+from types import CodeType, FrameType
 from typing import Any
 
 from ..model.lines import MARK, TAKE, Line, Section, Token, state
 from ..model.lock_identity import LockIdentity, Signal
 from ..record.nesting import note_nested, note_signal
 from ..record.noting import current, line_of_now
-from ..model.frames import frame_at, is_internal, place
+from ..model.frames import frame_at, is_internal, place, place_of
 from ..model.stretches import MOST_OF_STRETCH, STRETCHES, TURNS
 from .base import name_as
 
 _is_walked = False
 _WAITS = re.compile(r"\.(wait|wait_for|notify|notify_all|notifyAll)\b")
+
+_STACKS = {contextlib.ExitStack.enter_context.__code__, contextlib.AsyncExitStack.enter_async_context.__code__}
+"""Code that acquires a lock for whoever calls it."""
 
 _allocate = _thread.allocate_lock
 _PlainLock: Any = _thread.LockType
@@ -288,6 +292,8 @@ def gave(lock: Any) -> None:
         _remove(holder, identity)
         _become_signal(identity)
     what: LockIdentity | Signal = identity.signal or identity
+    if identity.is_crossed:
+        identity.outlived = ()
     lock._itc_token = token = Token(line, what, code, instruction)
     line.section = None
     note = state.note
@@ -308,8 +314,8 @@ def _outlived(line: Line, identity: LockIdentity) -> None:
     is_later = False
     for one in line.held:
         if is_later:
-            _become_signal(one)
-            _become_signal(identity)
+            one.is_crossed = identity.is_crossed = True
+            one.outlived += (identity,)
         is_later = is_later or one is identity
     _remove(line, identity)
 
@@ -322,6 +328,20 @@ def _remove(line: Line, identity: LockIdentity) -> None:
         if line.held is held:
             line.held = left
             return
+
+
+def acquired_at(frame: FrameType | None) -> tuple[CodeType | None, int]:
+    """Where the program has a lock acquired, by itself or by an `ExitStack`."""
+    while frame is not None and (is_internal(frame) or frame.f_code in _STACKS):
+        frame = frame.f_back
+    return place_of(frame)
+
+
+def is_entered_by_stack(lock: Any) -> None:
+    """An `ExitStack` is about to acquire it, if it is a traced lock."""
+    kind = type(lock)
+    if kind is TracedLock or TracedRLock in kind.__mro__:
+        lock._itc_identity.is_inside = True
 
 
 def walk_always() -> None:
@@ -342,7 +362,7 @@ def took(lock: Any, has_waited: bool = True) -> None:
         frame = _getframe(2)
         identity.taken_by, identity.taken_at = frame.f_code, frame.f_lasti
         if identity.is_inside or _is_walked:
-            identity.taken_by, identity.taken_at = place(frame)
+            identity.taken_by, identity.taken_at = acquired_at(frame)
     except ValueError:
         identity.taken_by = None  # The interpreter itself has called.
     token: Token | None = lock._itc_token
