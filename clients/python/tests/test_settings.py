@@ -117,6 +117,14 @@ class Tables(unittest.TestCase):
                 self.read(text)
             self.assertNotIn("\n", str(raised.exception))
 
+    def test_a_table_that_is_spelt_otherwise_is_told(self) -> None:
+        for name in ("itc-trace", "ITC_trace", "itctrace", '"itc.trace"'):
+            with self.subTest(name):
+                file = self.folder / "pyproject.toml"
+                file.write_text(f"[tool.{name}]\nruns = 2\n[tool.itc]\nruns = 7\n")
+                with self.assertRaisesRegex(Fault, r"there is no table \[tool\..*\]: did you mean \[tool.itc_trace\]\?"):
+                    read_settings(file)
+
     def test_what_is_nested_too_deep_is_no_toml(self) -> None:
         with self.assertRaisesRegex(Fault, "is no TOML"):
             self.read("watch = " + "[" * 100_000)

@@ -5,6 +5,7 @@ from __future__ import annotations
 import argparse
 import difflib
 import os
+import re
 import tomllib
 from collections.abc import Callable, Iterator
 from dataclasses import dataclass, field
@@ -16,6 +17,8 @@ from ..report.formats import FORMATS
 
 FILE = "pyproject.toml"
 TABLE = "itc_trace"
+SPELLINGS = ("itctrace", "itctraces")
+"""What the table is called without its marks, also if somebody means it and writes it otherwise."""
 FAIL_ON = ("race", "possible")
 MOST_RUNS = 10_000
 
@@ -62,8 +65,12 @@ def read_settings(file: Path) -> Settings:
     except (tomllib.TOMLDecodeError, UnicodeDecodeError, RecursionError) as fault:
         raise Fault(f"{name} is no TOML: {fault}") from fault
     tools = told.get("tool", {})
-    table = tools.get(TABLE, {}) if isinstance(tools, dict) else {}
+    tools = tools if isinstance(tools, dict) else {}
     reading = _Reading(name, file.parent)
+    for other in tools:
+        if other != TABLE and re.sub("[-_.]", "", other).lower() in SPELLINGS:
+            raise Fault(f"{name}: there is no table [tool.{other}]: did you mean [tool.{TABLE}]?")
+    table = tools.get(TABLE, {})
     if not isinstance(table, dict):
         raise reading.fault("it is no table")
     return Settings(**dict(reading.values(table)))
