@@ -75,7 +75,7 @@ def work(counts):
     counts[0] += 1
 if __name__ == "__main__":
     context = multiprocessing.get_context(sys.argv[1])
-    counts = context.Array("i", 1, lock=False)
+    counts = context.Array("i", 4097, lock=False)  # Longer than what is followed.
     children = [context.Process(target=work, args=(counts,)) for _ in range(2)]
     for child in children:
         child.start()

