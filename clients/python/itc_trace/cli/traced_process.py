@@ -17,10 +17,13 @@ from ..model.verdict import Cause, Unseen
 from ..record.following import ChildProcess, Ways, follow, is_beginning
 from ..record.following import end as end_following
 from ..record.journal_file import JournalFile
+from ..record.raised_within import keep_handler
 from ..model.lines import state
 from ..sync import left_behind
 from ..sync.base import like
 from ..sync.process_pools import take_done
+from .deferred_signals import deferred
+from .deferred_signals import shown as as_set
 
 ANOTHER_PROGRAM = Unseen(Cause.KILLED, "tracing stopped where the process was to go on as another program")
 _set_handler, _handler_of = signal.signal, signal.getsignal
@@ -70,6 +73,8 @@ class Ending:
         self._waiting_signal: int | None = None
         self._masks = threading.local()
         self._show_no_handler()
+        if _handler_of(signal.SIGINT) is signal.default_int_handler:
+            _set_handler(signal.SIGINT, deferred(signal.default_int_handler))
         self._before_the_end("_exit")
         for name in ("execv", "execve"):
             self._before_another_program(name)
@@ -155,11 +160,12 @@ class Ending:
         and asks for that one by this effect."""
 
         def shown(handler: Any) -> Any:
-            return signal.SIG_DFL if handler == self._end_by else handler
+            return signal.SIG_DFL if handler == self._end_by else as_set(handler)
 
         def set_handler(signalnum: Any, handler: Any) -> Any:
+            keep_handler(handler)
             is_ours = handler == signal.SIG_DFL and signalnum in ENDING_SIGNALS and os.getpid() == self._process
-            return shown(_set_handler(signalnum, self._end_by if is_ours else handler))
+            return shown(_set_handler(signalnum, self._end_by if is_ours else deferred(handler)))
 
         def interrupt_main(signum: int = signal.SIGINT, /) -> None:
             # A signal that the program does not handle is not simulated, either.
