@@ -9,6 +9,7 @@ from __future__ import annotations
 import gc
 from collections import deque
 from collections.abc import Callable
+from itertools import islice
 from sys import getrefcount
 from typing import Any
 
@@ -21,6 +22,7 @@ FIRST_LOOKED_AT = 1
 HAS_COLLECTION = 1 << 14
 """The flag of a type whose objects the collector follows."""
 DEEPEST = 8
+LAST_LOOKED_AT = 24
 
 
 def _references_of_held() -> int:
@@ -77,9 +79,18 @@ class Held:
         return has_gone
 
     def let_go_at_once(self, most: int) -> None:
-        """The same until nothing goes."""
-        while self.let_go_of_some(most):
+        """The same until nothing goes. What is held last is looked at first: it is most often what a function made."""
+        while self._let_go_of_last() or self.let_go_of_some(most):
             pass
+
+    def _let_go_of_last(self) -> bool:
+        has_gone = False
+        for key in list(islice(reversed(self._objects), LAST_LOOKED_AT)):
+            if key in self._objects and getrefcount(self._objects[key]) <= REFERENCES_OF_HELD:
+                has_gone = True
+                self._left(key, True)
+                self._objects.pop(key, None)
+        return has_gone
 
     def collecting(self, phase: str, generation: int) -> None:
         """Has a collection of garbage find what only rings of objects hold, as it would if nothing were held here."""
