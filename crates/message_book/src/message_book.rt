@@ -127,6 +127,7 @@ impl<T: Copy + Eq + Hash + Drop> MessageBook<T> {
         ensures code { IfErr result (λ code. code ≡ unwrap_or (refusal_of_send self.old.book name) Code.NoMemory) }
         ensures err { OnErr result (self.new.book ≡ self.old.book) }
         ensures room { 0 < self.old.room.messages → result_err result ≡ refusal_of_send self.old.book name }
+        ensures kept { OnErr result (self.old.room.messages ≤ self.new.room.messages) }
         ensures used { (self.old.room.messages ≤ self.new.room.messages + 1) × (self.new.room.receipts ≡ self.old.room.receipts) }
     {
         self.check_send(&name)?;
@@ -141,6 +142,7 @@ impl<T: Copy + Eq + Hash + Drop> MessageBook<T> {
         ensures ok { OnOk result (self.new.book ≡ record self.old.book { messages = with_message name event self.old.book.messages }) }
         ensures err { OnErr result (self.new.book ≡ self.old.book) }
         ensures room { 0 < self.old.room.messages → IsOk result }
+        ensures kept { OnErr result (self.old.room.messages ≤ self.new.room.messages) }
         ensures used { (self.old.room.messages ≤ self.new.room.messages + 1) × (self.new.room.receipts ≡ self.old.room.receipts) }
     {
         let message = Message {
@@ -190,6 +192,8 @@ impl<T: Copy + Eq + Hash + Drop> MessageBook<T> {
         ensures code { IfErr result (λ code. code ≡ unwrap_or (refusal_of_receive T.eq self.old.book name.now task) Code.NoMemory) }
         ensures err { OnErr result (self.new.book ≡ self.old.book) }
         ensures first { has_receipt (entry_of self.old.book.messages name.now) ≡ false → result_err result ≡ refusal_of_receive T.eq self.old.book name.now task }
+        ensures room { 0 < self.old.room.receipts → result_err result ≡ refusal_of_receive T.eq self.old.book name.now task }
+        ensures used { (self.old.room.receipts ≤ self.new.room.receipts + 1) × (self.new.room.messages ≡ self.old.room.messages) }
     {
         self.receive_at(usize::MAX, name, task, event)
     }
@@ -267,7 +271,8 @@ impl<T: Copy + Eq + Hash + Drop> MessageBook<T> {
     /// Takes the last send back, so the message is there no more. It takes no memory.
     pub fn undo_send(&mut self)
         requires { LastIsUnreceived self.old.book.messages }
-        ensures { self.new.book ≡ record self.old.book { messages = without_last self.old.book.messages } }
+        ensures book { self.new.book ≡ record self.old.book { messages = without_last self.old.book.messages } }
+        ensures room { (self.old.room.messages ≤ self.new.room.messages) × (self.new.room.receipts ≡ self.old.room.receipts) }
     {
         self.messages.pop();
     }
@@ -275,7 +280,8 @@ impl<T: Copy + Eq + Hash + Drop> MessageBook<T> {
     /// Takes the last receipt of a message back, so its task can receive the message again. It takes no memory.
     pub fn undo_receive(&mut self, name: &Name)
         requires { has_receipt (entry_of self.old.book.messages name.now) ≡ true }
-        ensures { self.new.book ≡ record self.old.book { messages = without_last_receipt name.now self.old.book.messages } }
+        ensures book { self.new.book ≡ record self.old.book { messages = without_last_receipt name.now self.old.book.messages } }
+        ensures room { (self.old.room.receipts ≤ self.new.room.receipts) × (self.new.room.messages ≡ self.old.room.messages) }
     {
         let Some((place, _, message)) = self.messages.get_full(name) else {
             return;

@@ -139,6 +139,7 @@ impl<T: Copy + Eq + Hash + Drop> Others<T> {
     pub(crate) fn forget(&mut self, place: usize, newest: u32) -> u32
         requires { newest < length self.old.later }
         ensures later { self.new.later ≡ self.old.later }
+        ensures room { self.old.room ≤ self.new.room }
         ensures before { (one : Further T) → slice_get self.old.later newest ≡ Some one → result ≡ one.before }
         ensures keys { (one : Further T) → slice_get self.old.later newest ≡ Some one → (task : T) (at : ℕ)
             → has_key T.eq self.new.keys (task, at) ≡ (not (is_same_receipt T.eq (one.task, place) (task, at)) && has_key T.eq self.old.keys (task, at)) }

@@ -46,8 +46,8 @@ invariant_of-self g c =
     subst (IsSound same limit others) (sym (c.set_received.ensures.entries name message there))
     (sound-none same limit others entries place c.self.invariant there c.in-Some-received.first c.in-Some-received.is c.if-first-eq0.true)
 
-pub returns-then-first-eq0 : goal.returns-then-first-eq0
-returns-then-first-eq0 g c =
+pub returns-then-first-eq0-clause-book : goal.returns-then-first-eq0-clause-book
+returns-then-first-eq0-clause-book g c =
     let same = g.T.PartialEq.eq in
     let limit = c.self.inside.limit in
     let others = c.self.inside.others in
@@ -102,8 +102,8 @@ invariant_of-self-2 g c =
     subst (IsSound same limit c.forget-newest.new.self) (sym (c.set_received-2.ensures.entries name message there))
     (sound-less same limit others entries place c.self.invariant there first some g.met.T.Eq.laws many c.forget-newest.result forgotten)
 
-pub returns : goal.returns
-returns g c =
+pub returns-clause-book : goal.returns-clause-book
+returns-clause-book g c =
     let same = g.T.PartialEq.eq in
     let limit = c.self.inside.limit in
     let others = c.self.inside.others in
