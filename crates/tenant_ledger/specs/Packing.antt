@@ -50,3 +50,4 @@ id_of_nodes nodes = first_id (with_nodes [] nodes)
 abbrev pub id_of_form : Form → plain.Id
 id_of_form (form.Tree id) = id
 id_of_form (form.Packed nodes) = id_of_nodes nodes.items
+id_of_form (form.Retired shown) = shown.value

@@ -1,5 +1,5 @@
 //! All that is kept of one tenant.
-ghost use Rattle.std.specs.Prelude.{◌≡◌, ◌-◌, ◌<◌, ◌≤◌, ◌==◌, if◌then◌else◌, true, IsTrue, IfOk, IfErr, OnOk, MatchBool, Some, None, length, slice_get};
+ghost use Rattle.std.specs.Prelude.{◌≡◌, ◌-◌, ◌<◌, ◌≤◌, ◌==◌, if◌then◌else◌, true, IsTrue, IfOk, IfErr, IsOk, OnOk, MatchBool, Some, None, length, slice_get};
 ghost use Rattle.trace_types.specs.tenant.Limits.{are_limits};
 ghost use Rattle.trace_types.specs.tenant.Rows.{is_event};
 ghost use Rattle.tenant_ledger.specs.IdValues.{id_of};
@@ -165,6 +165,7 @@ impl<S: Keep> Book<S> {
         ensures same { self.new ≡ record self.old { room = self.new.room } }
         ensures room { OnOk result (HasRoomFor more self.new.room) }
         ensures more { HasRoomFor self.old.room self.new.room }
+        ensures there { HasRoomFor more self.old.room → IsOk result }
     {
         self.rows.reserve(more.events)?;
         self.trees.reserve(more.events)?;

@@ -8,6 +8,7 @@ use std::alloc::Global;
 use std::collections::VecDeque;
 use std::marker::Model;
 use std::mem;
+use std::snapshot::Snapshot;
 use trace_types::Memory;
 
 /// An id that is kept as a tree or packed, as it is asked for. Contracts see the id.
@@ -23,6 +24,8 @@ pub(crate) enum Form {
     /// The nodes of its tree, each pair behind its halves. A node takes a byte, and a half that is nothing beside one that is
     /// not takes none.
     Packed(Vec<PackedNode>),
+    /// Nothing, since no task has the id any more. Proofs alone see it.
+    Retired(Snapshot<IdTree>),
 }
 
 /// A node of a packed id.
@@ -68,13 +71,14 @@ impl KeptId for PackedId {
         match &self.form {
             Form::Tree(id) => Ok(IdValue::Lent(id)),
             Form::Packed(nodes) => Ok(IdValue::Made(unpacked(alloc, nodes)?)),
+            Form::Retired(_) => Err(Memory),
         }
     }
 
     fn loose_nodes(&self) -> u64 {
         match &self.form {
             Form::Tree(id) => id.inner(),
-            Form::Packed(_) => 0,
+            Form::Packed(_) | Form::Retired(_) => 0,
         }
     }
 
@@ -82,7 +86,7 @@ impl KeptId for PackedId {
         if let Form::Packed(nodes) = &self.form
             && let Ok(id) = unpacked(alloc, nodes)
         {
-            let made = id.inner();
+            let made = nodes.len() as u64;
             self.form = Form::Tree(id);
             return made;
         }
@@ -92,11 +96,20 @@ impl KeptId for PackedId {
     fn pack(&mut self, alloc: Global) {
         let nodes = match &self.form {
             Form::Tree(id) => packed(alloc, id),
-            Form::Packed(_) => return,
+            Form::Packed(_) | Form::Retired(_) => return,
         };
         if let Ok(nodes) = nodes {
             self.form = Form::Packed(nodes);
         }
+    }
+
+    fn retire(&mut self) -> u64 {
+        let (shown, given_back) = match &self.form {
+            Form::Tree(id) => (Snapshot::of(id), id.inner()),
+            Form::Packed(_) | Form::Retired(_) => return 0,
+        };
+        self.form = Form::Retired(shown);
+        given_back
     }
 }
 

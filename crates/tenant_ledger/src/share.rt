@@ -18,7 +18,8 @@ pub trait KeptId {
     // the id for which it stands
     ghost id: { Self → Id };
 
-    /// The id for which it stands. Returns `Memory` if the tree has to be made and memory runs out.
+    /// The id for which it stands. Returns `Memory` if the tree has to be made and memory runs out, or if no task has the id any
+    /// more and it was given back.
     fn tree(&self, alloc: Global) -> Result<IdValue<'_>, Memory>
         ensures { IfOk result (λ value. id_of value ≡ id self.now) };
 
@@ -38,6 +39,13 @@ pub trait KeptId {
     fn pack(&mut self, _alloc: Global)
         ensures { id self.new ≡ id self.old }
     {}
+
+    /// Notes that no task has the id any more. It gives how many inner nodes were given back.
+    fn retire(&mut self) -> u64
+        ensures { id self.new ≡ id self.old }
+    {
+        0
+    }
 }
 
 /// An id that is kept as a tree.

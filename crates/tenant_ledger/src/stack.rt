@@ -3,17 +3,21 @@ ghost use Rattle.std.specs.Prelude.{◌≤◌};
 
 use std::alloc::{AllocError, Global};
 
-/// Whether the stack has room for walks over the deepest trees.
+/// For walks over how deep trees the stack has room.
 ///
 /// The system makes the stack longer as it is used, and ends the program by a signal if it has no memory for that. So the memory
 /// is asked for before such a walk begins, and the stack is made as long as it may have to be.
 #[derive(Drop)]
 pub struct Stack {
-    has_room: bool,
+    /// For trees of fewer levels than these.
+    levels: usize,
 }
 
-/// The bytes that a walk over the deepest trees may take.
-const BYTES: usize = 532_480;
+/// No tree has more levels.
+const MOST_LEVELS: usize = 2048;
+
+/// The bytes that a walk over the deepest trees takes for each of their levels.
+const BYTES_OF_LEVEL: usize = 260;
 
 const PAGE: usize = 4096;
 
@@ -23,7 +27,9 @@ impl Stack {
 
     /// The stack with which a program begins.
     pub fn new() -> Stack {
-        Stack { has_room: false }
+        Stack {
+            levels: Stack::LEVELS,
+        }
     }
 
     /// Makes room for walks over trees of so many levels, if there may be too little.
@@ -31,20 +37,27 @@ impl Stack {
     /// Returns an `AllocError` if the memory for it is refused. Then the stack is as long as it was.
     #[inline(always)]
     pub fn make_room(&mut self, alloc: Global, levels: usize) -> Result<(), AllocError> {
-        if self.has_room || levels < Stack::LEVELS {
+        if levels < self.levels {
             return Ok(());
         }
-        self.grow(alloc)
+        self.grow(alloc, levels)
     }
 
-    /// Makes the stack as long as the deepest walk may need it.
+    /// Makes the stack long enough for trees of a quarter more levels, or for the deepest ones.
     #[inline(never)]
-    fn grow(&mut self, alloc: Global) -> Result<(), AllocError> {
-        let block: Vec<u8> = Vec::with_capacity(alloc, BYTES)?;
+    fn grow(&mut self, alloc: Global, levels: usize) -> Result<(), AllocError> {
+        let levels = levels.min(MOST_LEVELS);
+        let levels = (levels + levels / 4).min(MOST_LEVELS);
+        let bytes = levels * BYTES_OF_LEVEL;
+        let block: Vec<u8> = Vec::with_capacity(alloc, bytes)?;
         drop(block);
         // What it gives says nothing.
-        let _ = touch(BYTES / PAGE);
-        self.has_room = true;
+        let _ = touch(bytes / PAGE);
+        self.levels = if levels == MOST_LEVELS {
+            usize::MAX
+        } else {
+            levels
+        };
         Ok(())
     }
 }

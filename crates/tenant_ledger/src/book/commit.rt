@@ -37,6 +37,21 @@ impl<S: Keep> Book<S> {
         ensures room { UsesRoomOfOne self.old.room self.new.room }
         ensures event { result ≡ suc (length self.old.rows) }
     {
+        let places = self.places_left(&draft);
+        let event = self.add(draft);
+        self.retire_at(places.0);
+        self.retire_at(places.1);
+        event
+    }
+
+    /// Adds the event of the draft, and gives its number.
+    #[inline(always)]
+    fn add(&mut self, draft: Draft<S>) -> u64
+        requires { HasRoom self.old }
+        ensures book { self.new ≡ record (with_event draft self.old) { room = self.new.room } }
+        ensures room { UsesRoomOfOne self.old.room self.new.room }
+        ensures event { result ≡ suc (length self.old.rows) }
+    {
         let Draft {
             row,
             made,

@@ -2,7 +2,7 @@
 ghost use Rattle.std.specs.Prelude.{◌≡◌, map, vec_capacity, vec_len};
 
 use super::report::Deed;
-use super::{Book, Report};
+use super::{Book, Draft, Report};
 use crate::share::{Keep, KeptId};
 use std::alloc::Global;
 
@@ -12,8 +12,14 @@ const LEAST: u64 = 256;
 /// So many events are few.
 const FEW_EVENTS: u64 = 512;
 
-/// How many nodes more it keeps loose for each further event. They take less than a path of a deep tree.
-const NODES: u64 = 24;
+/// How many nodes more it keeps loose for each further event, up to as many events as the usual limit allows.
+const NODES: u64 = 4;
+
+/// As many events as the usual limit allows.
+const USUAL_EVENTS: u64 = 4096;
+
+/// How many nodes more it keeps loose for each event beyond them. They take less than a path of a deep tree.
+const MORE_NODES: u64 = 24;
 
 impl<S: Keep> Book<S> {
     /// Has the ids of the report's tasks be there as trees, if there is memory for them. Before that it packs all others, if too
@@ -45,6 +51,34 @@ impl<S: Keep> Book<S> {
         self.loose = self.loose.saturating_add(made);
     }
 
+    /// The places of the ids that no task has any more once the draft's event is added: those of its task and of the task that it
+    /// joins, if the event makes an id.
+    #[inline(always)]
+    pub(super) fn places_left(&self, draft: &Draft<S>) -> (Option<usize>, Option<usize>) {
+        if draft.made.first.is_none() {
+            return (None, None);
+        }
+        let own = match self.tasks.get_index(draft.index) {
+            Some((_, task)) => Some(task.id),
+            None => None,
+        };
+        match (&draft.made.second, &draft.named) {
+            (None, Some(joined)) => (own, Some(joined.id)),
+            _ => (own, None),
+        }
+    }
+
+    /// Notes that no task has the id at the place any more, if one is given.
+    #[inline(always)]
+    pub(super) fn retire_at(&mut self, place: Option<usize>)
+        ensures { self.new ≡ self.old }
+    {
+        if let Some(place) = place {
+            let given_back = retire_in(&mut self.ids, place);
+            self.loose = self.loose.saturating_sub(given_back);
+        }
+    }
+
     /// Packs all ids but those at these two places.
     #[inline(never)]
     fn pack_others(&mut self, one: usize, other: usize)
@@ -58,9 +92,24 @@ impl<S: Keep> Book<S> {
 /// The most nodes of ids that a book of so many events keeps loose.
 #[inline(always)]
 fn most_loose(events: u64) -> u64 {
+    let further = events.saturating_sub(USUAL_EVENTS);
     NODES
-        .saturating_mul(events.saturating_sub(FEW_EVENTS))
+        .saturating_mul((events - further).saturating_sub(FEW_EVENTS))
+        .saturating_add(MORE_NODES.saturating_mul(further))
         .saturating_add(LEAST)
+}
+
+/// Notes that no task has the id at the place any more, if there is one. It gives how many inner nodes were given back.
+#[inline(always)]
+fn retire_in<I: KeptId>(ids: &mut Vec<I>, place: usize) -> u64
+    ensures ids { map I.id ids.new.items ≡ map I.id ids.old.items }
+    ensures len { vec_len ids.new ≡ vec_len ids.old }
+    ensures capacity { vec_capacity ids.new ≡ vec_capacity ids.old }
+{
+    match ids.get_mut(place) {
+        Some(id) => id.retire(),
+        None => 0,
+    }
 }
 
 /// Packs all ids but those at these two places.
