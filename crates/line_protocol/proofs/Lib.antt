@@ -1,3 +1,4 @@
+mod Digits
 mod PlaceLemmas
 pub mod Ranges
 pub mod RefillLemmas

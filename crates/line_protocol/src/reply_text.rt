@@ -1,5 +1,5 @@
 //! Short texts on the stack.
-ghost use Rattle.std.specs.Prelude.{◌≡◌, ◌+◌, ◌≤◌, [], ◌++◌, length, decimal};
+ghost use Rattle.std.specs.Prelude.{◌≡◌, ◌+◌, ◌<◌, ◌≤◌, [], ◌++◌, length, decimal};
 
 use itoa::Buffer;
 use std::marker::Model;
@@ -99,8 +99,31 @@ impl ReplyText {
         }
     }
 
-    /// Adds the digits of a number.
+    /// Adds the digits of a number of two digits or more. Up to four are made here, which is what most numbers have.
     fn push_digits(&mut self, number: u64)
+        requires many { 10 ≤ number }
+        requires room { length self.old ≤ 108 }
+        ensures text { self.new ≡ self.old ++ decimal number }
+        ensures short { length self.new ≤ length self.old + 20 }
+    {
+        let (tens, last) = (number / 10, digit(number % 10));
+        if tens < 10 {
+            return self.push(&[digit(tens), last]);
+        }
+        let (hundreds, third) = (tens / 10, digit(tens % 10));
+        if hundreds < 10 {
+            return self.push(&[digit(hundreds), third, last]);
+        }
+        let (thousands, second) = (hundreds / 10, digit(hundreds % 10));
+        if thousands < 10 {
+            return self.push(&[digit(thousands), second, third, last]);
+        }
+        self.push_long(number);
+    }
+
+    /// Adds the digits of a number.
+    #[inline(never)]
+    fn push_long(&mut self, number: u64)
         requires { length self.old ≤ 108 }
         ensures text { self.new ≡ self.old ++ decimal number }
         ensures short { length self.new ≤ length self.old + 20 }
@@ -108,4 +131,13 @@ impl ReplyText {
         let mut digits = Buffer::new();
         self.push(digits.format(number).as_bytes());
     }
+}
+
+/// The character of a digit.
+#[inline(always)]
+fn digit(value: u64) -> u8
+    requires { value < 10 }
+    ensures { result ≡ 48 + value }
+{
+    b'0' + value as u8
 }
