@@ -109,6 +109,17 @@ child = multiprocessing.get_context("fork").Process(target=time.sleep, args=(100
 child.start()
 child.join()  # here
 """, r"root waits for the end of process ForkProcess-1 for .* s at .*# here"),
+    "lock in a child process": ("""
+context = multiprocessing.get_context("fork")
+shared_lock = context.Lock()
+def work():
+    with shared_lock:  # there
+        pass
+shared_lock.acquire()
+child = context.Process(target=work, daemon=True)
+child.start()
+child.join()  # here
+""", r"process work_1 has 1 task:\n *work_1 waits for shared_lock \(.*\) for .* s at .*# there\n *no task of this process"),
     "child process": ("""
 if not (child := os.fork()):
     time.sleep(1000)

@@ -4,6 +4,7 @@ from __future__ import annotations
 
 import _thread
 import atexit
+import contextlib
 import os
 import signal
 import threading
@@ -14,6 +15,7 @@ from .. import watch
 from ..api.tracing import Tracing
 from ..model.file_names import working_folder
 from ..model.verdict import Cause, Unseen
+from ..processes.hanging import HangingChild
 from ..record.following import ChildProcess, Ways, follow, is_beginning
 from ..record.following import end as end_following
 from ..record.journal_file import JournalFile
@@ -39,7 +41,8 @@ def begin_as_child(process: ChildProcess) -> None:
         traced.start()
     except OSError:
         return  # The journal of its parent has no end of it.
-    Ending(traced).begin(process.folders, process.packages, process.names)
+    Ending(traced).begin(process.folders, process.packages, process.names, process.asked)
+    may_be_asked(process, traced)
     watch.watch_path_runs()
 
 
@@ -59,6 +62,13 @@ def begin_unpickled(*words: Any) -> None:
 
 def _tracing_of(process: ChildProcess) -> Tracing:
     return Tracing(process.port, process.tenant, process.journal, host=process.host, child=process)
+
+
+def may_be_asked(process: ChildProcess, traced: Tracing) -> None:
+    """From here on the child tells what its tasks wait for, where somebody asks."""
+    if process.asked is not None:
+        with contextlib.suppress(OSError):  # Whoever asks is gone.
+            HangingChild(process.asked, traced.write).begin()
 
 
 class Ending:
@@ -81,11 +91,13 @@ class Ending:
                 before=self._hold_signals, after_in_parent=self._let_signals, after_in_child=self._in_child,
             )
 
-    def begin(self, folders: list[str], packages: list[str] | None, names: str | None = None) -> None:
+    def begin(
+        self, folders: list[str], packages: list[str] | None, names: str | None = None, asked: str | None = None,
+    ) -> None:
         """From here on the end of this process is looked after, and its children are traced."""
         atexit.register(self.finish)
         vars(threading)["_register_atexit"](self._main_has_ended)
-        follow(self._traced, folders, packages, self._ways(), names)
+        follow(self._traced, folders, packages, self._ways(), names, asked)
 
     def _ways(self) -> Ways:
         return Ways(self._go_on_as, Beginning, watch.program_of)
@@ -99,7 +111,8 @@ class Ending:
             self._let_signals()
             return  # The journal of its parent has no end of it.
         self._traced, self._process, self._waiting_signal = traced, os.getpid(), None
-        follow(traced, process.folders, process.packages, self._ways(), process.names)
+        follow(traced, process.folders, process.packages, self._ways(), process.names, process.asked)
+        may_be_asked(process, traced)
         for number in ENDING_SIGNALS:
             if _handler_of(number) == signal.SIG_DFL:
                 _set_handler(number, self._end_by)

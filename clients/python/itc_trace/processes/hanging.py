@@ -23,7 +23,7 @@ from ..model.frames import line_of
 from ..model.lines import state
 from ..record import own_files, plain
 from ..record.own_threads import start_thread
-from .waits import WAITS, Since, Wait, cycle_of, waits
+from .waits import WAITS, Since, Wait, cycle_of, name_of, waits
 
 LOOK = 0.1
 """In seconds, between two looks at the file and at the threads."""
@@ -32,6 +32,10 @@ STUCK = 1.0
 ASKING = ("SIGQUIT", "SIGUSR1")
 TOLD = ".told"
 """Behind the name of the file: there is a letter once the program can be asked, and then one for each answer."""
+CHILDREN = ".children"
+"""Behind the name of the file: it is there if child processes answer, too."""
+_ways_out: list[Callable[[], object]] = []
+"""How this process is broken off once a deadlock is there, if it is to be. A forked child is so as well."""
 
 
 class Hanging:
@@ -60,8 +64,19 @@ class Hanging:
             if number is not None and signal.getsignal(number) == signal.SIG_DFL:
                 with contextlib.suppress(RuntimeError, OSError):
                     faulthandler.register(number, self._file, all_threads=False, chain=False)
-        self._note_answer()  # It can be asked from here on.
+        if self._break_off is not None:
+            _ways_out.append(self._break_off)
+        self._can_be_asked()
         start_thread(self._look_on)
+
+    def _can_be_asked(self) -> None:
+        self._note_answer()
+
+    def _title(self) -> str:
+        return "the program"
+
+    def _within(self) -> str:
+        return ""
 
     def _look_on(self) -> None:
         size = 0
@@ -95,7 +110,7 @@ class Hanging:
 
     def _answer(self) -> None:
         found = waits(self._since)
-        _say(lines_of(found, f"{time.monotonic() - self._begun:.1f} s after its beginning the program has"))
+        _say(lines_of(found, f"{time.monotonic() - self._begun:.1f} s after its beginning {self._title()} has"))
         self._note_answer()
         self._keep(cycle_of(found))
 
@@ -114,9 +129,9 @@ class Hanging:
         if told == self._told:
             pass
         elif are_stuck:
-            _say(lines_of(found, "nobody goes on, as each waits for what only they could give:"))
+            _say(lines_of(found, f"nobody{self._within()} goes on, as each waits for what only they could give:"))
         else:
-            _say(lines_of(found, "some wait for each other of"))
+            _say(lines_of(found, f"some{self._within()} wait for each other of"))
         if self._keep(cycle) and self._break_off is not None:
             self._break_off()
 
@@ -133,6 +148,31 @@ class Hanging:
             self._kept.add(key)
             self._write(deadlock_row(cycle))
         return True
+
+
+class HangingChild(Hanging):
+    """The same in a child process. Its answers are not those that the command waits for."""
+
+    def __init__(self, asked: str, write: Callable[[str], object]) -> None:
+        super().__init__(asked, write, _ways_out[-1] if _ways_out else None)
+
+    def _can_be_asked(self) -> None:
+        with open(self._asked + CHILDREN, "ab"):
+            pass
+
+    def _note_answer(self) -> None:
+        """The command waits for the program's own process."""
+
+    def _title(self) -> str:
+        return f"process {self._name()}"
+
+    def _within(self) -> str:
+        return f" of process {self._name()}"
+
+    @staticmethod
+    def _name() -> str:
+        tracer = state.tracer
+        return str(os.getpid()) if tracer is None else name_of(tracer.main)
 
 
 def lines_of(found: list[Wait], begin: str) -> list[str]:
