@@ -226,6 +226,60 @@ threading.Event().wait()
 """
 
 
+class Children(ProgramCase):
+    def test_one_that_begins_behind_a_question_does_not_answer(self) -> None:
+        ran = run_traced(self.program("""
+import os, signal, time
+def work(seconds):
+    time.sleep(seconds)
+    os._exit(0)
+if not (early := os.fork()):
+    work(3)
+time.sleep(0.5)
+os.kill(os.getpid(), signal.SIGQUIT)
+time.sleep(1)
+if not (late := os.fork()):
+    work(1)
+os.waitpid(late, 0)
+os.waitpid(early, 0)
+"""))
+        self.assertEqual(ran.returncode, 0, ran.stderr)
+        told = re.findall("its beginning (.*) has", ran.stderr)
+        self.assertEqual(sorted(told), ["process child_1", "the program"], ran.stderr)
+
+    def test_a_handler_of_the_program_holds_in_its_children(self) -> None:
+        ran = run_traced(self.program("""
+import faulthandler, os, signal, time
+with open(__file__ + ".told", "wb") as told:
+    faulthandler.register(signal.SIGUSR1, told)
+    if not (child := os.fork()):
+        time.sleep(0.5)
+        os.kill(os.getpid(), signal.SIGUSR1)
+        os._exit(0)
+    os.waitpid(child, 0)
+with open(__file__ + ".told") as told:
+    print("most recent call" in told.read())
+"""))
+        self.assertEqual((ran.returncode, ran.stdout), (0, "True\n"), ran.stderr)
+        self.assertNotIn("its beginning", ran.stderr)
+
+    def test_a_program_that_it_runs_may_be_ended_by_a_signal(self) -> None:
+        ran = run_traced(self.program("""
+import signal, subprocess, sys, time
+if sys.argv[1:]:
+    print("begun", flush=True)
+    time.sleep(1000)
+child = subprocess.Popen([sys.executable, __file__, "child"], stdout=subprocess.PIPE)
+child.stdout.readline()
+child.send_signal(signal.SIGUSR1)
+try:
+    print(child.wait(20) == -signal.SIGUSR1)
+finally:
+    child.kill()
+"""))
+        self.assertEqual(ran.stdout, "True\n", ran.stderr)
+
+
 class Ended(ProgramCase):
     def test_a_program_is_ended_after_its_time(self) -> None:
         ran = run_traced("--timeout", "4", self.program("import threading\nthreading.Event().wait()\n"))

@@ -16,6 +16,7 @@ import sys
 import threading
 import time
 from collections.abc import Callable, Iterator
+from io import FileIO
 from types import CodeType, FrameType
 
 from ..model.file_names import name_of_file
@@ -36,10 +37,14 @@ CHILDREN = ".children"
 """Behind the name of the file: it is there if child processes answer, too."""
 _ways_out: list[Callable[[], object]] = []
 """How this process is broken off once a deadlock is there, if it is to be. A forked child is so as well."""
+_handled: list[FileIO] = []
+"""The file that the handlers in C add to, held open for them. A forked child has those of its parent."""
 
 
 class Hanging:
     """The thread that looks, from the program's beginning to its end."""
+
+    _signals = ASKING
 
     def __init__(self, asked: str, write: Callable[[str], object], break_off: Callable[[], object] | None) -> None:
         self._asked = asked
@@ -55,19 +60,26 @@ class Hanging:
         self._told: frozenset[tuple[str, str, str, float]] = frozenset()
         """Those of which it was told last that they are stuck."""
         self._begun = time.monotonic()
+        self._size = 0
+        """So long the file was as it was answered last."""
 
     def begin(self) -> None:
-        number_of_file = own_files.keep(os.open(self._asked, os.O_WRONLY | os.O_APPEND | os.O_CREAT, 0o600))
-        self._file = open(number_of_file, "ab", buffering=0)  # Held open for the handlers.
-        for name in ASKING:
-            number = getattr(signal, name, None)
-            if number is not None and signal.getsignal(number) == signal.SIG_DFL:
-                with contextlib.suppress(RuntimeError, OSError):
-                    faulthandler.register(number, self._file, all_threads=False, chain=False)
+        if not _handled:
+            self._handle()
         if self._break_off is not None:
             _ways_out.append(self._break_off)
         self._can_be_asked()
         start_thread(self._look_on)
+
+    def _handle(self) -> None:
+        """From here on these signals ask, unless the program handles them."""
+        number_of_file = own_files.keep(os.open(self._asked, os.O_WRONLY | os.O_APPEND | os.O_CREAT, 0o600))
+        _handled.append(open(number_of_file, "ab", buffering=0))
+        for name in self._signals:
+            number = getattr(signal, name, None)
+            if number is not None and signal.getsignal(number) == signal.SIG_DFL:
+                with contextlib.suppress(RuntimeError, OSError):
+                    faulthandler.register(number, _handled[0], all_threads=False, chain=False)
 
     def _can_be_asked(self) -> None:
         self._note_answer()
@@ -79,18 +91,16 @@ class Hanging:
         return ""
 
     def _look_on(self) -> None:
-        size = 0
         while os.getpid() == self._process:
             plain.sleep(LOOK)
             if state.tracer is None:
                 continue
             try:
                 begun = self._since.look()
-                now = os.stat(self._asked).st_size
-                if now != size:
+                if os.stat(self._asked).st_size != self._size:
                     self._answer()
                     plain.sleep(LOOK)
-                    size = os.stat(self._asked).st_size
+                    self._size = os.stat(self._asked).st_size
                 if self._may_be_stuck(begun):
                     self._look_whether_stuck()
             except (OSError, RuntimeError, KeyError, AttributeError, ValueError):
@@ -151,10 +161,16 @@ class Hanging:
 
 
 class HangingChild(Hanging):
-    """The same in a child process. Its answers are not those that the command waits for."""
+    """The same in a child process. Its answers are not those that the command waits for.
+
+    Ctrl-\\ comes to all processes of a terminal. SIGUSR1 has the effect that whoever started the child knows.
+    """
+
+    _signals = ASKING[:1]
 
     def __init__(self, asked: str, write: Callable[[str], object]) -> None:
         super().__init__(asked, write, _ways_out[-1] if _ways_out else None)
+        self._size = os.stat(asked).st_size  # What was asked before it began, it does not answer.
 
     def _can_be_asked(self) -> None:
         with open(self._asked + CHILDREN, "ab"):
