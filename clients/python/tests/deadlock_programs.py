@@ -245,6 +245,47 @@ def wait_with_a_lock() -> Steps:
     return [forth, back]
 
 
+def wait_with_an_inner_lock() -> Steps:
+    """Whoever is woken wants the outer lock again, and holds the inner one."""
+    ready, inner = threading.Condition(), threading.Lock()
+
+    def tell() -> None:
+        with ready:
+            ready.notify()
+
+    def wait() -> None:
+        with ready, inner:  # told
+            threading.Timer(0.1, tell).start()
+            ready.wait()  # told
+
+    def work() -> None:
+        with ready, inner:  # told
+            pass
+
+    return [wait, work]
+
+
+def asyncio_wait_with_an_inner_lock() -> Steps:
+    async def main() -> None:
+        ready, inner = asyncio.Condition(), asyncio.Lock()
+
+        async def wait() -> None:
+            async with ready, inner:  # told
+                await ready.wait()  # told
+
+        async def work() -> None:
+            await asyncio.sleep(0.05)
+            async with ready:
+                ready.notify()
+            await asyncio.sleep(0.05)
+            async with ready, inner:  # told
+                pass
+
+        await asyncio.gather(wait(), work())
+
+    return [lambda: asyncio.run(main())]
+
+
 def semaphores() -> Steps:
     one, other = threading.Semaphore(1), threading.BoundedSemaphore()
 
@@ -645,8 +686,8 @@ def queue_and_late_lock() -> Steps:
 
 TOLD = [
     two_locks, two_rlocks, lock_and_rlock, by_calls, three_tasks, four_tasks, three_locks_of_two_tasks, second_of_two,
-    within_functions, many_times, of_objects, lock_and_condition, two_conditions, wait_with_a_lock, semaphores,
-    semaphore_and_lock, stacks, exit_stacks, asyncio_exit_stacks, timeouts_that_are_over, crossed,
+    within_functions, many_times, of_objects, lock_and_condition, two_conditions, wait_with_a_lock,
+    wait_with_an_inner_lock, asyncio_wait_with_an_inner_lock, semaphores, semaphore_and_lock, stacks, exit_stacks, asyncio_exit_stacks, timeouts_that_are_over, crossed,
     gate_that_is_let_go, hand_over_hand_from_both_ends, jobs, job_and_thread, timers, asyncio_locks, asyncio_conditions, asyncio_semaphores,
     loops_of_two_threads, tried_first, queue_and_lock, queue_and_lock_in_turns, queue_and_two_locks,
     queue_of_a_condition, queue_and_gate, queue_and_late_lock,

@@ -310,14 +310,26 @@ def _become_signal(identity: LockIdentity) -> None:
 
 
 def _outlived(line: Line, identity: LockIdentity) -> None:
-    """The lock is released while one is held that was acquired after it: both hand over more than what they enclose."""
-    is_later = False
+    """The lock is released while one is held that was acquired after it: both hand over more than what they enclose.
+
+    Whoever waits at a condition acquires the lock again for what it has held all along.
+    """
+    is_later, is_lent = False, _is_by_wait(frame_at(3))
     for one in line.held:
         if is_later:
             one.is_crossed = identity.is_crossed = True
-            one.outlived += (identity,)
+            one.outlived += () if is_lent else (identity,)
         is_later = is_later or one is identity
     _remove(line, identity)
+
+
+def _is_by_wait(frame: FrameType | None) -> bool:
+    """Whether a condition releases the lock for the time of a wait."""
+    while frame is not None and is_internal(frame):
+        if frame.f_code.co_name == "wait":
+            return True
+        frame = frame.f_back
+    return False
 
 
 def _remove(line: Line, identity: LockIdentity) -> None:
