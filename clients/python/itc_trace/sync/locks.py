@@ -277,7 +277,7 @@ def gave(lock: Any) -> None:
         if held and held[-1] is identity and not identity.signal:  # Nothing has happened that is not in its stretch.
             section.is_entered_again = False
             lock._itc_holder = None
-            line.held = held[:-1]
+            line.held = () if held[0] is identity else held[:-1]
             lock._itc_token = section.token
             return
     code, instruction = place(frame_at(2))
@@ -285,7 +285,7 @@ def gave(lock: Any) -> None:
     if holder is line:
         held = line.held
         if held and held[-1] is identity:
-            line.held = held[:-1]
+            line.held = () if held[0] is identity else held[:-1]
         else:
             _outlived(line, identity)
     elif holder is not None and holder.tracer is state.tracer:
