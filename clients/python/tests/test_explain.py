@@ -178,6 +178,21 @@ class InParts(unittest.TestCase):
             self.assertIn(f"    {line}\n", told)
 
 
+class Twins(unittest.TestCase):
+    def test_who_asks_for_one_of_two_races_of_one_identity_is_told_of_both(self) -> None:
+        def race(line: int) -> Finding:
+            sides = tuple(FoundSide("write", "shop.py", line, "sell", task, begin=line, text=("stock += 1",)) for task in ("one", "other"))
+            return Finding(RACE, "stock", sides, "nothing orders them")
+
+        findings = [race(4), race(9), Finding(RACE, "other", race(4).sides, "nothing orders them")]
+        self.assertEqual(findings[0].identity, findings[1].identity)
+        told = explained(findings[0], Report(Verdict.RACES, "", findings)).splitlines()
+        self.assertEqual(
+            [line for line in told if "this id" in line],
+            ["    the same sources race at shop.py:9 in sell and shop.py:9 in sell: it has this id, too"],
+        )
+
+
 class Lines(unittest.TestCase):
     def test_each_line_of_what_is_meant_fits_its_race(self) -> None:
         stored = json.loads((PACKAGE / "tests" / "reports" / "kept.json").read_text())
