@@ -120,6 +120,21 @@ child = context.Process(target=work, daemon=True)
 child.start()
 child.join()  # here
 """, r"process work_1 has 1 task:\n *work_1 waits for shared_lock \(.*\) for .* s at .*# there\n *no task of this process"),
+    "locks of two child processes": ("""
+context = multiprocessing.get_context("fork")
+one_lock = context.Lock()
+other_lock = context.Lock()
+def work(*locks):
+    with locks[0]:  # held
+        time.sleep(0.5)
+        with locks[1]:  # there
+            pass
+children = [context.Process(target=work, args=order) for order in ((one_lock, other_lock), (other_lock, one_lock))]
+for child in children:
+    child.start()
+for child in children:
+    child.join()
+""", r"waits for other_lock .*\n *no task of this process holds it\n *work_\d+ holds one_lock \(.*\), acquired at .*# held"),
     "child process": ("""
 if not (child := os.fork()):
     time.sleep(1000)
@@ -246,6 +261,36 @@ os.waitpid(early, 0)
         self.assertEqual(ran.returncode, 0, ran.stderr)
         told = re.findall("its beginning (.*) has", ran.stderr)
         self.assertEqual(sorted(told), ["process child_1", "the program"], ran.stderr)
+
+    def test_those_of_a_program_that_is_ended_after_its_time_are_ended_too(self) -> None:
+        program = self.program("""
+import os, signal, subprocess, sys, time
+if sys.argv[1:]:
+    signal.signal(signal.SIGTERM, signal.SIG_IGN)
+    time.sleep(1000)
+stubborn = subprocess.Popen([sys.executable, __file__, "stubborn"])
+if not (child := os.fork()):
+    if not (grandchild := os.fork()):
+        time.sleep(1000)
+    with open(__file__ + ".told", "w") as told:
+        told.write(f"{os.getpid()} {grandchild} {stubborn.pid}")
+    os.waitpid(grandchild, 0)
+os.waitpid(child, 0)
+""")
+        ran = run_traced("--timeout", "4", program)
+        self.assertEqual(ran.returncode, Verdict.INCOMPLETE, ran.stderr)
+        left = [number for number in Path(f"{program}.told").read_text().split() if self.runs(number)]
+        for number in left:
+            os.kill(int(number), signal.SIGKILL)
+        self.assertEqual(left, [])
+
+    @staticmethod
+    def runs(process: str) -> bool:
+        """Whether it is there, and not only its status, which nobody asks for."""
+        try:
+            return Path(f"/proc/{process}/stat").read_text().rpartition(")")[2].split()[0] != "Z"
+        except OSError:
+            return False
 
     def test_a_handler_of_the_program_holds_in_its_children(self) -> None:
         ran = run_traced(self.program("""

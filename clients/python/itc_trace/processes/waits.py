@@ -76,6 +76,9 @@ class Wait:
             yield f"    {name_of(self.on)} holds it, acquired at {self.held}"
         elif self.lock is not None:
             yield "    no task of this process holds it"
+        for lock in () if self.line is None else self.line.held:
+            if lock.across:
+                yield f"    {self.task} holds {lock.name}, acquired at {_place_of(lock.taken_by, lock.taken_at)}"
 
 
 class Since:
