@@ -44,7 +44,7 @@ _handled: list[FileIO] = []
 class Hanging:
     """The thread that looks, from the program's beginning to its end."""
 
-    _signals = ASKING
+    _signals: tuple[str, ...] = ASKING
 
     def __init__(self, asked: str, write: Callable[[str], object], break_off: Callable[[], object] | None) -> None:
         self._asked = asked

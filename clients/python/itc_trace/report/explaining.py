@@ -52,7 +52,8 @@ def _lines(finding: Finding, report: Report) -> Iterator[str]:
         yield f"    met by {test}"
     for other in report.all_findings:
         if other is not finding and other.identity == finding.identity:
-            yield f"    the same sources race at {' and '.join(side.told_place for side in other.sides)}: it has this id, too"
+            places = " and ".join(side.told_place for side in other.sides)
+            yield f"    the same sources race at {places}: it has this id, too"
     story = finding.story
     for number, side in enumerate(finding.sides):
         yield ""
