@@ -404,6 +404,28 @@ class Confirmed(ProgramCase):
             self.assertIn("each waits for the next one", ran.stderr)
             self.assertRegex(ran.stderr.splitlines()[-1], "no race in this run; 1 deadlock: ")
 
+    def test_steps_at_the_same_lines_close_at_once(self) -> None:
+        """Each of five tasks has the next one's inner lock. Held at one step after another they would take ten seconds."""
+        ran = run_traced("--confirm", self.program("""
+import threading, time
+locks = [threading.Lock() for _ in range(5)]
+def step(number):
+    time.sleep(0.1 * number)
+    with locks[number]:
+        with locks[(number + 1) % 5]:
+            with open(__file__ + ".told", "a") as told:
+                told.write("well")
+threads = [threading.Thread(target=step, args=(number,)) for number in range(5)]
+for thread in threads:
+    thread.start()
+for thread in threads:
+    thread.join()
+"""))
+        self.assertEqual(ran.returncode, Verdict.RACES, ran.stderr)
+        self.assertIn("itc_trace: confirmed deadlock on ", ran.stderr)
+        waited = [float(one) for one in re.findall(r"waits for the end of thread step_1 for ([\d.]+) s", ran.stderr)]
+        self.assertTrue(waited and max(waited) < 5, ran.stderr)
+
     def test_several_runs_are_followed_by_one_that_tries(self) -> None:
         ran = run_traced("--confirm", "--runs", "2", "--no-shake", self.program(LUCKY))
         self.assertEqual(ran.returncode, Verdict.RACES, ran.stderr)
