@@ -17,11 +17,14 @@ import unittest
 import weakref
 from concurrent.futures import ThreadPoolExecutor
 from pathlib import Path
+from typing import Any
 
-from itc_trace import Verdict
-from itc_trace.processes.waits import Since, waits
+from itc_trace import Verdict, tracing
+from itc_trace.model.lines import state
+from itc_trace.processes.waits import Since, cycle_of, waits
+from itc_trace.record import plain
 
-from .support import PACKAGE, PROGRAM_RUNS, ProgramCase, run_traced, wait_until
+from .support import PACKAGE, PROGRAM_RUNS, ProgramCase, Step, fresh_tenant, in_turn, run_traced, wait_until
 
 ANSWER = 10.0
 """So many seconds an answer may take on a busy machine. On an idle one it takes less than one."""
@@ -507,6 +510,39 @@ class Looks(unittest.TestCase):
             is_over.set()
             thread.join()
         self.assertEqual(late, [])
+
+    def test_who_is_held_back_as_it_notes_a_lock_does_not_wait_for_that(self) -> None:
+        for method in ("acquire", "release"):
+            port, tenant = fresh_tenant()
+            with self.subTest(method), tracing(port=port, tenant=tenant):
+                lock, go_on, door, held = threading.Lock(), Step(), plain.allocate_lock(), set[int]()
+                if method == "acquire":
+                    in_turn(lambda lock=lock: (lock.acquire(), lock.release()))  # type: ignore[misc]
+
+                def work(method: str = method, lock: Any = lock, go_on: Step = go_on, held: Any = held) -> None:
+                    if method == "release":
+                        lock.acquire()
+                    go_on.wait()
+                    held.add(threading.get_ident())
+                    getattr(lock, method)()
+
+                thread, note = threading.Thread(target=work), state.note
+                thread.start()
+                door.acquire()
+                own = {"__name__": "itc_trace", "held": held, "door": door, "note": note, "me": threading.get_ident}
+                exec("def hold_back(one):\n    me() in held and door.acquire()\n    note(one)", own)
+                state.note = own["hold_back"]
+                try:
+                    go_on.done()
+                    wait_until(lambda held=held: held)  # type: ignore[misc]
+                    time.sleep(0.5)
+                    found = waits(Since())
+                finally:
+                    state.note = note
+                    door.release()
+                    thread.join()
+                self.assertEqual([one.what for one in found if ".work" in one.place], ["runs"])
+                self.assertEqual(cycle_of(found), [])
 
     def test_tasks_that_were_looked_at_are_let_go_once_they_are_over(self) -> None:
         since, kept = Since(), []

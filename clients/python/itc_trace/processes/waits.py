@@ -26,6 +26,7 @@ from ..model.frames import is_internal, line_of
 from ..model.lines import Line, state
 from ..model.lock_identity import LockIdentity
 from ..record import own_threads
+from ..sync.locks import gave, took
 
 _current_frames: Callable[[], dict[int, FrameType]] = vars(sys)["_current_frames"]
 _ITEMS, _THREAD, _FRAME, _INSTRUCTION = methodcaller("items"), itemgetter(0), itemgetter(1), attrgetter("f_lasti")
@@ -37,6 +38,8 @@ OWN = __name__.rpartition(".")[0]
 IMPORT_LOCK = "_ModuleLock"
 OF_PROCESSES = "_itc_traced"
 """The attribute by which a lock of `multiprocessing` has what is known of it."""
+_NOTING = (took.__code__, gave.__code__)
+"""Who is there has acquired the lock, or is about to release it. It may be held back, and waits for no task."""
 FUTURES = "the results of futures"
 _FUNCTIONS = {
     ("concurrent.futures._base", "wait"): FUTURES,
@@ -197,6 +200,8 @@ def _is_library(frame: FrameType) -> bool:
 
 def _described(inner: list[FrameType], name: str, line: Line | None, place: str, begun: float) -> Wait:
     """By the outermost frame of the library whose object is known."""
+    if any(frame.f_code in _NOTING for frame in inner):
+        return Wait(name, "runs", place, 0.0, line, is_endless=False)
     is_bounded = any(_has_limit(frame) for frame in inner)
     for frame in reversed(inner):
         words = _FUNCTIONS.get((str(frame.f_globals.get("__name__")), frame.f_code.co_name))
