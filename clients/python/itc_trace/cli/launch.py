@@ -34,6 +34,7 @@ from ..sync.shaking import Shaking
 from ..sync.tracebacks import leave_out_of
 from ..record.tracer_parts import Parts
 from ..api.tracing import Tracing
+from .later_imports import hide
 from .traced_process import Ending, ended_by, may_be_asked
 
 REFUSED, RAISED = "refused", "raised"
@@ -74,6 +75,7 @@ def main() -> None:
         Confirming(cycles).begin()
     if meeting is not None:
         meeting.begin()
+    hide()
     try:
         error = _error_of(_run_module if words[0] == "-m" else _run_file, words)
     except _NotRun as fault:

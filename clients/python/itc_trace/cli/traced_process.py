@@ -27,6 +27,7 @@ from ..sync.base import like
 from ..sync.process_pools import take_done
 from .deferred_signals import catch_up, deferred
 from .deferred_signals import shown as as_set
+from .later_imports import hide
 
 ANOTHER_PROGRAM = Unseen(Cause.KILLED, "tracing stopped where the process was to go on as another program")
 _set_handler, _handler_of = signal.signal, signal.getsignal
@@ -51,6 +52,7 @@ def begin_as_child(process: ChildProcess) -> None:
     Ending(traced).begin(process.folders, process.packages, process.names, process.asked)
     may_be_asked(process, traced)
     watch.watch_path_runs()
+    hide()
 
 
 class Beginning:
