@@ -32,6 +32,7 @@ DELAY, LONGEST_DELAY = 0.001, 0.05
 NO_TIME = 200_000
 """A thread that has computed for less than so many nanoseconds, and stands where it stood, waits there."""
 MOST_TRIES = 50
+FINALIZER = "__del__"
 _send = getattr(signal, "pthread_kill", None)
 _handler_of = signal.getsignal
 _trace_of, _set_trace = sys.gettrace, sys.settrace
@@ -85,7 +86,7 @@ class Deferred:
         if is_sent and not self.takes_one():
             return None
         try:
-            return self.handler(number, _of_program(frame))
+            return self.handler(number, _of_program(frame) or frame)
         except BaseException as fault:
             without_own_frame(fault)
             raise
@@ -150,11 +151,11 @@ def _waits(before: tuple[FrameType, int, int] | None, frame: FrameType) -> bool:
 
 
 def _of_program(frame: FrameType | None) -> FrameType | None:
-    """The frame of the program from which this package was called."""
+    """The frame of the program from which this package was called. None if the program has ended."""
     found = frame
     while found is not None and _is_between(found):
         found = found.f_back
-    return found or frame
+    return found
 
 
 def _look_at(frame: FrameType | None) -> None:
@@ -166,14 +167,18 @@ def _look_at(frame: FrameType | None) -> None:
 
 
 def _is_called(frame: FrameType, event: str, value: Any) -> None:
-    if not _is_between(frame) and not frame.f_code.co_filename.startswith(_FOLDER):
+    """What is raised in a finalizer is lost, and the library has functions that are called as weak references go."""
+    file = frame.f_code.co_filename
+    if not file.startswith(_FOLDER) and not is_of_library(file) and frame.f_code.co_name != FINALIZER:
         _goes_on(frame, event, value)
 
 
 def _goes_on(frame: FrameType, _: str, __: Any) -> None:
-    _set_trace(None)
+    if _trace_of() is _is_called:  # Else the program has set a function of its own meanwhile.
+        _set_trace(None)
     for one in _looked_at:
-        one.f_trace = None
+        if one.f_trace is _goes_on:
+            one.f_trace = None
     _looked_at.clear()
     try:
         catch_up(frame)
