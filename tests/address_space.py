@@ -34,8 +34,11 @@ ENOUGH = 128 << 20
 # How long a run may take.
 SECONDS = 240
 LACKING = b"x 507 no memory"
-# What the deepest walk takes of the stack.
+# What the deepest walk takes of the stack, and how many levels its tree has.
 DEEPEST = 532480
+MOST_LEVELS = 2048
+# Chains of so many tasks are as deep as the stack that was made for shorter ones holds, or a little deeper.
+CHAINS = (500, 624, 780)
 
 
 def sends():
@@ -153,8 +156,9 @@ def with_a_blank(export, line):
 def deep_runs(program):
     """Words, input and right output of runs over deep traces."""
     words = ["replay", *GREATEST, "x"]
-    data = "".join(f"x {report}\n" for report in with_locals(chain(500))).encode()
-    yield words, data, program.run(words, data)[1]
+    for tasks in CHAINS:
+        data = "".join(f"x {report}\n" for report in with_locals(chain(tasks))).encode()
+        yield words, data, program.run(words, data)[1]
     for family in (chain, fan):
         lines, export = export_of(program, with_locals(family(500)))
         late = with_a_blank(export, -10)
@@ -219,18 +223,23 @@ def stack_of(running):
 
 
 def stack_is_long_before_deep_walks(program):
-    """A replay makes its stack long enough for the deepest walk before its trees are much more than 400 levels deep."""
+    """A replay makes its stack long enough for walks over its trees before it makes them, however deep these are."""
     running = program.start("replay", *GREATEST, "x")
+    spawns = chain(MOST_LEVELS - 1)
 
     def answered(reports):
         running.stdin.write("".join(f"x {report}\n" for report in reports).encode())
         return [running.stdout.readline() for _ in reports]
 
-    answered(chain(400))
+    answered(spawns[:400])
     check(stack_of(running) < DEEPEST, f"{program.path}: the stack is long before there is a deep tree: {stack_of(running)} bytes")
-    told = answered(["spawn t400 t401", "local t401"])
-    check(told == [b"x 201 401\n", b"x 201 402\n"], f"{program.path}: reports of deep tasks are answered {told}")
-    check(stack_of(running) >= DEEPEST, f"{program.path}: the stack is too short for the deepest walk: {stack_of(running)} bytes")
+    before = 400
+    for tasks in (401, 502, 700, 1000, 1500, len(spawns)):
+        told = answered([*spawns[before:tasks], f"local t{tasks}"])
+        check(all(line.startswith(b"x 201 ") for line in told), f"{program.path}: reports of {tasks} tasks are answered {told[-2:]}")
+        wanted = DEEPEST * (tasks + 1) // MOST_LEVELS
+        check(stack_of(running) >= wanted, f"{program.path}: the stack is too short for a tree of {tasks} levels: {stack_of(running)} bytes")
+        before = tasks
     running.stdin.close()
     check(running.wait(SECONDS) == 0, f"{program.path}: a replay of a chain ends with {running.returncode}")
 
