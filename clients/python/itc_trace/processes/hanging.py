@@ -30,6 +30,10 @@ LOOK = 0.1
 """In seconds, between two looks at the file and at the threads."""
 STUCK = 1.0
 """So long all tasks wait before that is told."""
+LOOKS = 10
+"""So often it is looked at most, at the end of a trace, whether a cycle stays as it is."""
+GONE_ON = (OSError, RuntimeError, KeyError, AttributeError, ValueError)
+"""What a look raises if a task has gone on meanwhile, or the file is no more."""
 ASKING = ("SIGQUIT", "SIGUSR1")
 TOLD = ".told"
 """Behind the name of the file: there is a letter once the program can be asked, and then one for each answer."""
@@ -103,8 +107,8 @@ class Hanging:
                     self._size = os.stat(self._asked).st_size
                 if self._may_be_stuck(begun):
                     self._look_whether_stuck()
-            except (OSError, RuntimeError, KeyError, AttributeError, ValueError):
-                continue  # A task has gone on meanwhile, or the file is no more.
+            except GONE_ON:
+                continue
 
     def _may_be_stuck(self, begun: dict[int, float]) -> bool:
         """Whether it is worth to look closer: some threads, or the only one, have been where they are for long.
@@ -259,6 +263,28 @@ def _handles_signals() -> bool:
     """Whether the program has a handler for a signal. That may end any wait."""
     handlers = (signal.getsignal(number) for number in signal.valid_signals())
     return any(callable(one) and one is not signal.default_int_handler for one in handlers)
+
+
+def tell_closed_cycle(write: Callable[[str], object]) -> None:
+    """Writes to the journal a cycle that tasks of the trace have closed, if it is seen by two looks alike."""
+    since, before = Since(), frozenset[tuple[str, str, str, float]]()
+    for _ in range(LOOKS):
+        try:
+            cycle = _traced_cycle(since)
+        except GONE_ON:
+            continue
+        key = frozenset(map(_key, cycle))
+        if cycle and key == before:
+            write(deadlock_row(cycle))
+        if key == before:
+            return
+        before = key
+        plain.sleep(LOOK)
+
+
+def _traced_cycle(since: Since) -> list[Wait]:
+    """One of the tasks that are traced now, and of none that an earlier trace has left."""
+    return cycle_of([one for one in waits(since) if one.line is not None and one.line.tracer is state.tracer])
 
 
 def _key(wait: Wait) -> tuple[str, str, str, float]:
