@@ -42,7 +42,6 @@ type report struct {
 	site             *site
 	label            string
 	lock             *lock
-	isGuard          bool
 	touches          *touches
 	mayBeRefused     bool
 	answered         chan struct{}
@@ -883,16 +882,9 @@ func (t *tracer) rowOfReport(told *report, event, part int) row {
 		of: t.named(told.name),
 	}
 	if told.lock != nil {
-		made.lock, made.isGuard = told.lock.name, told.isGuard
+		made.lock = told.lock.name
 	}
 	return made
-}
-
-// tellSignal has the journal say that a lock keeps nobody out.
-func (t *tracer) tellSignal(lock *lock) {
-	t.mutex.Lock()
-	t.unwritten = append(t.unwritten, signalRow(lock.name)...)
-	t.mutex.Unlock()
 }
 
 // named is what a row says of the name in a report.

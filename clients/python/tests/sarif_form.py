@@ -2,14 +2,10 @@
 
 from __future__ import annotations
 
-import re
 from collections.abc import Iterator
 from typing import Any
 
 LEVELS = ("none", "note", "warning", "error")
-COLUMN_KINDS = ("utf16CodeUnits", "unicodeCodePoints")
-LINK = re.compile(r"\]\(([^)]*)\)")
-"""The end of a link from a message to a place, behind the text of the link."""
 NEEDED: dict[str, tuple[dict[str, type], tuple[str, ...]]] = {
     "log": ({"version": str, "runs": list, "$schema": str}, ("version", "runs")),
     "run": (
@@ -35,7 +31,6 @@ NEEDED: dict[str, tuple[dict[str, type], tuple[str, ...]]] = {
     "location": ({"id": int, "message": dict, "physicalLocation": dict, "logicalLocations": list}, ()),
     "physicalLocation": ({"artifactLocation": dict, "region": dict}, ("artifactLocation",)),
     "artifactLocation": ({"uri": str, "uriBaseId": str}, ("uri",)),
-    "base": ({"uri": str}, ()),
     "region": ({"startLine": int, "snippet": dict}, ("startLine",)),
     "suppression": ({"kind": str}, ("kind",)),
     "logicalLocation": ({"fullyQualifiedName": str}, ()),
@@ -65,22 +60,19 @@ def _object(kind: str, told: Any) -> Iterator[str]:
 
 def _log(told: Any) -> Iterator[str]:
     yield from _object("log", told)
-    if told["version"] != "2.1.0" or not told["$schema"].endswith("/sarif-2.1.0.json"):
+    if told["version"] != "2.1.0":
         yield "the version is another one"
     for run in told["runs"]:
         yield from _object("run", run)
         yield from _object("tool", run["tool"])
         yield from _driver(run["tool"]["driver"])
-        if run["columnKind"] not in COLUMN_KINDS:
-            yield f"{run['columnKind']} is no kind of columns"
         for invocation in run["invocations"]:
             yield from _object("invocation", invocation)
             for one in invocation.get("toolExecutionNotifications", []):
                 yield from _object("notification", one)
                 yield from _level(one)
         for base in run["originalUriBaseIds"].values():
-            yield from _object("base", base)
-            if "uri" in base and (not base["uri"].startswith("file:///") or not base["uri"].endswith("/")):
+            if not base["uri"].startswith("file:///") or not base["uri"].endswith("/"):
                 yield "a base ends with a slash, and is a whole URI"
         for result in run["results"]:
             yield from _result(result, run)
@@ -119,20 +111,15 @@ def _result(result: Any, run: Any) -> Iterator[str]:
     places = [*result["locations"], *result["relatedLocations"]]
     for place in places:
         yield from _location(place, run)
-    for listed in (result["relatedLocations"], result.get("suppressions", [])):
-        if any(one in listed[:number] for number, one in enumerate(listed)):
-            yield "two are the same where each is another one"
     numbers = [place["id"] for place in places if "id" in place]
-    if any(number < 1 for number in numbers):
-        yield "places are counted from 1"
     if len(set(numbers)) != len(numbers):
         yield "two places have one id"
     yield from (f"the message names place {number}" for number in _named(result["message"]["text"]) if number not in numbers)
 
 
 def _named(message: str) -> Iterator[int]:
-    for number in LINK.findall(message):
-        yield int(number) if number.isdecimal() else -1
+    for piece in message.split("](")[1:]:
+        yield int(piece.partition(")")[0])
 
 
 def _location(place: Any, run: Any) -> Iterator[str]:
@@ -150,7 +137,7 @@ def _location(place: Any, run: Any) -> Iterator[str]:
         yield f"{uri} is not of the base {base}"
     if base is None and not uri.startswith("file:///"):
         yield f"{uri} is no whole URI"
-    if any(letter in uri for letter in " <>\"{}|\\^`[]#?") or not uri.isascii():
+    if any(letter in uri for letter in " <>\"{}|\\^`"):
         yield f"{uri} has letters that a URI writes by their numbers"
     if "region" in physical:
         yield from _object("region", physical["region"])

@@ -12,7 +12,6 @@ from pathlib import Path
 from types import FrameType
 
 from .asking import Asking
-from .descendants import descendants, end_all
 from .sentinel import Sentinel
 
 LOOK_AGAIN = 0.02
@@ -109,15 +108,12 @@ class Child:
         except subprocess.TimeoutExpired:
             self.is_timed_out = True
         self._asking.ask(process.pid)
-        below = descendants(process.pid)  # Whose parent is over has another one.
         process.terminate()
         try:
-            status = process.wait(GRACE_SECONDS)
+            return process.wait(GRACE_SECONDS)
         except subprocess.TimeoutExpired:
             process.kill()
-            status = process.wait()
-        end_all(below, GRACE_SECONDS)
-        return status
+        return process.wait()
 
     def _ask(self, number: int, _: FrameType | None) -> None:
         """Hands on that somebody asks what the program waits for, unless it was asked itself."""

@@ -1,7 +1,6 @@
 package example.hometturi.itctrace;
 
 import example.hometturi.itctrace.Place.Gives;
-import example.hometturi.itctrace.Place.Kind;
 import example.hometturi.itctrace.Place.Noted;
 import example.hometturi.itctrace.Row.Site;
 import example.hometturi.itctrace.Task.HeldLock;
@@ -15,8 +14,11 @@ final class LockName {
     private String name;
     private Gives luck;
     private Gives guard;
-    /** Whether others wait for more than the lock: for a condition, or for one that was acquired later and was held at its release. */
+    private Gives signal;
+    /** Whether others wait for more than the lock, as for a condition. */
     private volatile boolean isGuard;
+    /** Whether it keeps nobody out: it was released while one was held that was acquired later. */
+    private volatile boolean isSignal;
     /** Whether another one was acquired while it was held. Then it is looked where each task acquires it. */
     private volatile boolean isNested;
     /** What a thread held that had acquired it alone, to be held again. */
@@ -26,8 +28,9 @@ final class LockName {
         if (name == null) {
             name = Traced.lockName(made);
             String told = "lock (" + made + ")";
-            luck = new Gives("lock" + made.line(), "release " + told, "acquire " + told, name, Kind.LUCK);
-            guard = new Gives("lock" + made.line(), "release " + told, "acquire " + told, name, Kind.GUARD);
+            luck = new Gives("lock" + made.line(), "release " + told, "acquire " + told, name, true);
+            guard = new Gives("lock" + made.line(), "release " + told, "acquire " + told, name, false);
+            signal = Gives.order("lock" + made.line(), "release " + told, "acquire " + told);
         }
         return name;
     }
@@ -43,7 +46,7 @@ final class LockName {
     }
 
     private Gives gives() {
-        return isGuard ? guard : luck;
+        return isSignal ? signal : isGuard ? guard : luck;
     }
 
     /** Others wait for more than the lock, as for a condition. Then its hand-over is meant, and no luck. */
@@ -63,7 +66,7 @@ final class LockName {
             held = own.with(this, new HeldLock(name(), at, isShared));
             alone = own.holdsAny() ? alone : held;
         }
-        own.hold(held, hasWaited);
+        own.hold(held, hasWaited && !isSignal);
     }
 
     /** Another one was acquired while it was held. */
@@ -71,10 +74,11 @@ final class LockName {
         isNested = true;
     }
 
-    /** This thread's task no longer holds it, or lends it for the time of a wait. */
-    void letGo(Traced.Own own, boolean isLent) {
-        if (own.letGo(name(), isLent)) {
-            isGuard = true; // One that was acquired later stays, as in a lock made of two.
+    /** This thread's task no longer holds it. */
+    void letGo(Traced.Own own) {
+        if (own.letGo(name()) && !isSignal) {
+            isSignal = true; // One that was acquired later stays, as in a lock made of two.
+            Traced.tellSignal(name());
         }
     }
 
@@ -85,7 +89,7 @@ final class LockName {
     Noted release(Place here, Noted last, int turns) {
         name();
         Gives gives = gives();
-        Place.Slot slot = here.slot(gives.kind());
+        Place.Slot slot = here.slot(gives.isLuck());
         if (turns < FEW_TURNS || last == null) {
             slot.noted = new Noted(gives, Traced.site(), Row.now());
         } else if (slot.noted == null || slot.noted.gives() != gives) {

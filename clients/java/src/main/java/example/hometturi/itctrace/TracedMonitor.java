@@ -47,9 +47,9 @@ public final class TracedMonitor implements AutoCloseable {
         name.hold(own, at, false, true);
     }
 
-    private void releasing(boolean isLent) {
+    private void releasing() {
         if (Traced.isOn()) {
-            name.letGo(Traced.own(), isLent);
+            name.letGo(Traced.own());
             released = Traced.here();
             release = name.release(released, release, turns);
             released.addMark();
@@ -66,7 +66,7 @@ public final class TracedMonitor implements AutoCloseable {
         Object own = object.get();
         int before = depth;
         name.becomeGuard();
-        releasing(true);
+        releasing();
         depth = 0;
         try {
             own.wait(milliseconds);
@@ -80,7 +80,7 @@ public final class TracedMonitor implements AutoCloseable {
     @Override
     public void close() {
         if (--depth == 0) {
-            releasing(false);
+            releasing();
         }
     }
 }

@@ -43,9 +43,9 @@ final class TracedReadWriteLock implements ReadWriteLock {
         }
 
         @Override
-        void releasing(boolean isLent) {
+        void releasing() {
             if (Traced.isOn() && isHeld.getAsBoolean()) {
-                order.releasing(isWriter, isLent);
+                order.releasing(isWriter);
             }
         }
 
@@ -59,7 +59,7 @@ final class TracedReadWriteLock implements ReadWriteLock {
             if (!isHeld.getAsBoolean()) {
                 return () -> {};
             }
-            releasing(true);
+            releasing();
             return () -> acquired(true);
         }
     }
