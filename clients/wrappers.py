@@ -35,9 +35,10 @@ WEB = {"java": CLIENTS / "java/examples/WebPrograms.java", "rust": CLIENTS / "ru
 REQUESTS = os.environ.get("ITC_REQUESTS", "4000")
 """So many requests the long run answers."""
 DEADLOCKS = {
-    "rust": ("two_orders", "two_orders_gate", "read_orders", "read_orders_both", "tried_order"),
+    "rust": ("two_orders", "two_orders_gate", "read_orders", "read_orders_both", "tried_order", "crossed_orders", "gate_let_go",
+             "hand_over_hand", "both_ends", "acquired_again", "wait_orders", "sent_orders"),
     "java": ("two_orders", "two_orders_gate", "read_orders", "read_orders_both", "tried_order", "monitor_orders", "hand_over_hand",
-             "late_orders"),
+             "late_orders", "crossed_orders", "gate_let_go", "both_ends", "wait_orders", "latched_orders"),
 }
 """Programs of which some acquire locks in orders that make a cycle."""
 LUCKY = ("read_lock", "stamped_lock", "stamped_trust", "stamped_turn")

@@ -32,6 +32,8 @@ type row struct {
 	label   string
 	held    string
 	lock    string
+	// isGuard tells whether others wait for more than the lock.
+	isGuard bool
 	// wants is the lock that was waited for, and places has where those that are held were acquired.
 	wants, places, shared string
 	// of is the task or the message that the report names. It is told of runs that may be divided into parts.
@@ -76,7 +78,11 @@ func (r row) appendTo(text []byte) []byte {
 		text = append(append(append(text, `,"shared":[`...), r.shared[1:]...), ']')
 	}
 	if r.lock != "" {
-		text = appendText(append(text, `,"lock":`...), r.lock)
+		key := `,"lock":`
+		if r.isGuard {
+			key = `,"guard":`
+		}
+		text = appendText(append(text, key...), r.lock)
 	}
 	if r.of != "" {
 		text = appendText(append(text, `,"of":`...), r.of)
@@ -103,6 +109,11 @@ func unseenRow(cause, reason string) string {
 	text := appendText([]byte(`{"unseen":`), cause)
 	text = appendText(append(text, `,"text":`...), reason)
 	return string(append(text, "}\n"...))
+}
+
+// signalRow says that a lock keeps nobody out, since another goroutine releases it.
+func signalRow(lock string) string {
+	return string(append(appendText([]byte(`{"signal":`), lock), "}\n"...))
 }
 
 // processRow is the whole name of a process, and what the names of its tasks begin with.

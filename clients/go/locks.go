@@ -11,7 +11,10 @@ import (
 type lock struct {
 	name    string
 	release what
+	guard   what
 	signal  what
+	// isNested tells whether it was acquired with another one held, or another one while it was held.
+	isNested atomic.Bool
 }
 
 func newLock(at *site) *lock {
@@ -23,6 +26,8 @@ func newLock(at *site) *lock {
 	made.signal = what{hint: fmt.Sprintf("lock%d", at.line), giving: "release " + called, taking: "acquire " + called}
 	made.release = made.signal
 	made.release.lock = made
+	made.guard = made.release
+	made.guard.isGuard = true
 	return made
 }
 
@@ -33,8 +38,29 @@ type hand struct {
 	// last has the token of the last release, which nobody can take any more once isTaken is true.
 	last    *holder
 	isTaken bool
-	// isSignal tells whether others wait for more than the lock, as for a condition. Then its hand-over is meant, and no luck.
+	// isGuard tells whether others wait for more than the lock, as for a condition. Then its hand-over is meant, and no luck.
+	isGuard atomic.Bool
+	// isSignal tells whether the lock keeps nobody out, as another goroutine releases it.
 	isSignal atomic.Bool
+}
+
+// gives is what a release of the lock is.
+func (h *hand) gives() *what {
+	switch {
+	case h.isSignal.Load():
+		return &h.lock.signal
+	case h.isGuard.Load():
+		return &h.lock.guard
+	default:
+		return &h.lock.release
+	}
+}
+
+// becomeSignal has the lock be one that keeps nobody out. What was told of it before is told not to count.
+func (h *hand) becomeSignal() {
+	if !h.isSignal.Swap(true) && h.lock.isNested.Load() {
+		tracing.tellSignal(h.lock)
+	}
 }
 
 func (h *hand) known(at *site) *lock {
@@ -63,22 +89,18 @@ func (h *hand) acquire(by *task, at *site, hasWaited bool) {
 	by.mutex.Unlock()
 }
 
-// release has the task no longer hold the lock, which is handed over.
-func (h *hand) release(by *task, at *site) {
+// release has the task no longer hold the lock, which is handed over. Who lends it for the time of a wait acquires it again.
+func (h *hand) release(by *task, at *site, lends bool) {
 	released := h.known(at)
 	if h.holder != nil && h.holder != by {
-		h.isSignal.Store(true) // A lock that another goroutine releases tells it something.
+		h.becomeSignal() // A lock that another goroutine releases tells it something.
 		h.holder.letGo(released)
 	}
 	h.holder = nil
 	by.mutex.Lock()
 	var isLaterHeld bool
-	if by.held, isLaterHeld = by.held.without(released); isLaterHeld {
-		h.isSignal.Store(true) // One that was acquired later stays, as in a lock made of two.
-	}
-	called := &released.release
-	if h.isSignal.Load() {
-		called = &released.signal
+	if by.held, isLaterHeld = by.held.without(released, lends); isLaterHeld {
+		h.isGuard.Store(true) // One that was acquired later stays, as in a lock made of two.
 	}
 	if h.last == nil {
 		h.last = newHolder()
@@ -86,7 +108,7 @@ func (h *hand) release(by *task, at *site) {
 	if h.last.token == nil || h.last.token.task != by {
 		h.last.token = &token{task: by}
 	}
-	h.last.token.what, h.last.token.site = called, at
+	h.last.token.what, h.last.token.site = h.gives(), at
 	by.markBy(h.last.token)
 	by.mutex.Unlock()
 	h.isTaken = false
@@ -103,7 +125,7 @@ func (h *hand) given() *token {
 func (of *task) letGo(released *lock) {
 	of.mutex.Lock()
 	defer of.mutex.Unlock()
-	of.held, _ = of.held.without(released)
+	of.held, _ = of.held.without(released, false)
 }
 
 // Mutex is a lock whose release comes before the next time that it is acquired. Its zero value is ready.
@@ -138,13 +160,23 @@ func (m *Mutex) TryLock() bool {
 //go:noinline
 func (m *Mutex) Unlock() {
 	if goroutine, counter := here(); isOn() {
-		m.hand.release(own(goroutine), siteAt(counter))
+		m.hand.release(own(goroutine), siteAt(counter), false)
 	}
 	m.mutex.Unlock()
 }
 
-// becomeSignal has the hand-over of the lock be meant, as others wait for more than the lock.
-func (m *Mutex) becomeSignal() { m.hand.isSignal.Store(true) }
+func (m *Mutex) lend(by *task, at *site) {
+	m.hand.release(by, at, true)
+	m.mutex.Unlock()
+}
+
+func (m *Mutex) takeBack(by *task, at *site) {
+	m.mutex.Lock()
+	m.hand.acquire(by, at, true)
+}
+
+// becomeGuard has the hand-over of the lock be meant, as others wait for more than the lock.
+func (m *Mutex) becomeGuard() { m.hand.isGuard.Store(true) }
 
 // RWMutex is a lock that several goroutines may read under at once. They come after the last one that wrote, and before the next one.
 // Its zero value is ready.
@@ -166,10 +198,20 @@ func (m *RWMutex) acquired(by *task, at *site, hasWaited bool) {
 	m.hand.acquire(by, at, hasWaited)
 }
 
-func (m *RWMutex) releasing(by *task, at *site) {
+func (m *RWMutex) releasing(by *task, at *site, lends bool) {
 	m.mutex.Lock()
 	defer m.mutex.Unlock()
-	m.hand.release(by, at)
+	m.hand.release(by, at, lends)
+}
+
+func (m *RWMutex) lend(by *task, at *site) {
+	m.releasing(by, at, true)
+	m.lock.Unlock()
+}
+
+func (m *RWMutex) takeBack(by *task, at *site) {
+	m.lock.Lock()
+	m.acquired(by, at, true)
 }
 
 func (m *RWMutex) reads(by *task, at *site, hasWaited bool) {
@@ -203,8 +245,8 @@ func (m *RWMutex) hasRead(by *task, at *site) {
 	released, own := m.hand.known(at), m.readerOf(by)
 	by.mutex.Lock()
 	var isLaterHeld bool
-	if by.held, isLaterHeld = by.held.without(released); isLaterHeld {
-		m.hand.isSignal.Store(true)
+	if by.held, isLaterHeld = by.held.without(released, false); isLaterHeld {
+		m.hand.isGuard.Store(true)
 	}
 	made := own
 	if made == nil {
@@ -212,10 +254,7 @@ func (m *RWMutex) hasRead(by *task, at *site) {
 	} else {
 		by.drop(made)
 	}
-	made.site, made.what = at, &released.release
-	if m.hand.isSignal.Load() {
-		made.what = &released.signal
-	}
+	made.site, made.what = at, m.hand.gives()
 	by.markBy(made)
 	by.mutex.Unlock()
 	if own == nil {
@@ -250,7 +289,7 @@ func (m *RWMutex) TryLock() bool {
 //go:noinline
 func (m *RWMutex) Unlock() {
 	if goroutine, counter := here(); isOn() {
-		m.releasing(own(goroutine), siteAt(counter))
+		m.releasing(own(goroutine), siteAt(counter), false)
 	}
 	m.lock.Unlock()
 }
@@ -321,15 +360,15 @@ var signalling = &what{hint: "signal", giving: "signal", taking: "wake up"}
 
 // NewCond makes a condition of the lock.
 func NewCond(lock sync.Locker) *Cond {
-	if meant, canBeMeant := lock.(interface{ becomeSignal() }); canBeMeant {
-		meant.becomeSignal()
+	if meant, canBeMeant := lock.(interface{ becomeGuard() }); canBeMeant {
+		meant.becomeGuard()
 	}
 	return &Cond{L: lock}
 }
 
-func (m *RWMutex) becomeSignal() { m.hand.isSignal.Store(true) }
+func (m *RWMutex) becomeGuard() { m.hand.isGuard.Store(true) }
 
-func (r *reading) becomeSignal() { (*RWMutex)(r).becomeSignal() }
+func (r *reading) becomeGuard() { (*RWMutex)(r).becomeGuard() }
 
 // Wait releases the lock, waits until somebody signals, and acquires the lock again.
 //
@@ -340,12 +379,29 @@ func (c *Cond) Wait() {
 	c.mutex.Lock()
 	c.waiting = append(c.waiting, woken)
 	c.mutex.Unlock()
-	c.L.Unlock()
-	given := <-woken
-	c.L.Lock()
+	given := c.waitFor(woken, goroutine, counter)
 	if given != nil && isOn() {
 		own(goroutine).take(given, siteAt(counter))
 	}
+}
+
+func (c *Cond) waitFor(woken chan *token, goroutine uint64, counter uintptr) *token {
+	lent, isOurs := c.L.(lending)
+	if !isOurs || !isOn() {
+		c.L.Unlock()
+		defer c.L.Lock()
+		return <-woken
+	}
+	by, at := own(goroutine), siteAt(counter)
+	lent.lend(by, at)
+	defer lent.takeBack(by, at)
+	return <-woken
+}
+
+// lending is a lock that is released for the time of a wait, and acquired again.
+type lending interface {
+	lend(by *task, at *site)
+	takeBack(by *task, at *site)
 }
 
 // Signal wakes the one who has waited longest, if somebody waits.

@@ -54,10 +54,12 @@ type source struct {
 	lock *lock
 }
 
-// what an order is called: its message, its sending and its receiving. A lock that only luck hands over is named.
+// what an order is called: its message, its sending and its receiving. A lock that is handed over is named. Luck says who has it next, if
+// it is no guard.
 type what struct {
 	hint, giving, taking string
 	lock                 *lock
+	isGuard              bool
 }
 
 // place is a point in a task that somebody may still come after, and what was touched between the place before it and this one.
@@ -132,19 +134,48 @@ type holding struct {
 	// places has the sites of all of them, and shared the numbers of those that are shared, both as a row tells them.
 	places, shared string
 	count          int
-	next           *holding
+	// outlived has the locks that the task has acquired before this one, and released since. isCrossed tells whether there are any
+	// of this one or of those below.
+	outlived  []*lock
+	isCrossed bool
+	next      *holding
 }
 
 // with is the same with one lock more.
 func (h *holding) with(acquired *lock, at *site, isShared bool) *holding {
-	if h.next != nil && h.next.lock == acquired && h.next.site == at && h.next.isShared == isShared {
-		return h.next
-	}
-	h.next = &holding{
-		below: h, lock: acquired, site: at, isShared: isShared, text: h.text + "\n" + acquired.name,
-		places: h.places + at.three(), shared: h.sharedWith(isShared), count: h.count + 1,
+	if h.next == nil || h.next.lock != acquired || h.next.site != at || h.next.isShared != isShared {
+		h.next = h.above(acquired, at, isShared)
 	}
 	return h.next
+}
+
+func (h *holding) above(acquired *lock, at *site, isShared bool) *holding {
+	return &holding{
+		below: h, lock: acquired, site: at, isShared: isShared, text: h.text + "\n" + acquired.name,
+		places: h.places + at.three(), shared: h.sharedWith(isShared), count: h.count + 1, isCrossed: h.isCrossed,
+	}
+}
+
+// outliving is the same with one more lock that its last one has outlived.
+func (h *holding) outliving(released ...*lock) *holding {
+	h.outlived = append(h.outlived, released...)
+	h.isCrossed = h.isCrossed || len(h.outlived) > 0
+	return h
+}
+
+// notOutliving is those that have not outlived this lock. Two locks may be a lock of readers: one of them has the other acquired, is
+// released, and is acquired once more to release that. Readers do not wait for each other by that.
+func (h *holding) notOutliving(wanted *lock) *holding {
+	if !h.isCrossed {
+		return h
+	}
+	below := h.below.notOutliving(wanted)
+	for _, one := range h.outlived {
+		if one == wanted {
+			return below
+		}
+	}
+	return below.above(h.lock, h.site, h.isShared)
 }
 
 func (h *holding) sharedWith(isShared bool) string {
@@ -154,19 +185,24 @@ func (h *holding) sharedWith(isShared bool) string {
 	return h.shared + "," + strconv.Itoa(h.count)
 }
 
-// without is the same with one lock less. It tells whether the task still holds one that it acquired later.
-func (h *holding) without(released *lock) (left *holding, isLaterHeld bool) {
+// without is the same with one lock less. It tells whether the task still holds one that it acquired later. A lock that is lent for the
+// time of a wait is outlived by none.
+func (h *holding) without(released *lock, isLent bool) (left *holding, isLaterHeld bool) {
 	if h.lock == released && released != nil {
 		return h.below, false
 	}
 	if h.below == nil {
 		return h, false
 	}
-	below, _ := h.below.without(released)
+	below, _ := h.below.without(released, isLent)
 	if below == h.below {
 		return h, false
 	}
-	return below.with(h.lock, h.site, h.isShared), true
+	left = below.above(h.lock, h.site, h.isShared).outliving(h.outlived...)
+	if !isLent {
+		left.outliving(released)
+	}
+	return left, true
 }
 
 // add takes over a touch. It tells whether there was none that is the same.
@@ -242,7 +278,11 @@ func (of *task) touch(one touch) {
 
 // acquires notes that the task has waited for a lock, if it holds others. The mutex of the task is held.
 func (of *task) acquires(wanted *lock, at *site, isShared bool) {
-	if held := of.held; held.count > 0 {
+	if held := of.held.notOutliving(wanted); held.count > 0 {
+		wanted.isNested.Store(true)
+		for one := held; one.count > 0; one = one.below {
+			one.lock.isNested.Store(true)
+		}
 		of.add(touch{site: at, held: held.text, wants: wanted.name, places: held.places, shared: held.sharedWith(isShared)})
 	}
 }
@@ -401,7 +441,8 @@ func (of *task) sendNow(given *token) *message {
 	of.events++
 	of.lastSent = made
 	tracing.put(&report{
-		kind: "send", task: of.name, name: made.name, site: given.site, label: given.what.giving, lock: given.what.lock, time: given.time,
+		kind: "send", task: of.name, name: made.name, site: given.site, label: given.what.giving, lock: given.what.lock,
+		isGuard: given.what.isGuard, time: given.time,
 	})
 	return made
 }
@@ -453,7 +494,7 @@ func (of *task) take(taken *token, at *site) {
 		return
 	}
 	of.mutex.Lock()
-	of.report(&report{kind: "recv", name: message.name, site: at, label: taken.what.taking, lock: lock})
+	of.report(&report{kind: "recv", name: message.name, site: at, label: taken.what.taking, lock: lock, isGuard: taken.what.isGuard})
 	of.mutex.Unlock()
 	runtime.KeepAlive(message) // Else it may be forgotten before its receipt is reported.
 	of.know(source{from, lock}, count)

@@ -42,6 +42,7 @@ type report struct {
 	site             *site
 	label            string
 	lock             *lock
+	isGuard          bool
 	touches          *touches
 	mayBeRefused     bool
 	answered         chan struct{}
@@ -882,9 +883,16 @@ func (t *tracer) rowOfReport(told *report, event, part int) row {
 		of: t.named(told.name),
 	}
 	if told.lock != nil {
-		made.lock = told.lock.name
+		made.lock, made.isGuard = told.lock.name, told.isGuard
 	}
 	return made
+}
+
+// tellSignal has the journal say that a lock keeps nobody out.
+func (t *tracer) tellSignal(lock *lock) {
+	t.mutex.Lock()
+	t.unwritten = append(t.unwritten, signalRow(lock.name)...)
+	t.mutex.Unlock()
 }
 
 // named is what a row says of the name in a report.

@@ -1,5 +1,6 @@
 //! The lines of a journal, which lead from the number of an event back to the program.
 
+use crate::place::Kind;
 use std::panic::Location;
 use std::sync::Arc;
 use std::time::{Duration, SystemTime, UNIX_EPOCH};
@@ -73,7 +74,7 @@ pub(crate) struct Row {
     /// The locks that the task holds.
     pub held: Vec<LockName>,
     /// The lock that a message hands over.
-    pub lock: Option<LockName>,
+    pub lock: Option<(Kind, LockName)>,
     /// Those that the task holds, and last the one that it has waited for. There are none of any other event.
     pub acquired: Vec<HeldLock>,
     /// When the event was. None if another row tells it.
@@ -121,8 +122,9 @@ impl Row {
             let shared = self.acquired.iter().enumerate().filter(|(_, one)| one.is_shared).map(|(number, _)| number.to_string());
             text += &format!(",\"shared\":[{}]", shared.collect::<Vec<_>>().join(","));
         }
-        if let Some(handed) = self.lock {
-            text += &format!(",\"lock\":{}", lock(handed));
+        if let Some((kind, handed)) = self.lock {
+            let key = if kind == Kind::Luck { "lock" } else { "guard" };
+            text += &format!(",\"{key}\":{}", lock(handed));
         }
         if let Some(of) = of {
             text += &format!(",\"of\":{}", quoted(of));

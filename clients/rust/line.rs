@@ -4,7 +4,7 @@
 //! another segment. If nobody may any more, the two become one. So a lock that one task alone acquires leaves nothing in the trace.
 
 use crate::journal::{LockName, Row, Site, Time};
-use crate::place::Place;
+use crate::place::{Kind, Place};
 use crate::tracer::Task;
 use std::collections::{HashMap, VecDeque};
 use std::sync::Arc;
@@ -98,21 +98,27 @@ impl Segment {
     }
 }
 
-/// Up to which place of other tasks a task has come after them: by what was meant, and by luck.
+/// Up to which place of other tasks a task has come after them: by what was meant, by locks that others wait for, and by luck.
 #[derive(Clone, Debug, Default)]
 pub(crate) struct Known {
     meant: HashMap<Task, u64>,
+    guards: HashMap<Task, u64>,
     luck: HashMap<Task, u64>,
 }
 
 impl Known {
-    pub fn has(&self, place: &Place, is_luck: bool) -> bool {
+    pub fn has(&self, place: &Place, kind: Kind) -> bool {
         let comes_after = |known: &HashMap<Task, u64>| known.get(&place.task).is_some_and(|position| *position >= place.position());
-        place.position() > 0 && (comes_after(&self.meant) || is_luck && comes_after(&self.luck))
+        let by_locks = kind >= Kind::Guard && comes_after(&self.guards) || kind == Kind::Luck && comes_after(&self.luck);
+        place.position() > 0 && (by_locks || comes_after(&self.meant))
     }
 
-    pub fn add(&mut self, task: Task, position: u64, is_luck: bool) {
-        let known = if is_luck { &mut self.luck } else { &mut self.meant };
+    pub fn add(&mut self, task: Task, position: u64, kind: Kind) {
+        let known = match kind {
+            Kind::Luck => &mut self.luck,
+            Kind::Guard => &mut self.guards,
+            Kind::Meant => &mut self.meant,
+        };
         if known.len() > MOST_KNOWN {
             known.clear();
         }

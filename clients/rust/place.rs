@@ -19,53 +19,70 @@ impl What {
     }
 }
 
+/// Whether an order is meant, or a lock's that others wait for, too, or a lock's that only luck hands over.
+#[derive(Clone, Copy, Debug, PartialEq, Eq, PartialOrd, Ord)]
+pub(crate) enum Kind {
+    Meant,
+    Guard,
+    Luck,
+}
+
 /// What gives an order.
 #[derive(Clone, Copy, Debug)]
 pub(crate) enum Gives {
     /// A lock that only luck hands over.
     Luck(LockName),
     /// A lock for whose hand-over somebody waits.
-    Signal(LockName),
+    Guard(LockName),
     Order(&'static What),
 }
 
 impl Gives {
-    pub fn is_luck(self) -> bool {
-        matches!(self, Gives::Luck(_))
-    }
-
-    /// The lock that a row names.
-    pub fn lock(self) -> Option<LockName> {
-        match self {
-            Gives::Luck(lock) => Some(lock),
-            Gives::Signal(_) | Gives::Order(_) => None,
+    pub fn by(kind: Kind, lock: LockName) -> Gives {
+        if kind == Kind::Luck {
+            Gives::Luck(lock)
+        } else {
+            Gives::Guard(lock)
         }
     }
 
-    fn lock_number(self) -> Option<u64> {
+    pub fn kind(self) -> Kind {
         match self {
-            Gives::Luck(lock) | Gives::Signal(lock) => Some(lock.number),
+            Gives::Luck(_) => Kind::Luck,
+            Gives::Guard(_) => Kind::Guard,
+            Gives::Order(_) => Kind::Meant,
+        }
+    }
+
+    /// The lock that a row names.
+    pub fn lock(self) -> Option<(Kind, LockName)> {
+        match self {
+            Gives::Luck(lock) | Gives::Guard(lock) => Some((self.kind(), lock)),
             Gives::Order(_) => None,
         }
     }
 
+    fn lock_number(self) -> Option<u64> {
+        self.lock().map(|(_, lock)| lock.number)
+    }
+
     pub fn hint(self) -> String {
         match self {
-            Gives::Luck(lock) | Gives::Signal(lock) => format!("lock{}", lock.made.line()),
+            Gives::Luck(lock) | Gives::Guard(lock) => format!("lock{}", lock.made.line()),
             Gives::Order(what) => what.hint.into(),
         }
     }
 
     pub fn giving(self) -> String {
         match self {
-            Gives::Luck(lock) | Gives::Signal(lock) => format!("release {}", lock.told()),
+            Gives::Luck(lock) | Gives::Guard(lock) => format!("release {}", lock.told()),
             Gives::Order(what) => what.giving.into(),
         }
     }
 
     pub fn taking(self) -> String {
         match self {
-            Gives::Luck(lock) | Gives::Signal(lock) => format!("acquire {}", lock.told()),
+            Gives::Luck(lock) | Gives::Guard(lock) => format!("acquire {}", lock.told()),
             Gives::Order(what) => what.taking.into(),
         }
     }
@@ -85,7 +102,7 @@ impl Noted {
     }
 }
 
-/// One of the two messages that a place may be sent as.
+/// One of the messages that a place may be sent as: of each kind one, so that the order without locks is told in full.
 #[derive(Debug, Default)]
 pub(crate) struct Slot {
     noted: Mutex<Option<Noted>>,
@@ -159,19 +176,20 @@ pub(crate) struct Place {
     /// How many places of the task were sent up to this one. It is 0 as long as it is not sent.
     position: AtomicU64,
     luck: Slot,
+    guard: Slot,
     meant: Slot,
 }
 
 impl Place {
     pub fn new(task: Task) -> Arc<Place> {
-        Arc::new(Place { task, position: AtomicU64::new(0), luck: Slot::default(), meant: Slot::default() })
+        Arc::new(Place { task, position: AtomicU64::new(0), luck: Slot::default(), guard: Slot::default(), meant: Slot::default() })
     }
 
-    pub fn slot(&self, is_luck: bool) -> &Slot {
-        if is_luck {
-            &self.luck
-        } else {
-            &self.meant
+    pub fn slot(&self, kind: Kind) -> &Slot {
+        match kind {
+            Kind::Luck => &self.luck,
+            Kind::Guard => &self.guard,
+            Kind::Meant => &self.meant,
         }
     }
 
@@ -183,9 +201,9 @@ impl Place {
         self.position.store(position, Ordering::Relaxed);
     }
 
-    /// What has marked the place by luck and by what was meant, and is not sent yet.
+    /// What has marked the place by luck, by locks and by what was meant, and is not sent yet.
     pub fn unsent(&self) -> impl Iterator<Item = Noted> + '_ {
-        [&self.luck, &self.meant].into_iter().filter_map(Slot::unsent)
+        [&self.luck, &self.guard, &self.meant].into_iter().filter_map(Slot::unsent)
     }
 }
 

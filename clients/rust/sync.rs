@@ -14,7 +14,7 @@ pub use std::sync::{Arc, LockResult, OnceState, PoisonError, TryLockError, TryLo
 
 use crate::journal::{HeldLock, LockName, Site};
 use crate::place::{Gives, Place, What};
-use crate::traced::{self, hold, may_be_on, on, release_lock, Keeper, Release, MANY_MARKS};
+use crate::traced::{self, hold, kind_of, lend_lock, may_be_on, on, release_lock, Keeper, Release, MANY_MARKS};
 use crate::tracer::{Task, Tracer};
 use std::collections::BTreeMap;
 use std::fmt::{self, Debug, Display};
@@ -31,13 +31,13 @@ struct Hand {
     /// It is 0 up to the first time that the lock is acquired in a trace.
     number: AtomicU64,
     /// Whether others wait for more than the lock, as for a condition. Then its hand-over is meant, and no luck.
-    is_signal: AtomicBool,
+    is_guard: AtomicBool,
 }
 
 impl Hand {
     #[track_caller]
     const fn new() -> Hand {
-        Hand { made: Location::caller(), number: AtomicU64::new(0), is_signal: AtomicBool::new(false) }
+        Hand { made: Location::caller(), number: AtomicU64::new(0), is_guard: AtomicBool::new(false) }
     }
 
     #[inline]
@@ -70,7 +70,7 @@ impl Hand {
     /// This thread holds the lock from now on. It has waited for it, if it would have.
     #[inline]
     fn hold(&self, tracer: &Tracer, lock: LockName, site: Site, is_shared: bool, has_waited: bool) {
-        hold(tracer, HeldLock { lock, at: site, is_shared }, has_waited && !self.is_signal.load(Ordering::Relaxed));
+        hold(tracer, HeldLock { lock, at: site, is_shared }, has_waited);
     }
 
     /// This thread has what the lock guards, and nobody else has.
@@ -83,10 +83,16 @@ impl Hand {
     /// This thread is about to release the lock. Gives the place of that.
     fn releasing(&self, site: Site) -> Option<Release> {
         let tracer = on()?;
-        release_lock(tracer, self.name(tracer), &self.is_signal, site)
+        release_lock(tracer, self.name(tracer), &self.is_guard, site)
     }
 
-    /// The same of a lock that one thread alone has.
+    /// The same for the time of a wait.
+    fn lending(&self, site: Site) -> Option<Release> {
+        let tracer = on()?;
+        lend_lock(tracer, self.name(tracer), &self.is_guard, site)
+    }
+
+    /// The same as of a release, of a lock that one thread alone has.
     #[inline(never)]
     fn released(&self, released: &mut Option<Release>, site: Site) {
         *released = self.releasing(site);
@@ -329,7 +335,7 @@ impl Order {
     fn reads(&self, site: Site, has_waited: bool) {
         if let Some(tracer) = on() {
             let (name, writer) = (self.hand.name(tracer), self.writer.load(Ordering::Relaxed));
-            if !writer.is_null() && !traced::has_come_after(writer, self.hand.is_signal.load(Ordering::Relaxed)) {
+            if !writer.is_null() && !traced::has_come_after(writer, kind_of(&self.hand.is_guard)) {
                 if let Some(release) = &self.released().by_writer {
                     release.take_by(tracer, name, site);
                     traced::comes_after(release);
@@ -343,7 +349,7 @@ impl Order {
     fn has_read(&self, site: Site) {
         let Some(tracer) = on() else { return };
         let (name, known) = (self.hand.name(tracer), self.reader.load(Ordering::Relaxed));
-        if let Some(release) = traced::release_again(tracer, name, &self.hand.is_signal, site, known) {
+        if let Some(release) = traced::release_again(tracer, name, &self.hand.is_guard, site, known) {
             let (mut released, place) = (self.released(), Arc::as_ptr(&release.place));
             released.by_readers.put(tracer, name, release);
             self.reader.store(place.cast_mut(), Ordering::Relaxed);
@@ -670,9 +676,9 @@ impl Condvar {
 
 /// The lock's own guard, behind the report that the lock is released.
 fn released<'a, T>(mut guard: MutexGuard<'a, T>, site: Site) -> (&'a Hand, sync::MutexGuard<'a, Inner<T>>) {
-    guard.hand.is_signal.store(true, Ordering::Relaxed);
+    guard.hand.is_guard.store(true, Ordering::Relaxed);
     let mut own = guard.guard.take().expect(HELD);
-    own.released = guard.hand.releasing(site);
+    own.released = guard.hand.lending(site);
     (guard.hand, own)
 }
 

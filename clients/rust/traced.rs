@@ -4,7 +4,7 @@ use crate::ending;
 use crate::environment::{Environment, JOURNAL};
 use crate::journal::{HeldLock, LockName, Site};
 use crate::line::Touch;
-use crate::place::{Gives, Mark, Noted, Place};
+use crate::place::{Gives, Kind, Mark, Noted, Place};
 use crate::sites;
 use crate::tracer::{Task, Tracer, END, MAIN};
 use std::cell::{Cell, RefCell};
@@ -27,10 +27,12 @@ struct Thread {
     /// Where its task is.
     here: RefCell<Weak<Place>>,
     /// What it has noted there last, of locks.
-    noted: Cell<Option<(u64, usize, bool)>>,
+    noted: Cell<Option<(u64, usize, Kind)>>,
     held: RefCell<Vec<HeldLock>>,
-    /// The last place of another task that its task has come after, and whether by luck.
-    taken: RefCell<(Weak<Place>, bool)>,
+    /// The locks that are held, each with one that was acquired before it and released since.
+    outlived: RefCell<Vec<(u64, u64)>>,
+    /// The last place of another task that its task has come after, and by what.
+    taken: RefCell<(Weak<Place>, Kind)>,
     /// Where it has released the lock that it has acquired last, if it does nothing else but to release it again.
     own: Cell<Option<Arc<Place>>>,
 }
@@ -41,7 +43,8 @@ impl Thread {
             here: RefCell::new(Weak::new()),
             noted: Cell::new(None),
             held: RefCell::new(Vec::new()),
-            taken: RefCell::new((Weak::new(), false)),
+            outlived: RefCell::new(Vec::new()),
+            taken: RefCell::new((Weak::new(), Kind::Meant)),
             own: Cell::new(None),
         }
     }
@@ -50,7 +53,7 @@ impl Thread {
     fn forget(&self) {
         self.here.replace(Weak::new());
         self.noted.set(None);
-        self.taken.replace((Weak::new(), false));
+        self.taken.replace((Weak::new(), Kind::Meant));
         self.own.set(None);
     }
 }
@@ -276,10 +279,12 @@ pub(crate) fn hold(tracer: &Tracer, lock: HeldLock, has_waited: bool) {
     }
 }
 
+/// Two locks may be a lock of readers: one of them has the other acquired, is released, and is acquired once more to release that. Readers
+/// do not wait for each other by that.
 #[cold]
 fn acquired_nested(tracer: &Tracer) {
-    let held = THREAD.try_with(|thread| thread.held.borrow().clone()).unwrap_or_default();
-    if let Some(site) = held.last().and_then(|wanted| wanted.at) {
+    let held = THREAD.try_with(Thread::awaited).unwrap_or_default();
+    if let Some(site) = held.last().filter(|_| held.len() > 1).and_then(|wanted| wanted.at) {
         is_at(&tracer.acquire(current(tracer), held, sites::function_at(site)));
     }
 }
@@ -288,7 +293,7 @@ fn acquired_nested(tracer: &Tracer) {
 pub(crate) struct Release {
     pub place: Arc<Place>,
     site: Site,
-    is_luck: bool,
+    kind: Kind,
 }
 
 impl Release {
@@ -311,40 +316,47 @@ impl Release {
     }
 
     pub fn mark(&self, lock: LockName) -> Mark {
-        let gives = if self.is_luck { Gives::Luck(lock) } else { Gives::Signal(lock) };
-        let noted = self.place.slot(self.is_luck).noted_as(Noted { gives, site: self.site, time: None });
+        let gives = Gives::by(self.kind, lock);
+        let noted = self.place.slot(self.kind).noted_as(Noted { gives, site: self.site, time: None });
         Mark { place: self.place.clone(), noted }
     }
 
     pub fn of(mark: Mark) -> Release {
-        Release { place: mark.place, site: mark.noted.site, is_luck: mark.noted.gives.is_luck() }
+        Release { place: mark.place, site: mark.noted.site, kind: mark.noted.gives.kind() }
     }
 }
 
 /// This thread releases the lock here. If it has noted the same lock at the same place before, nobody asks for the time again.
 #[inline]
-pub(crate) fn release_lock(tracer: &Tracer, lock: LockName, is_signal: &AtomicBool, site: Site) -> Option<Release> {
-    release_again(tracer, lock, is_signal, site, ptr::null())
+pub(crate) fn release_lock(tracer: &Tracer, lock: LockName, is_guard: &AtomicBool, site: Site) -> Option<Release> {
+    release_again(tracer, lock, is_guard, site, ptr::null())
 }
 
-/// The same, but none if this thread has released the lock at the known place already, and has done nothing since.
+/// The same for the time of a wait. Then it acquires the lock again for what it has held all along, so none outlives it.
+pub(crate) fn lend_lock(tracer: &Tracer, lock: LockName, is_guard: &AtomicBool, site: Site) -> Option<Release> {
+    let lent = release_lock(tracer, lock, is_guard, site);
+    let _ = THREAD.try_with(|thread| thread.outlived.borrow_mut().retain(|(_, released)| *released != lock.number));
+    lent
+}
+
+/// The same as of a release, but none if this thread has released the lock at the known place already, and has done nothing since.
 #[inline]
-pub(crate) fn release_again(tracer: &Tracer, lock: LockName, is_signal: &AtomicBool, site: Site, known: *const Place) -> Option<Release> {
+pub(crate) fn release_again(tracer: &Tracer, lock: LockName, is_guard: &AtomicBool, site: Site, known: *const Place) -> Option<Release> {
     #[cfg(test)]
     let _marking = MARKING.read();
-    THREAD.try_with(|thread| thread.release(tracer, lock, is_signal, site, known)).unwrap_or_else(|_| {
-        let (place, noted) = (tracer.here(current(tracer)), Noted::now(gives_of(lock, is_signal), site));
-        place.slot(noted.gives.is_luck()).note(noted);
-        Some(Release { place, site, is_luck: noted.gives.is_luck() })
+    THREAD.try_with(|thread| thread.release(tracer, lock, is_guard, site, known)).unwrap_or_else(|_| {
+        let (place, noted) = (tracer.here(current(tracer)), Noted::now(Gives::by(kind_of(is_guard), lock), site));
+        place.slot(noted.gives.kind()).note(noted);
+        Some(Release { place, site, kind: noted.gives.kind() })
     })
 }
 
 #[inline]
-fn gives_of(lock: LockName, is_signal: &AtomicBool) -> Gives {
-    if is_signal.load(Ordering::Relaxed) {
-        Gives::Signal(lock)
+pub(crate) fn kind_of(is_guard: &AtomicBool) -> Kind {
+    if is_guard.load(Ordering::Relaxed) {
+        Kind::Guard
     } else {
-        Gives::Luck(lock)
+        Kind::Luck
     }
 }
 
@@ -353,6 +365,10 @@ impl Thread {
     #[inline]
     fn let_go(&self, lock: u64) -> bool {
         let mut held = self.held.borrow_mut();
+        let mut outlived = self.outlived.borrow_mut();
+        if !outlived.is_empty() {
+            outlived.retain(|(later, _)| *later != lock);
+        }
         if held.last().is_some_and(|last| last.lock.number == lock) {
             held.pop();
             return false;
@@ -360,19 +376,27 @@ impl Thread {
         match held.iter().rposition(|other| other.lock.number == lock) {
             Some(place) => {
                 held.remove(place);
+                outlived.extend(held[place..].iter().map(|later| (later.lock.number, lock)));
                 place < held.len()
             }
             None => false,
         }
     }
 
+    /// The lock that is held last, behind those that it was waited for with.
+    fn awaited(&self) -> Vec<HeldLock> {
+        let (held, outlived) = (self.held.borrow(), self.outlived.borrow());
+        let Some(wanted) = held.last().map(|last| last.lock.number) else { return Vec::new() };
+        held.iter().filter(|one| !outlived.contains(&(one.lock.number, wanted))).copied().collect()
+    }
+
     #[inline]
-    fn release(&self, tracer: &Tracer, lock: LockName, is_signal: &AtomicBool, site: Site, known: *const Place) -> Option<Release> {
+    fn release(&self, tracer: &Tracer, lock: LockName, is_guard: &AtomicBool, site: Site, known: *const Place) -> Option<Release> {
         if self.let_go(lock.number) {
-            is_signal.store(true, Ordering::Relaxed); // One that was acquired later stays, as in a lock made of two.
+            is_guard.store(true, Ordering::Relaxed); // One that was acquired later stays, as in a lock made of two.
         }
-        let is_luck = !is_signal.load(Ordering::Relaxed);
-        let key = Some((lock.number, site.map_or(0, |site| site as *const _ as usize), is_luck));
+        let kind = kind_of(is_guard);
+        let key = Some((lock.number, site.map_or(0, |site| site as *const _ as usize), kind));
         if self.noted.get() == key && !known.is_null() && self.here.borrow().as_ptr() == known {
             return None;
         }
@@ -381,9 +405,9 @@ impl Thread {
         let place = here.unwrap_or_else(|| is_somewhere(tracer));
         if self.noted.get() != key {
             self.noted.set(key);
-            place.slot(is_luck).note(Noted::now(gives_of(lock, is_signal), site));
+            place.slot(kind).note(Noted::now(Gives::by(kind, lock), site));
         }
-        Some(Release { place, site, is_luck })
+        Some(Release { place, site, kind })
     }
 }
 
@@ -393,7 +417,7 @@ pub(crate) fn mark(gives: Gives, site: Site) -> Option<Mark> {
     let _marking = MARKING.read();
     let tracer = on()?;
     let (place, noted) = (here(tracer), Noted::now(gives, site));
-    place.slot(gives.is_luck()).note(noted);
+    place.slot(gives.kind()).note(noted);
     Some(Mark { place, noted })
 }
 
@@ -411,7 +435,7 @@ pub(crate) fn take_by(tracer: &Tracer, mark: &Mark, site: Site) {
         if let Some(place) = tracer.take(task, mark, site) {
             is_at(&place);
         }
-        let taken = (Arc::downgrade(&mark.place), mark.noted.gives.is_luck());
+        let taken = (Arc::downgrade(&mark.place), mark.noted.gives.kind());
         let _ = THREAD.try_with(|thread| thread.taken.replace(taken));
     }
 }
@@ -420,24 +444,24 @@ pub(crate) fn take_by(tracer: &Tracer, mark: &Mark, site: Site) {
 fn has_taken(mark: &Mark) -> bool {
     let is_last = |thread: &Thread| {
         let taken = thread.taken.borrow();
-        taken.0.as_ptr() == Arc::as_ptr(&mark.place) && taken.1 == mark.noted.gives.is_luck()
+        taken.0.as_ptr() == Arc::as_ptr(&mark.place) && taken.1 == mark.noted.gives.kind()
     };
     THREAD.try_with(is_last).unwrap_or(false)
 }
 
-/// Whether the place is the one that this thread has come after last, as it was meant, or also by luck.
+/// Whether the place is the one that this thread has come after last, by this kind of order or by one that is meant more.
 #[inline]
-pub(crate) fn has_come_after(place: *const Place, is_meant: bool) -> bool {
+pub(crate) fn has_come_after(place: *const Place, kind: Kind) -> bool {
     let is_last = |thread: &Thread| {
         let taken = thread.taken.borrow();
-        taken.0.as_ptr() == place && !(taken.1 && is_meant)
+        taken.0.as_ptr() == place && taken.1 <= kind
     };
     THREAD.try_with(is_last).unwrap_or(false)
 }
 
 /// This thread knows all that was done up to the place of a lock's release.
 pub(crate) fn comes_after(release: &Release) {
-    let taken = (Arc::downgrade(&release.place), release.is_luck);
+    let taken = (Arc::downgrade(&release.place), release.kind);
     let _ = THREAD.try_with(|thread| thread.taken.replace(taken));
 }
 
@@ -462,7 +486,7 @@ impl Keeper {
         let keeper = *self.0.get_or_insert_with(|| tracer.stranger("keeper"));
         marks.for_each(|mark| drop(tracer.take(keeper, &mark, None)));
         let (place, noted) = (tracer.here(keeper), Noted::now(gives, None));
-        place.slot(gives.is_luck()).note(noted);
+        place.slot(gives.kind()).note(noted);
         Mark { place, noted }
     }
 }

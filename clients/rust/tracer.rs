@@ -7,7 +7,7 @@ use crate::journal::{self, Event, HeldLock, LockName, Row, Site};
 use crate::line::{Known, Segment, Touch, LAST};
 use crate::lines::Lines;
 use crate::names::Names;
-use crate::place::{Forgotten, Mark, Message, Noted, Place, What};
+use crate::place::{Forgotten, Kind, Mark, Message, Noted, Place, What};
 use std::collections::{HashMap, VecDeque};
 use std::fs::File;
 use std::io::{self, BufRead, BufReader, Write};
@@ -672,7 +672,7 @@ impl State {
         let time = noted.time.max(line.time);
         let row = Row { lock: noted.gives.lock(), time, ..Row::new(&line.name, "send", noted.site, noted.gives.giving()) };
         let forgotten = self.has_parts.then(|| self.forgotten.clone());
-        sent.slot(noted.gives.is_luck()).is_sent_as(Message { name: message.as_str().into(), forgotten });
+        sent.slot(noted.gives.kind()).is_sent_as(Message { name: message.as_str().into(), forgotten });
         let request = format!("send {} {message}", line.name);
         self.tell(task, request, row, Refusable::Never);
     }
@@ -747,15 +747,15 @@ impl State {
 
     fn take(&mut self, task: Task, mark: &Mark, site: Site) {
         let (place, gives) = (&mark.place, mark.noted.gives);
-        let is_luck = gives.is_luck();
-        if self.stage == Stage::Over || place.task == task || self.lines[task].known.has(place, is_luck) {
+        let kind = gives.kind();
+        if self.stage == Stage::Over || place.task == task || self.lines[task].known.has(place, kind) {
             return;
         }
-        if place.slot(is_luck).message().is_none() {
+        if place.slot(kind).message().is_none() {
             self.give(place, mark.noted);
         }
-        let Some(message) = place.slot(is_luck).message() else { return };
-        self.lines[task].known.add(place.task, place.position(), is_luck);
+        let Some(message) = place.slot(kind).message() else { return };
+        self.lines[task].known.add(place.task, place.position(), kind);
         self.leave(task);
         let row = Row { lock: gives.lock(), ..Row::new(&self.lines[task].name, "recv", site, gives.taking()) };
         self.tell(task, format!("recv {} {message}", row.task), row, Refusable::Received);
@@ -780,7 +780,7 @@ impl State {
         let row = Row::new(&self.lines[parent].name, "spawn", site, format!("start {name}"));
         self.tell(parent, format!("spawn {} {name}", row.task), row, Refusable::Never);
         let mut known = self.lines[parent].known.clone();
-        known.add(parent, self.lines[parent].position, false);
+        known.add(parent, self.lines[parent].position, Kind::Meant);
         self.lines.add(name, known)
     }
 
@@ -819,7 +819,7 @@ impl State {
         }
         let (name, position) = (self.lines[child].name.clone(), self.lines[child].position);
         self.tell_end(child);
-        self.lines[task].known.add(child, position, false);
+        self.lines[task].known.add(child, position, Kind::Meant);
         self.leave(task);
         let row = Row::new(&self.lines[task].name, "join", site, format!("join {name}"));
         self.tell(task, format!("join {} {name}", row.task), row, Refusable::Never);

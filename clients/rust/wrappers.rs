@@ -672,6 +672,109 @@ fn read_orders(both_read: bool) {
     one_after_another(forth, back);
 }
 
+/// Two locks are acquired in both orders, and the outer one is released first.
+fn crossed_orders() {
+    let locks = Arc::new((Mutex::new(()), Mutex::new(())));
+    let others = locks.clone();
+    let forth = move || {
+        let one = locks.0.lock().unwrap(); // deadlock: crossed_orders
+        let _other = locks.1.lock().unwrap(); // deadlock: crossed_orders
+        drop(one);
+    };
+    let back = move || {
+        let other = others.1.lock().unwrap(); // deadlock: crossed_orders
+        let _one = others.0.lock().unwrap(); // deadlock: crossed_orders
+        drop(other);
+    };
+    one_after_another(forth, back);
+}
+
+/// Both threads acquire their first lock behind a gate, and their second one without it.
+fn gate_let_go() {
+    let locks = Arc::new((Mutex::new(()), [Mutex::new(()), Mutex::new(())]));
+    let work = |first: usize| {
+        let locks = locks.clone();
+        move || {
+            let gate = locks.0.lock().unwrap();
+            let _first = locks.1[first].lock().unwrap(); // deadlock: gate_let_go
+            drop(gate);
+            let _second = locks.1[1 - first].lock().unwrap(); // deadlock: gate_let_go
+        }
+    };
+    one_after_another(work(0), work(1));
+}
+
+/// Each lock is released once the next one is held. Both threads go the same way, or each begins at another end.
+fn hand_over_hand(from_both_ends: bool) {
+    let locks = Arc::new([Mutex::new(()), Mutex::new(()), Mutex::new(())]);
+    let walk = |order: [usize; 3]| {
+        let locks = locks.clone();
+        move || {
+            let mut held = locks[order[0]].lock().unwrap(); // deadlock: both_ends
+            for next in &order[1..] {
+                let following = locks[*next].lock().unwrap(); // deadlock: both_ends
+                drop(std::mem::replace(&mut held, following));
+            }
+        }
+    };
+    one_after_another(walk([0, 1, 2]), walk(if from_both_ends { [2, 1, 0] } else { [0, 1, 2] }));
+}
+
+/// A thread acquires a lock again that it has released, and holds the one that it acquired in between. It waits for no other thread.
+fn acquired_again() {
+    let locks = Arc::new((Mutex::new(()), Mutex::new(())));
+    let work = || {
+        let locks = locks.clone();
+        move || {
+            let one = locks.0.lock().unwrap();
+            let other = locks.1.lock().unwrap();
+            drop(one);
+            let _one = locks.0.lock().unwrap();
+            drop(other);
+        }
+    };
+    one_after_another(work(), work());
+}
+
+/// A thread waits at a condition, and holds a lock that it has acquired later. Once it is woken it wants the first one again.
+fn wait_orders() {
+    let locks = Arc::new((Mutex::new(()), Mutex::new(()), Condvar::new()));
+    let others = locks.clone();
+    let wait = move || {
+        let ready = locks.0.lock().unwrap();
+        let inner = locks.1.lock().unwrap(); // deadlock: wait_orders
+        let waited = locks.2.wait_timeout(ready, Duration::from_millis(1)).unwrap(); // deadlock: wait_orders
+        drop(inner);
+        drop(waited);
+    };
+    let work = move || {
+        let _ready = others.0.lock().unwrap(); // deadlock: wait_orders
+        let _inner = others.1.lock().unwrap(); // deadlock: wait_orders
+    };
+    one_after_another(wait, work);
+}
+
+/// An item is sent right before a lock with a condition is released. So the two orders of it and of another lock are in order.
+fn sent_orders() {
+    let locks = Arc::new((Mutex::new(()), Mutex::new(()), Condvar::new()));
+    let others = locks.clone();
+    let (items, taken) = channel();
+    let forth = move || {
+        let ready = locks.0.lock().unwrap();
+        let ready = locks.2.wait_timeout(ready, Duration::from_millis(1)).unwrap();
+        drop(locks.1.lock().unwrap());
+        items.send(()).unwrap();
+        drop(ready);
+    };
+    let back = move || {
+        drop(others.0.lock().unwrap());
+        taken.recv().unwrap();
+        let _inner = others.1.lock().unwrap();
+        let _ready = others.0.lock().unwrap();
+    };
+    one_after_another(forth, back);
+}
+
 /// A thread gives back what it holds, if it does not get the other lock at once.
 fn tried_order() {
     let locks = Arc::new((Mutex::new(()), Mutex::new(())));
@@ -698,6 +801,13 @@ fn main() {
         "read_orders" => read_orders(false),
         "read_orders_both" => read_orders(true),
         "tried_order" => tried_order(),
+        "crossed_orders" => crossed_orders(),
+        "gate_let_go" => gate_let_go(),
+        "hand_over_hand" => hand_over_hand(false),
+        "both_ends" => hand_over_hand(true),
+        "acquired_again" => acquired_again(),
+        "wait_orders" => wait_orders(),
+        "sent_orders" => sent_orders(),
         "plain_threads" => plain_threads(),
         "locked" => locked(),
         "lucky_lock" => lucky_lock(),

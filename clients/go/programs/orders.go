@@ -69,6 +69,14 @@ func init() {
 		"read_orders":      func() { readOrders(false) },
 		"read_orders_both": func() { readOrders(true) },
 		"tried_order":      triedOrder,
+		"crossed_orders":   func() { crossedOrders(false) },
+		"gate_let_go":      func() { crossedOrders(true) },
+		"hand_over_hand":   func() { handOverHand(false) },
+		"both_ends":        func() { handOverHand(true) },
+		"condition_orders": conditionOrders,
+		"wait_orders":      waitOrders,
+		"signal_orders":    signalOrders,
+		"lock_of_readers":  lockOfReaders,
 	})
 }
 
@@ -763,5 +771,145 @@ func triedOrder() {
 			one.Unlock()
 		}
 		other.Unlock()
+	})
+}
+
+// crossedOrders acquires two locks in both orders, and releases the outer one first, or acquires that one behind a gate that is let go.
+func crossedOrders(hasGate bool) {
+	var gate, one, other itctrace.Mutex
+	if hasGate {
+		behind := func(first, second *itctrace.Mutex) func() {
+			return func() {
+				gate.Lock()
+				first.Lock() // deadlock: gate_let_go
+				gate.Unlock()
+				second.Lock() // deadlock: gate_let_go
+				second.Unlock()
+				first.Unlock()
+			}
+		}
+		twice(behind(&one, &other), behind(&other, &one))
+		return
+	}
+	twice(func() {
+		one.Lock()   // deadlock: crossed_orders
+		other.Lock() // deadlock: crossed_orders
+		one.Unlock()
+		other.Unlock()
+	}, func() {
+		other.Lock() // deadlock: crossed_orders
+		one.Lock()   // deadlock: crossed_orders
+		other.Unlock()
+		one.Unlock()
+	})
+}
+
+// handOverHand releases each lock once the next one is held. Both goroutines go the same way, or each begins at another end.
+func handOverHand(fromBothEnds bool) {
+	var first, middle, last itctrace.Mutex
+	walk := func(locks ...*itctrace.Mutex) func() {
+		return func() {
+			locks[0].Lock() // deadlock: both_ends
+			for at, next := range locks[1:] {
+				next.Lock() // deadlock: both_ends
+				locks[at].Unlock()
+			}
+			locks[len(locks)-1].Unlock()
+		}
+	}
+	if fromBothEnds {
+		twice(walk(&first, &middle, &last), walk(&last, &middle, &first))
+	} else {
+		twice(walk(&first, &middle, &last), walk(&first, &middle, &last))
+	}
+}
+
+// conditionOrders acquires the lock of a condition and another one in both orders.
+func conditionOrders() {
+	var lock, other itctrace.Mutex
+	ready := itctrace.NewCond(&lock)
+	twice(func() {
+		lock.Lock()  // deadlock: condition_orders
+		other.Lock() // deadlock: condition_orders
+		ready.Signal()
+		other.Unlock()
+		lock.Unlock()
+	}, func() {
+		other.Lock() // deadlock: condition_orders
+		lock.Lock()  // deadlock: condition_orders
+		ready.Signal()
+		lock.Unlock()
+		other.Unlock()
+	})
+}
+
+// waitOrders waits at a condition while it holds a lock that it has acquired later. Whoever is woken wants the first one again.
+func waitOrders() {
+	var lock, inner itctrace.Mutex
+	ready := itctrace.NewCond(&lock)
+	twice(func() {
+		isWoken := make(chan bool)
+		go func() {
+			time.Sleep(100 * time.Millisecond)
+			for {
+				select {
+				case <-isWoken:
+					return
+				default:
+					ready.Signal()
+					time.Sleep(time.Millisecond)
+				}
+			}
+		}()
+		lock.Lock()
+		inner.Lock() // deadlock: wait_orders
+		ready.Wait() // deadlock: wait_orders
+		close(isWoken)
+		inner.Unlock()
+		lock.Unlock()
+	}, func() {
+		lock.Lock()  // deadlock: wait_orders
+		inner.Lock() // deadlock: wait_orders
+		inner.Unlock()
+		lock.Unlock()
+	})
+}
+
+// signalOrders acquires in both orders a lock that another goroutine releases in the end. It keeps nobody out.
+func signalOrders() {
+	var lock, signal itctrace.Mutex
+	twice(func() {
+		signal.Lock()
+		lock.Lock()
+		lock.Unlock()
+		signal.Unlock()
+	}, func() {
+		lock.Lock()
+		signal.Lock()
+		start(signal.Unlock).Wait()
+		lock.Unlock()
+	})
+}
+
+// lockOfReaders is made of two locks: the first reader acquires that of writers under the other one, and the last one releases it so.
+func lockOfReaders() {
+	var guard, writing itctrace.Mutex
+	readers := 0
+	read := func() {
+		guard.Lock()
+		if readers++; readers == 1 {
+			writing.Lock()
+		}
+		guard.Unlock()
+		guard.Lock()
+		if readers--; readers == 0 {
+			writing.Unlock()
+		}
+		guard.Unlock()
+	}
+	twice(read, func() {
+		writing.Lock()
+		writing.Unlock()
+		read()
 	})
 }

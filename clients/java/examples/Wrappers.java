@@ -31,7 +31,10 @@ import java.util.concurrent.locks.ReadWriteLock;
 import java.util.concurrent.locks.ReentrantLock;
 import java.util.concurrent.locks.ReentrantReadWriteLock;
 import java.util.concurrent.locks.StampedLock;
+import java.util.function.BiConsumer;
 import java.util.function.Function;
+import java.util.function.IntConsumer;
+import java.util.stream.Stream;
 
 /**
  * Small programs, each for one order that is reported by itself. A line that races says so in a comment, with the name of its program:
@@ -233,7 +236,120 @@ public final class Wrappers {
                 });
     }
 
-    /** Each lock is released once the next one is held. So they hand over more than what they enclose, and are passed over. */
+    /** Two locks are acquired in both orders, and the outer one is released first. */
+    private static void crossedOrders() throws InterruptedException {
+        Lock one = Traced.lock(new ReentrantLock());
+        Lock other = Traced.lock(new ReentrantLock());
+        oneAfterAnother(
+                () -> {
+                    one.lock(); // deadlock: crossed_orders
+                    other.lock(); // deadlock: crossed_orders
+                    one.unlock();
+                    other.unlock();
+                },
+                () -> {
+                    other.lock(); // deadlock: crossed_orders
+                    one.lock(); // deadlock: crossed_orders
+                    other.unlock();
+                    one.unlock();
+                });
+    }
+
+    /** Both threads acquire their first lock behind a gate, and their second one without it. */
+    private static void gateThatIsLetGo() throws InterruptedException {
+        Lock gate = Traced.lock(new ReentrantLock());
+        Lock one = Traced.lock(new ReentrantLock());
+        Lock other = Traced.lock(new ReentrantLock());
+        BiConsumer<Lock, Lock> work =
+                (first, second) -> {
+                    gate.lock();
+                    first.lock(); // deadlock: gate_let_go
+                    gate.unlock();
+                    second.lock(); // deadlock: gate_let_go
+                    second.unlock();
+                    first.unlock();
+                };
+        oneAfterAnother(() -> work.accept(one, other), () -> work.accept(other, one));
+    }
+
+    /** Each thread goes hand over hand, and begins at another end. */
+    private static void bothEnds() throws InterruptedException {
+        List<Lock> locks = Stream.generate(() -> Traced.lock(new ReentrantLock())).limit(3).toList();
+        IntConsumer walk =
+                step -> {
+                    int at = step > 0 ? 0 : 2;
+                    locks.get(at).lock(); // deadlock: both_ends
+                    for (int next = at + step; next >= 0 && next < 3; next += step) {
+                        locks.get(next).lock(); // deadlock: both_ends
+                        locks.get(next - step).unlock();
+                    }
+                    locks.get(2 - at).unlock();
+                };
+        oneAfterAnother(() -> walk.accept(1), () -> walk.accept(-1));
+    }
+
+    /** A thread waits at a condition, or a monitor, and holds a lock that it acquired later. Woken, it wants the first one again. */
+    private static void waitOrders() throws InterruptedException {
+        Object stock = new Object();
+        Lock lock = Traced.lock(new ReentrantLock());
+        Lock inner = Traced.lock(new ReentrantLock());
+        Condition changed = lock.newCondition();
+        oneAfterAnother(
+                () -> {
+                    lock.lock();
+                    inner.lock(); // deadlock: wait_orders
+                    doStep(one -> one.await(1, TimeUnit.MILLISECONDS), changed); // deadlock: wait_orders
+                    inner.unlock();
+                    lock.unlock();
+                    synchronized (stock) {
+                        try (TracedMonitor monitor = Traced.monitor(stock)) {
+                            inner.lock(); // deadlock: wait_orders
+                            doStep(one -> one.await(1), monitor); // deadlock: wait_orders
+                            inner.unlock();
+                        }
+                    }
+                },
+                () -> {
+                    lock.lock(); // deadlock: wait_orders
+                    inner.lock(); // deadlock: wait_orders
+                    inner.unlock();
+                    lock.unlock();
+                    synchronized (stock) {
+                        try (TracedMonitor monitor = Traced.monitor(stock)) { // deadlock: wait_orders
+                            inner.lock(); // deadlock: wait_orders
+                            inner.unlock();
+                        }
+                    }
+                });
+    }
+
+    /** A latch puts two orders of a lock with a condition in order. It is counted down right before the lock is released. */
+    private static void latchedOrders() throws InterruptedException {
+        CountDownLatch latch = Traced.latch(1);
+        Lock lock = Traced.lock(new ReentrantLock());
+        Lock other = Traced.lock(new ReentrantLock());
+        Condition changed = lock.newCondition();
+        oneAfterAnother(
+                () -> {
+                    lock.lock();
+                    other.lock();
+                    other.unlock();
+                    changed.signalAll();
+                    latch.countDown();
+                    lock.unlock();
+                },
+                () -> {
+                    lock.lock();
+                    lock.unlock();
+                    doStep(CountDownLatch::await, latch);
+                    other.lock();
+                    lock.lock();
+                    lock.unlock();
+                    other.unlock();
+                });
+    }
+
+    /** Each lock is released once the next one is held. The one that a thread acquires again waits for no other thread. */
     private static void handOverHand() throws InterruptedException {
         Lock one = Traced.lock(new ReentrantLock());
         Lock other = Traced.lock(new ReentrantLock());
@@ -1087,6 +1203,11 @@ public final class Wrappers {
             case "tried_order" -> triedOrder();
             case "monitor_orders" -> monitorOrders();
             case "hand_over_hand" -> handOverHand();
+            case "crossed_orders" -> crossedOrders();
+            case "gate_let_go" -> gateThatIsLetGo();
+            case "both_ends" -> bothEnds();
+            case "wait_orders" -> waitOrders();
+            case "latched_orders" -> latchedOrders();
             case "late_orders" -> lateOrders();
             case "lucky_lock" -> luckyLock();
             case "contended" -> contended();

@@ -9,7 +9,8 @@ from __future__ import annotations
 import os
 import sys
 
-_KNOWN_BEFORE = frozenset(sys.modules)
+KNOWN_BEFORE = frozenset(sys.modules)
+"""What was imported before the package."""
 _KEPT = frozenset(("itc_trace", "threading"))
 """The interpreter ends by what it finds as `threading`."""
 
@@ -23,7 +24,7 @@ def look_into_library_first() -> None:
 def leave_to_program(folder: str) -> None:
     """Forgets the modules that the package has imported, where the program's folder has others of these names."""
     for name in [
-        one for one in sys.modules if "." not in one and one not in _KNOWN_BEFORE | _KEPT and _is_in(folder, one)
+        one for one in sys.modules if "." not in one and one not in KNOWN_BEFORE | _KEPT and _is_in(folder, one)
     ]:
         for one in list(sys.modules):
             if one == name or one.startswith(f"{name}."):

@@ -32,7 +32,7 @@ from .cli.reporting import STANDARD_OUTPUT, Wanted, deliver
 from .cli.saying import say
 from .cli.settings import FILE, Settings, read_settings
 from .model.finding import named
-from .processes.hanging import leave_without_those_left, limited
+from .processes.hanging import leave_without_those_left, limited, tell_closed_cycle
 from .record.collector import Collector
 from .record.faults import Fault
 from .report.as_json import as_object, report_of_object
@@ -135,6 +135,7 @@ class _Traced:
         if traced is None:
             return
         try:
+            tell_closed_cycle(traced.write)
             self.report = report_of(traced.races(), fail_on_possible=self._fails_on_possible)
             if self.report.verdict:
                 self.found = text(self.report, SHOWN)

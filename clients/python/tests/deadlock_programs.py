@@ -105,6 +105,76 @@ def four_tasks() -> Steps:
     return [lambda number=number: step(number) for number in (2, 0, 3, 1)]  # type: ignore[misc]
 
 
+def five_locks_by_index() -> Steps:
+    locks = [threading.Lock() for _ in range(5)]
+
+    def step(number: int) -> None:
+        with locks[number]:  # told
+            with locks[(number + 1) % 5]:  # told
+                pass
+
+    return [lambda number=number: step(number) for number in (3, 1, 4, 0, 2)]  # type: ignore[misc]
+
+
+def rlocks_that_are_acquired_again() -> Steps:
+    one, other = threading.RLock(), threading.RLock()
+
+    def forth() -> None:
+        with one:  # told
+            with other:  # told
+                with one:
+                    pass
+
+    def back() -> None:
+        with other:  # told
+            with other:
+                with one:  # told
+                    with other:
+                        pass
+
+    return [forth, back]
+
+
+def first_one_tried() -> Steps:
+    """Whoever only tries its outer lock holds it all the same."""
+    one, other = threading.Lock(), threading.Lock()
+
+    def forth() -> None:
+        if one.acquire(blocking=False):  # told
+            with other:  # told
+                pass
+            one.release()
+
+    def back() -> None:
+        with other:  # told
+            one.acquire(True, -1)  # told
+            one.release()
+
+    return [forth, back]
+
+
+def generators_and_managers() -> Steps:
+    one, other = threading.Lock(), threading.Lock()
+
+    def held(lock: threading.Lock) -> Iterator[None]:
+        with lock:  # told
+            yield
+
+    def forth() -> None:
+        holding = held(one)
+        next(holding)
+        with other:  # told
+            pass
+        holding.close()
+
+    def back() -> None:
+        with contextlib.contextmanager(held)(other):
+            one.acquire()  # told
+            one.release()
+
+    return [forth, back]
+
+
 def three_locks_of_two_tasks() -> Steps:
     first, second, third = (threading.Lock() for _ in range(3))
 
@@ -243,6 +313,47 @@ def wait_with_a_lock() -> Steps:
             pass
 
     return [forth, back]
+
+
+def wait_with_an_inner_lock() -> Steps:
+    """Whoever is woken wants the outer lock again, and holds the inner one."""
+    ready, inner = threading.Condition(), threading.Lock()
+
+    def tell() -> None:
+        with ready:
+            ready.notify()
+
+    def wait() -> None:
+        with ready, inner:  # told
+            threading.Timer(0.1, tell).start()
+            ready.wait()  # told
+
+    def work() -> None:
+        with ready, inner:  # told
+            pass
+
+    return [wait, work]
+
+
+def asyncio_wait_with_an_inner_lock() -> Steps:
+    async def main() -> None:
+        ready, inner = asyncio.Condition(), asyncio.Lock()
+
+        async def wait() -> None:
+            async with ready, inner:  # told
+                await ready.wait()  # told
+
+        async def work() -> None:
+            await asyncio.sleep(0.05)
+            async with ready:
+                ready.notify()
+            await asyncio.sleep(0.05)
+            async with ready, inner:  # told
+                pass
+
+        await asyncio.gather(wait(), work())
+
+    return [lambda: asyncio.run(main())]
 
 
 def semaphores() -> Steps:
@@ -645,16 +756,17 @@ def queue_and_late_lock() -> Steps:
 
 TOLD = [
     two_locks, two_rlocks, lock_and_rlock, by_calls, three_tasks, four_tasks, three_locks_of_two_tasks, second_of_two,
-    within_functions, many_times, of_objects, lock_and_condition, two_conditions, wait_with_a_lock, semaphores,
-    semaphore_and_lock, stacks, exit_stacks, asyncio_exit_stacks, timeouts_that_are_over, crossed,
+    within_functions, many_times, of_objects, lock_and_condition, two_conditions, wait_with_a_lock,
+    wait_with_an_inner_lock, asyncio_wait_with_an_inner_lock, semaphores, semaphore_and_lock, stacks, exit_stacks, asyncio_exit_stacks, timeouts_that_are_over, crossed,
     gate_that_is_let_go, hand_over_hand_from_both_ends, jobs, job_and_thread, timers, asyncio_locks, asyncio_conditions, asyncio_semaphores,
     loops_of_two_threads, tried_first, queue_and_lock, queue_and_lock_in_turns, queue_and_two_locks,
-    queue_of_a_condition, queue_and_gate, queue_and_late_lock,
+    queue_of_a_condition, queue_and_gate, queue_and_late_lock, five_locks_by_index, rlocks_that_are_acquired_again,
+    first_one_tried, generators_and_managers,
 ]
 
 
 OF_SEVERAL = [
-    three_tasks, four_tasks, queue_and_lock, queue_and_lock_in_turns, queue_and_two_locks, queue_of_a_condition,
+    three_tasks, four_tasks, five_locks_by_index, queue_and_lock, queue_and_lock_in_turns, queue_and_two_locks, queue_of_a_condition,
     queue_and_gate, queue_and_late_lock,
 ]
 """Those of more than two tasks, or of a queue."""
@@ -1044,6 +1156,42 @@ def timeouts_of_asyncio() -> Steps:
     return [lambda: asyncio.run(main())]
 
 
+def rlocks_in_one_order() -> Steps:
+    one, other = threading.RLock(), threading.RLock()
+
+    def work() -> None:
+        with one, other, one, other:
+            pass
+
+    return [work, work]
+
+
+def more_permits_than_one() -> Steps:
+    """Somebody gives a permit that nobody took: from then on it is no lock."""
+    one, other = threading.Semaphore(1), threading.Lock()
+
+    def forth() -> None:
+        with one, other:
+            pass
+
+    def back() -> None:
+        with other, one:
+            pass
+
+    return [forth, back, one.release]
+
+
+def locks_that_are_no_more() -> Steps:
+    """Others are at the same lines."""
+    def work(is_turned: bool) -> None:
+        for _ in range(50):
+            locks = [threading.Lock(), threading.Lock()]
+            with locks[is_turned], locks[not is_turned]:
+                pass
+
+    return [lambda: work(False), lambda: work(True)]
+
+
 def permits() -> Steps:
     one, other = threading.Semaphore(2), threading.Lock()
 
@@ -1224,4 +1372,5 @@ CLEAN = [
     tried_for_a_while, tried_permit, by_identity, not_at_once, hand_over_hand, signal,
     read_write_lock_of_two, timeouts_of_asyncio, permits, asyncio_gate, asyncio_in_turn, one_loop, queue_with_an_item, queue_put_without_the_lock, queue_taken_in_time,
     queue_put_under_a_tried_lock, queue_told_under_the_lock, queue_of_one_task, queue_of_other_locks,
+    rlocks_in_one_order, more_permits_than_one, locks_that_are_no_more,
 ]

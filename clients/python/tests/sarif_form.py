@@ -2,10 +2,14 @@
 
 from __future__ import annotations
 
+import re
 from collections.abc import Iterator
 from typing import Any
 
 LEVELS = ("none", "note", "warning", "error")
+COLUMN_KINDS = ("utf16CodeUnits", "unicodeCodePoints")
+LINK = re.compile(r"\]\(([^)]*)\)")
+"""The end of a link from a message to a place, behind the text of the link."""
 NEEDED: dict[str, tuple[dict[str, type], tuple[str, ...]]] = {
     "log": ({"version": str, "runs": list, "$schema": str}, ("version", "runs")),
     "run": (
@@ -31,6 +35,7 @@ NEEDED: dict[str, tuple[dict[str, type], tuple[str, ...]]] = {
     "location": ({"id": int, "message": dict, "physicalLocation": dict, "logicalLocations": list}, ()),
     "physicalLocation": ({"artifactLocation": dict, "region": dict}, ("artifactLocation",)),
     "artifactLocation": ({"uri": str, "uriBaseId": str}, ("uri",)),
+    "base": ({"uri": str}, ()),
     "region": ({"startLine": int, "snippet": dict}, ("startLine",)),
     "suppression": ({"kind": str}, ("kind",)),
     "logicalLocation": ({"fullyQualifiedName": str}, ()),
@@ -60,19 +65,22 @@ def _object(kind: str, told: Any) -> Iterator[str]:
 
 def _log(told: Any) -> Iterator[str]:
     yield from _object("log", told)
-    if told["version"] != "2.1.0":
+    if told["version"] != "2.1.0" or not told["$schema"].endswith("/sarif-2.1.0.json"):
         yield "the version is another one"
     for run in told["runs"]:
         yield from _object("run", run)
         yield from _object("tool", run["tool"])
         yield from _driver(run["tool"]["driver"])
+        if run["columnKind"] not in COLUMN_KINDS:
+            yield f"{run['columnKind']} is no kind of columns"
         for invocation in run["invocations"]:
             yield from _object("invocation", invocation)
             for one in invocation.get("toolExecutionNotifications", []):
                 yield from _object("notification", one)
                 yield from _level(one)
         for base in run["originalUriBaseIds"].values():
-            if not base["uri"].startswith("file:///") or not base["uri"].endswith("/"):
+            yield from _object("base", base)
+            if "uri" in base and (not base["uri"].startswith("file:///") or not base["uri"].endswith("/")):
                 yield "a base ends with a slash, and is a whole URI"
         for result in run["results"]:
             yield from _result(result, run)
@@ -111,15 +119,20 @@ def _result(result: Any, run: Any) -> Iterator[str]:
     places = [*result["locations"], *result["relatedLocations"]]
     for place in places:
         yield from _location(place, run)
+    for listed in (result["relatedLocations"], result.get("suppressions", [])):
+        if any(one in listed[:number] for number, one in enumerate(listed)):
+            yield "two are the same where each is another one"
     numbers = [place["id"] for place in places if "id" in place]
+    if any(number < 1 for number in numbers):
+        yield "places are counted from 1"
     if len(set(numbers)) != len(numbers):
         yield "two places have one id"
     yield from (f"the message names place {number}" for number in _named(result["message"]["text"]) if number not in numbers)
 
 
 def _named(message: str) -> Iterator[int]:
-    for piece in message.split("](")[1:]:
-        yield int(piece.partition(")")[0])
+    for number in LINK.findall(message):
+        yield int(number) if number.isdecimal() else -1
 
 
 def _location(place: Any, run: Any) -> Iterator[str]:
@@ -137,7 +150,7 @@ def _location(place: Any, run: Any) -> Iterator[str]:
         yield f"{uri} is not of the base {base}"
     if base is None and not uri.startswith("file:///"):
         yield f"{uri} is no whole URI"
-    if any(letter in uri for letter in " <>\"{}|\\^`"):
+    if any(letter in uri for letter in " <>\"{}|\\^`[]#?") or not uri.isascii():
         yield f"{uri} has letters that a URI writes by their numbers"
     if "region" in physical:
         yield from _object("region", physical["region"])

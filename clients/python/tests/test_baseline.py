@@ -2,6 +2,7 @@
 
 from __future__ import annotations
 
+import codecs
 import json
 import os
 import subprocess
@@ -83,6 +84,15 @@ class Baselines(unittest.TestCase):
         races = [Known("b", (SIDE, SIDE)), Known("a\u00e4", (SIDE,))]
         write_baseline(file, races)
         self.assertEqual(sorted(map(str, read_baseline(file))), sorted(map(str, races)))
+
+    def test_ends_of_lines_and_a_mark_before_them_change_nothing(self) -> None:
+        file = self.folder / "known.json"
+        write_baseline(str(file), [Known("a\u00e4", (SIDE, SIDE))])
+        kept = file.read_bytes()
+        for what, written in (("CRLF", kept.replace(b"\n", b"\r\n")), ("a mark", codecs.BOM_UTF8 + kept), ("one line", kept.replace(b"\n", b""))):
+            with self.subTest(what):
+                file.write_bytes(written)
+                self.assertEqual(read_baseline(str(file)), [Known("a\u00e4", (SIDE, SIDE))])
 
     def test_what_is_no_baseline_is_told(self) -> None:
         file = self.folder / "known.json"

@@ -2,6 +2,7 @@
 
 from __future__ import annotations
 
+import codecs
 import json
 import os
 import subprocess
@@ -98,6 +99,23 @@ class Stories(unittest.TestCase):
             self.assertEqual(by_report.stdout, by_export.stdout)
             self.assertEqual((by_report.returncode, by_report.stderr), (0, ""))
 
+    def test_a_report_that_was_written_anew_tells_the_same(self) -> None:
+        identity, kept = self.selling().identity, (self.folder / "r.json").read_bytes()
+        whole = self.run_here("explain", identity, "r.json").stdout
+        told = json.loads(kept)
+        for what, written in (
+            ("CRLF", kept.replace(b"\n", b"\r\n")), ("a mark", codecs.BOM_UTF8 + kept), ("one line", json.dumps(told).encode()),
+            ("sorted", json.dumps(told, sort_keys=True).encode()),
+        ):
+            with self.subTest(what):
+                (self.folder / "anew.json").write_bytes(written)
+                ran = self.run_here("explain", identity, "anew.json")
+                self.assertEqual((ran.returncode, ran.stdout, ran.stderr), (0, whole, ""))
+        (self.folder / "anew.json").write_text(json.dumps({**told, "version": 2}))
+        ran = self.run_here("explain", identity, "anew.json")
+        self.assertEqual(ran.returncode, 2)
+        self.assertIn("anew.json is no report: it is a report of version 2, and not of 1", ran.stderr)
+
     def test_a_lock_that_one_side_holds_is_named(self) -> None:
         found = [one for one in self.findings() if "third" in {side.task for side in one.sides} and one.sides[1].function == "audit"]
         self.assertTrue(found, self.findings())
@@ -178,7 +196,28 @@ class InParts(unittest.TestCase):
             self.assertIn(f"    {line}\n", told)
 
 
+class Twins(unittest.TestCase):
+    def test_who_asks_for_one_of_two_races_of_one_identity_is_told_of_both(self) -> None:
+        def race(line: int) -> Finding:
+            sides = tuple(FoundSide("write", "shop.py", line, "sell", task, begin=line, text=("stock += 1",)) for task in ("one", "other"))
+            return Finding(RACE, "stock", sides, "nothing orders them")
+
+        findings = [race(4), race(9), Finding(RACE, "other", race(4).sides, "nothing orders them")]
+        self.assertEqual(findings[0].identity, findings[1].identity)
+        told = explained(findings[0], Report(Verdict.RACES, "", findings)).splitlines()
+        self.assertEqual(
+            [line for line in told if "this id" in line],
+            ["    the same sources race at shop.py:9 in sell and shop.py:9 in sell: it has this id, too"],
+        )
+
+
 class Lines(unittest.TestCase):
+    def test_a_mark_before_the_first_line_is_no_letter_of_it(self) -> None:
+        with tempfile.TemporaryDirectory() as folder:
+            file = Path(folder, "benign")
+            file.write_bytes(codecs.BOM_UTF8 + b"stock\r\nleft shop.py:3\r\n")
+            self.assertEqual([(one.thing, one.places) for one in read_patterns(str(file))], [("stock", ()), ("left", ("shop.py:3",))])
+
     def test_each_line_of_what_is_meant_fits_its_race(self) -> None:
         stored = json.loads((PACKAGE / "tests" / "reports" / "kept.json").read_text())
         findings = [finding_of_object(one) for one in stored["findings"]]

@@ -2,23 +2,25 @@
 
 from __future__ import annotations
 
+import gc
 import tempfile
 import time
 import unittest
 from collections import deque
 from collections.abc import Iterable
 from pathlib import Path
+from sys import getrefcount
 from types import SimpleNamespace
 
 from itc_trace import Verdict
-from itc_trace.model.conflicts import WRITE
+from itc_trace.model.conflicts import READ, WRITE
 from itc_trace.model.lines import GONE, TOUCH, Line, Note, Stretch, TouchEvent
 from itc_trace.model.stretches import SITES, Site
 from itc_trace.record import tracer
-from itc_trace.record.journal import Aside, Places, Row, TouchTexts, read_line
+from itc_trace.record.journal import Aside, Places, Row, TouchTexts, read_line, read_whole
 from itc_trace.record.own_threads import start_thread
 from itc_trace.record.touch_journal import TouchJournal
-from itc_trace.record.touch_rows import MOST_KEPT, MOST_OF_EVENT, _Numbers
+from itc_trace.record.touch_rows import MOST_BY_ONE, MOST_KEPT, MOST_OF_EVENT, MOST_READ, _Numbers
 from itc_trace.watch.things import number_of
 
 from .support import ProgramCase, run_traced, wait_until
@@ -170,22 +172,26 @@ class Touches(unittest.TestCase):
         self.things = [Named(number) for number in range(6000)]
 
     def event(self, task: str, number: int) -> TouchEvent:
+        """An event behind which the one before is over."""
+        for event in self.journal._events:
+            event.is_open = False
         line = Line(None, task)
         line.name = task
         event = self.journal.new_event(line, 1, 0.0)
         event.event = number
         return event
 
-    def touch(self, event: TouchEvent, things: Iterable[Named]) -> None:
+    def touch(self, event: TouchEvent, things: Iterable[Named], kind: str = WRITE) -> None:
         for thing in things:
             stretch = Stretch(Line(None, event.task), 0, 0, 1)
-            stretch[thing.number] = thing, WRITE, len(SITES) - 1
+            stretch[thing.number] = thing, kind, len(SITES) - 1
             self.journal.add(event, stretch)
         self.journal.write()
 
     def told(self) -> list[tuple[str, str]]:
+        """The tasks of rows, and the things that they touch."""
         rows = [read_line(line) for line in "".join(self.written).splitlines(keepends=True)]
-        return [(row.task, row.thing or "") for row in rows if isinstance(row, Row)]
+        return [(row.task, row.thing) for row in rows if isinstance(row, Row) and row.thing is not None]
 
     def test_an_event_that_goes_on_keeps_few_of_its_touches(self) -> None:
         event = self.event("one", 1)
@@ -199,12 +205,50 @@ class Touches(unittest.TestCase):
         self.touch(self.event("two", 2), [first])
         self.assertEqual(self.told(), [("one", "#0"), ("two", "#0")])
 
+    def test_of_what_many_tasks_read_few_touches_are_kept_and_each_counts_once_it_is_changed(self) -> None:
+        first = self.things[:1]
+        for number in range(1, 1001):
+            self.touch(self.event(f"reader_{number}", number), first, READ)
+        known = self.journal.rows._alone[0]
+        self.assertLessEqual(len(known.waiting if known is not None else ()), MOST_READ)
+        self.assertEqual(self.tasks(), 0)
+        self.touch(self.event("writer", 1001), first)
+        self.assertEqual(self.tasks(), 1001)
+
+    def test_of_what_one_task_touches_in_many_events_some_touches_are_kept(self) -> None:
+        for number in range(1, MOST_BY_ONE * 2 + 1):
+            self.touch(self.event("one", number), self.things[:1])
+        known = self.journal.rows._alone[0]
+        self.assertLessEqual(len(known.waiting if known is not None else ()), MOST_BY_ONE)
+        self.assertEqual(self.tasks(), 0)
+        self.touch(self.event("two", MOST_BY_ONE * 2 + 1), self.things[:1])
+        self.assertEqual(self.tasks(), MOST_BY_ONE * 2 + 1)
+
+    def tasks(self) -> int:
+        """How many events have touched the first thing, by the journal."""
+        rows = read_whole("".join(self.written).splitlines(keepends=True)).rows
+        return len({row.event for row in rows if row.thing == "#0"})
+
     def test_an_event_that_is_over_keeps_none(self) -> None:
         event = self.event("one", 1)
         self.touch(event, self.things[:10])
         event.is_open = False
         self.journal.write()
         self.assertFalse(event.touches)
+
+
+class Lines(unittest.TestCase):
+    def test_a_task_that_goes_as_garbage_in_a_circle_leaves_no_circle_behind(self) -> None:
+        class One:
+            itself: object = None
+
+        one, line = One(), Line(None, "one")
+        one.itself = one
+        before = getrefcount(line)
+        line.watch(one)
+        del one
+        gc.collect()
+        self.assertEqual(getrefcount(line), before)
 
 
 class HeldBack(unittest.TestCase):

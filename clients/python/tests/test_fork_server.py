@@ -22,7 +22,7 @@ LOOKS = """
     print(json.dumps({
         "arguments": sys.argv, "command": sys.orig_argv, "path": sys.path, "hooks": [repr(one)[:40] for one in sys.path_hooks],
         "finders": [getattr(one, "__name__", type(one).__name__) for one in sys.meta_path], "modules": sorted(sys.modules),
-        "imported": list(sys.modules), "known": sorted(own._KNOWN_BEFORE), "flags": sys.flags[:], "options": sys._xoptions,
+        "imported": list(sys.modules), "known": sorted(own.KNOWN_BEFORE), "flags": sys.flags[:], "options": sys._xoptions,
         "warnings": [sys.warnoptions, repr(sys.modules["warnings"].filters)], "executable": [sys.executable, sys.prefix],
         "limits": [sys.getrecursionlimit(), sys.getswitchinterval(), gc.get_threshold(), gc.isenabled(), gc.get_freeze_count(), gc.get_debug()],
         "helper": helper.quick is not None, "at exit": atexit._ncallbacks(), "callbacks": len(gc.callbacks),

@@ -17,11 +17,14 @@ import unittest
 import weakref
 from concurrent.futures import ThreadPoolExecutor
 from pathlib import Path
+from typing import Any
 
-from itc_trace import Verdict
-from itc_trace.processes.waits import Since, waits
+from itc_trace import Verdict, tracing
+from itc_trace.model.lines import state
+from itc_trace.processes.waits import Since, cycle_of, waits
+from itc_trace.record import plain
 
-from .support import PACKAGE, PROGRAM_RUNS, ProgramCase, run_traced, wait_until
+from .support import PACKAGE, PROGRAM_RUNS, ProgramCase, Step, fresh_tenant, in_turn, run_traced, wait_until
 
 ANSWER = 10.0
 """So many seconds an answer may take on a busy machine. On an idle one it takes less than one."""
@@ -109,6 +112,32 @@ child = multiprocessing.get_context("fork").Process(target=time.sleep, args=(100
 child.start()
 child.join()  # here
 """, r"root waits for the end of process ForkProcess-1 for .* s at .*# here"),
+    "lock in a child process": ("""
+context = multiprocessing.get_context("fork")
+shared_lock = context.Lock()
+def work():
+    with shared_lock:  # there
+        pass
+shared_lock.acquire()
+child = context.Process(target=work, daemon=True)
+child.start()
+child.join()  # here
+""", r"process work_1 has 1 task:\n *work_1 waits for shared_lock \(.*\) for .* s at .*# there\n *no task of this process"),
+    "locks of two child processes": ("""
+context = multiprocessing.get_context("fork")
+one_lock = context.Lock()
+other_lock = context.Lock()
+def work(*locks):
+    with locks[0]:  # held
+        time.sleep(0.5)
+        with locks[1]:  # there
+            pass
+children = [context.Process(target=work, args=order) for order in ((one_lock, other_lock), (other_lock, one_lock))]
+for child in children:
+    child.start()
+for child in children:
+    child.join()
+""", r"waits for other_lock .*\n *no task of this process holds it\n *work_\d+ holds one_lock \(.*\), acquired at .*# held"),
     "child process": ("""
 if not (child := os.fork()):
     time.sleep(1000)
@@ -215,6 +244,90 @@ threading.Event().wait()
 """
 
 
+class Children(ProgramCase):
+    def test_one_that_begins_behind_a_question_does_not_answer(self) -> None:
+        ran = run_traced(self.program("""
+import os, signal, time
+def work(seconds):
+    time.sleep(seconds)
+    os._exit(0)
+if not (early := os.fork()):
+    work(3)
+time.sleep(0.5)
+os.kill(os.getpid(), signal.SIGQUIT)
+time.sleep(1)
+if not (late := os.fork()):
+    work(1)
+os.waitpid(late, 0)
+os.waitpid(early, 0)
+"""))
+        self.assertEqual(ran.returncode, 0, ran.stderr)
+        told = re.findall("its beginning (.*) has", ran.stderr)
+        self.assertEqual(sorted(told), ["process child_1", "the program"], ran.stderr)
+
+    def test_those_of_a_program_that_is_ended_after_its_time_are_ended_too(self) -> None:
+        program = self.program("""
+import os, signal, subprocess, sys, time
+if sys.argv[1:]:
+    signal.signal(signal.SIGTERM, signal.SIG_IGN)
+    time.sleep(1000)
+stubborn = subprocess.Popen([sys.executable, __file__, "stubborn"])
+if not (child := os.fork()):
+    if not (grandchild := os.fork()):
+        time.sleep(1000)
+    with open(__file__ + ".told", "w") as told:
+        told.write(f"{os.getpid()} {grandchild} {stubborn.pid}")
+    os.waitpid(grandchild, 0)
+os.waitpid(child, 0)
+""")
+        ran = run_traced("--timeout", "4", program)
+        self.assertEqual(ran.returncode, Verdict.INCOMPLETE, ran.stderr)
+        left = [number for number in Path(f"{program}.told").read_text().split() if self.runs(number)]
+        for number in left:
+            os.kill(int(number), signal.SIGKILL)
+        self.assertEqual(left, [])
+
+    @staticmethod
+    def runs(process: str) -> bool:
+        """Whether it is there, and not only its status, which nobody asks for."""
+        try:
+            return Path(f"/proc/{process}/stat").read_text().rpartition(")")[2].split()[0] != "Z"
+        except OSError:
+            return False
+
+    def test_a_handler_of_the_program_holds_in_its_children(self) -> None:
+        ran = run_traced(self.program("""
+import faulthandler, os, signal, time
+with open(__file__ + ".told", "wb") as told:
+    faulthandler.register(signal.SIGUSR1, told)
+    if not (child := os.fork()):
+        time.sleep(0.5)
+        os.kill(os.getpid(), signal.SIGUSR1)
+        os._exit(0)
+    os.waitpid(child, 0)
+with open(__file__ + ".told") as told:
+    print("most recent call" in told.read())
+"""))
+        self.assertEqual((ran.returncode, ran.stdout), (0, "True\n"), ran.stderr)
+        self.assertNotIn("its beginning", ran.stderr)
+
+    def test_a_program_that_it_runs_may_be_ended_by_a_signal(self) -> None:
+        ran = run_traced(self.program("""
+import signal, subprocess, sys, time
+if sys.argv[1:]:
+    print("begun", flush=True)
+    time.sleep(1000)
+child = subprocess.Popen([sys.executable, __file__, "child"], stdout=subprocess.PIPE)
+child.stdout.readline()
+child.send_signal(signal.SIGUSR1)
+try:
+    print(child.wait(20) == -signal.SIGUSR1)
+finally:
+    child.kill()
+"""))
+        self.assertEqual(ran.stdout, "True\n", ran.stderr)
+
+
 class Ended(ProgramCase):
     def test_a_program_is_ended_after_its_time(self) -> None:
         ran = run_traced("--timeout", "4", self.program("import threading\nthreading.Event().wait()\n"))
@@ -293,6 +406,28 @@ class Confirmed(ProgramCase):
             self.assertIn("itc_trace: confirmed deadlock on one_lock and other_lock", ran.stderr)
             self.assertIn("each waits for the next one", ran.stderr)
             self.assertRegex(ran.stderr.splitlines()[-1], "no race in this run; 1 deadlock: ")
+
+    def test_steps_at_the_same_lines_close_at_once(self) -> None:
+        """Each of five tasks has the next one's inner lock. Held at one step after another they would take ten seconds."""
+        ran = run_traced("--confirm", self.program("""
+import threading, time
+locks = [threading.Lock() for _ in range(5)]
+def step(number):
+    time.sleep(0.1 * number)
+    with locks[number]:
+        with locks[(number + 1) % 5]:
+            with open(__file__ + ".told", "a") as told:
+                told.write("well")
+threads = [threading.Thread(target=step, args=(number,)) for number in range(5)]
+for thread in threads:
+    thread.start()
+for thread in threads:
+    thread.join()
+"""))
+        self.assertEqual(ran.returncode, Verdict.RACES, ran.stderr)
+        self.assertIn("itc_trace: confirmed deadlock on ", ran.stderr)
+        waited = [float(one) for one in re.findall(r"waits for the end of thread step_1 for ([\d.]+) s", ran.stderr)]
+        self.assertTrue(waited and max(waited) < 5, ran.stderr)
 
     def test_several_runs_are_followed_by_one_that_tries(self) -> None:
         ran = run_traced("--confirm", "--runs", "2", "--no-shake", self.program(LUCKY))
@@ -375,6 +510,39 @@ class Looks(unittest.TestCase):
             is_over.set()
             thread.join()
         self.assertEqual(late, [])
+
+    def test_who_is_held_back_as_it_notes_a_lock_does_not_wait_for_that(self) -> None:
+        for method in ("acquire", "release"):
+            port, tenant = fresh_tenant()
+            with self.subTest(method), tracing(port=port, tenant=tenant):
+                lock, go_on, door, held = threading.Lock(), Step(), plain.allocate_lock(), set[int]()
+                if method == "acquire":
+                    in_turn(lambda lock=lock: (lock.acquire(), lock.release()))  # type: ignore[misc]
+
+                def work(method: str = method, lock: Any = lock, go_on: Step = go_on, held: Any = held) -> None:
+                    if method == "release":
+                        lock.acquire()
+                    go_on.wait()
+                    held.add(threading.get_ident())
+                    getattr(lock, method)()
+
+                thread, note = threading.Thread(target=work), state.note
+                thread.start()
+                door.acquire()
+                own = {"__name__": "itc_trace", "held": held, "door": door, "note": note, "me": threading.get_ident}
+                exec("def hold_back(one):\n    me() in held and door.acquire()\n    note(one)", own)
+                state.note = own["hold_back"]
+                try:
+                    go_on.done()
+                    wait_until(lambda held=held: held)  # type: ignore[misc]
+                    time.sleep(0.5)
+                    found = waits(Since())
+                finally:
+                    state.note = note
+                    door.release()
+                    thread.join()
+                self.assertEqual([one.what for one in found if ".work" in one.place], ["runs"])
+                self.assertEqual(cycle_of(found), [])
 
     def test_tasks_that_were_looked_at_are_let_go_once_they_are_over(self) -> None:
         since, kept = Since(), []

@@ -12,6 +12,7 @@ from typing import Any
 
 from itc_trace import touch
 from itc_trace.model.lines import state
+from itc_trace.model.lock_identity import variable_of_result
 from itc_trace.record.noting import current
 
 from .support import WAIT, Step, TracedCase, in_turn
@@ -60,6 +61,26 @@ class Names(TracedCase):
         labels = [(row.kind, row.label.replace(__file__, "here")) for row in self.rows]
         self.assertIn(("send", f"release lock guard (here:{line})"), labels)
         self.assertIn(("recv", f"acquire lock guard (here:{line})"), labels)
+
+
+class Variables(unittest.TestCase):
+    def test_a_lock_is_called_as_its_variable_where_several_are_given_their_values_at_once(self) -> None:
+        found: list[str | None] = []
+
+        def made(*_: object) -> list[str | None]:
+            frame = sys._getframe(1)
+            found.append(variable_of_result(frame.f_code, frame.f_lasti))
+            return found
+
+        one, other = made(), made()
+        first, second, third, fourth = made(), made(1, 2), [], made()
+        single = (made(), made())
+        listed = [made()] if made() else made()
+        both, also = made(), 1
+        self.assertEqual(found, [
+            "one", "other", "first", "second", "fourth", None, None, None, None, "both",
+        ])
+        self.assertTrue(all((one, other, first, second, fourth, single, listed, both, also)), third)
 
 
 class Held(TracedCase):

@@ -2,6 +2,7 @@
 
 from __future__ import annotations
 
+import json
 import os
 import re
 import subprocess
@@ -325,9 +326,73 @@ def test_unmarked():
     time.sleep(2.2)
 """
 
+CLOSED = """
+import threading, time
+def holding(held, wanted, meeting):
+    with held:  # holds
+        meeting.wait()
+        with wanted:  # wants
+            pass
+def joining(others, meeting):
+    meeting.wait()
+    others[0].join()
+def left(*works):
+    threads = [threading.Thread(target=work, args=words, daemon=True) for work, *words in works]
+    for thread in threads: thread.start()
+    return threads
+def joined(threads):
+    for thread in threads: thread.join(0.5)
+def test_locks_closed():
+    one_lock = threading.Lock()
+    other_lock = threading.Lock()
+    meeting = threading.Barrier(3)
+    threads = left((holding, one_lock, other_lock, meeting), (holding, other_lock, one_lock, meeting))
+    meeting.wait()
+    joined(threads)
+def test_joins_closed():
+    first, second, meeting = [], [], threading.Barrier(3)
+    threads = left((joining, second, meeting), (joining, first, meeting))
+    first.append(threads[0])
+    second.append(threads[1])
+    meeting.wait()
+    joined(threads)
+def test_waiting():
+    one_lock, meeting = threading.Lock(), threading.Barrier(1)
+    with one_lock:
+        joined(left(*[(holding, one_lock, threading.Lock(), meeting)] * 2))
+def test_still_waiting():
+    one_lock = threading.Lock()
+    one_lock.acquire()
+    threads = left((holding, one_lock, threading.Lock(), threading.Barrier(1)))
+    joined(threads)
+    threading.Timer(0.5, one_lock.release).start()
+def test_after():
+    joined(left((time.sleep, 0)))
+"""
+"""Two tests leave daemon threads in a cycle. The others do not, though some leave threads that wait."""
+
 
 @NEEDS_PYTEST
 class Hanging(unittest.TestCase):
+    def test_a_cycle_that_has_closed_as_the_test_ends_is_a_deadlock(self) -> None:
+        with tempfile.TemporaryDirectory() as folder:
+            files = [str(Path(folder, name)) for name in ("found.json", "found.sarif", "found.xml")]
+            formats = [option + file for option, file in zip(("--races-json=", "--races-sarif=", "--junitxml="), files)]
+            ran = suite(*WITHOUT_CACHE, "--races", *formats, test_closed=CLOSED)
+            told = [Path(file).read_text() for file in files]
+        self.assertEqual(ran.verdicts, {
+            "test_locks_closed": "FAILED", "test_joins_closed": "FAILED", "test_waiting": "PASSED",
+            "test_still_waiting": "PASSED", "test_after": "PASSED",
+        }, ran.said)
+        self.assertEqual(ran.said.count("itc_trace: deadlock on one_lock and other_lock"), 2, ran.said)
+        for holds, wants in (("one_lock", "other_lock"), ("other_lock", "one_lock")):
+            self.assertRegex(ran.said, rf"holding_[12] holds {holds} +at .*test_closed.py:4 in holding:  with held:  # holds\n")
+            self.assertRegex(ran.said, rf"holding_[12] wants {wants} +at .*test_closed.py:6 in holding:  with wanted:  # wants\n")
+        self.assertIn("itc_trace: no race in 5 tests; 2 deadlocks\n", ran.said)
+        self.assertEqual([one["kind"] for one in json.loads(told[0])["findings"]], ["deadlock"] * 2)
+        self.assertEqual([one["ruleId"] for one in json.loads(told[1])["runs"][0]["results"]], ["deadlock"] * 2)
+        self.assertEqual(told[2].count('<failure message="itc_trace: deadlock on '), 2, told[2])
+
     def test_a_test_that_hangs_fails_by_what_its_tasks_wait_for(self) -> None:
         ran = suite(*WITHOUT_CACHE, "--races-timeout", "2", test_hanging=HANGING)
         self.assertEqual(ran.verdicts, {"test_hanging": "FAILED", "test_short": "PASSED", "test_unmarked": "PASSED"})
@@ -335,6 +400,7 @@ class Hanging(unittest.TestCase):
         self.assertRegex(ran.said, r"root waits for the end of thread forth_1 for \d.* s at .*:  .*# joins\n")
         self.assertRegex(ran.said, r"forth_1 waits for lock .* for \d.* s at .*:  with other:  # forth\n")
         self.assertRegex(ran.said, r"a cycle: (forth_1 waits for back_1, back|back_1 waits for forth_1, forth)_1 waits")
+        self.assertIn("itc_trace: deadlock on ", ran.said)
         self.assertIn("itc_trace: threads of tests that were ended are left behind\n", ran.said)
 
     def test_what_is_no_time_is_refused(self) -> None:

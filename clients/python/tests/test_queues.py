@@ -11,10 +11,14 @@ from concurrent.futures import Future, ThreadPoolExecutor
 from typing import Any
 
 from itc_trace import touch
+from itc_trace.sync.jobs_of_pools import FEW
 from itc_trace.sync.queues import items_of
 
 from .support import PART_EVENTS, WAIT, Step, TracedCase, in_turn, wait_until
 from .test_threads import write
+
+MANY = 10 if PART_EVENTS else 3 * FEW
+"""So many jobs of one pool. With a border after a few events each of them takes long."""
 
 KINDS: list[Any] = [queue.Queue, queue.LifoQueue, queue.PriorityQueue, lambda: queue.SimpleQueue()]
 
@@ -282,6 +286,58 @@ class Pools(TracedCase):
                         write()
 
                 self.assert_race(scenario)
+
+    def test_the_end_of_a_pool_comes_after_a_job_whose_result_another_task_took(self) -> None:
+        def scenario() -> None:
+            pool = ThreadPoolExecutor(2)
+
+            def end() -> None:
+                pool.shutdown()
+                write()
+
+            in_turn(lambda: pool.submit(write).result(), end)
+
+        self.assert_ordered(scenario)
+
+    def test_the_end_of_a_pool_comes_after_jobs_that_are_long_over(self) -> None:
+        def scenario() -> None:
+            pool = ThreadPoolExecutor(2)
+
+            def submit() -> None:
+                for job in (write, *[int] * MANY):
+                    pool.submit(job)
+                    jobs = pool.__dict__["_itc_jobs"]
+                    wait_until(lambda: all(line.has_ended for line in jobs._lines[:-2]))
+                self.assertLess(len(jobs._lines), 2 * FEW)
+
+            def end() -> None:
+                pool.shutdown()
+                write()
+
+            in_turn(submit, end)
+
+        self.assert_ordered(scenario)
+
+    def test_the_end_of_a_pool_does_not_come_after_what_those_did_who_took_results(self) -> None:
+        for jobs in (1, MANY):
+            for is_waited_for in (True, False):
+                with self.subTest(jobs=jobs, is_waited_for=is_waited_for):
+
+                    def scenario() -> None:
+                        pool = ThreadPoolExecutor(2)
+
+                        def ask() -> None:
+                            for _ in range(jobs):
+                                pool.submit(int).result()
+                            write()
+
+                        def end() -> None:
+                            pool.shutdown(is_waited_for)
+                            write()
+
+                        in_turn(ask, end)
+
+                    self.assert_race(scenario)
 
     def test_who_takes_a_result_comes_after_the_job(self) -> None:
         for take in (lambda future: future.result(), lambda future: future.exception(), wait_until_done,

@@ -9,6 +9,8 @@ import subprocess
 import sys
 import tempfile
 import unittest
+from collections.abc import Callable
+from dataclasses import replace
 from pathlib import Path
 from typing import Any
 from unittest import mock
@@ -80,6 +82,56 @@ class Formats(unittest.TestCase):
             lines = sorted(place["physicalLocation"]["region"]["startLine"] for place in places if "physicalLocation" in place)
             self.assertEqual(lines, sorted(side.line for side in finding.sides if side.file))
         self.assertEqual([result.get("suppressions") for result in results].count(None), len(report.findings))
+
+    def test_each_rule_of_the_form_is_looked_at(self) -> None:
+        """What breaks one is found."""
+        def result(log: Any) -> Any:
+            return log["runs"][0]["results"][0]
+
+        def place(log: Any) -> Any:
+            return result(log)["locations"][0]["physicalLocation"]
+
+        breaks: dict[str, Callable[[Any], object]] = {
+            "version": lambda log: log.update(version="2.0.0"), "schema": lambda log: log.update({"$schema": "https://x/sarif-2.0.0.json"}),
+            "no runs": lambda log: log.pop("runs") and log.update(runs=[{"tool": {}}]),
+            "columns": lambda log: log["runs"][0].update(columnKind="bytes"), "no name": lambda log: log["runs"][0]["tool"]["driver"].pop("name"),
+            "rule": lambda log: result(log).update(ruleIndex=1), "message": lambda log: result(log).pop("message"),
+            "line": lambda log: place(log)["region"].update(startLine=0), "blank": lambda log: place(log)["artifactLocation"].update(uri="a b.py"),
+            "letters": lambda log: place(log)["artifactLocation"].update(uri="l\u00e4den.py"),
+            "base": lambda log: place(log)["artifactLocation"].update(uriBaseId="HERE"), "whole": lambda log: place(log)["artifactLocation"].pop("uriBaseId"),
+            "no slash": lambda log: log["runs"][0]["originalUriBaseIds"]["SRCROOT"].update(uri="file:///work"),
+            "place": lambda log: result(log)["message"].update(text="[a](7)"), "link": lambda log: result(log)["message"].update(text="x['a](b)']"),
+            "ids": lambda log: result(log)["relatedLocations"][0].update(id=0), "fingerprint": lambda log: result(log).update(partialFingerprints={"a": "b"}),
+            "twice": lambda log: result(log)["relatedLocations"].append(dict(result(log)["relatedLocations"][0])),
+        }
+        for name, spoil in breaks.items():
+            with self.subTest(name):
+                log = json.loads(sarif(stored()))
+                spoil(log)
+                try:
+                    self.assertNotEqual(faults(log), [])
+                except KeyError:
+                    pass  # It is not even there to be looked at.
+
+    def test_what_a_key_has_is_no_link(self) -> None:
+        report = stored()
+        for thing in ("x['a](7)']", "x['[a](b)']", "x['a](1)']"):
+            with self.subTest(thing):
+                report.findings[0] = replace(report.findings[0], thing=thing)
+                log = json.loads(sarif(report))
+                self.assertEqual(faults(log), [])
+                self.assertEqual(log["runs"][0]["results"][0]["message"]["text"].count("](1)"), 1)
+
+    def test_a_report_whose_folder_is_gone_is_well_formed(self) -> None:
+        report = stored()
+        report.folder = ""
+        log = json.loads(sarif(report))
+        self.assertEqual(faults(log), [])
+        self.assertEqual(log["runs"][0]["originalUriBaseIds"], {"SRCROOT": {}})
+        with mock.patch.dict(os.environ):
+            os.environ.pop("GITHUB_WORKSPACE", None)
+            self.assertIn("::error file=shop.py,line=10,", github(report))
+        self.assertNotIn("file://shop.py", text(report, style=TerminalStyle(True)))
 
     def test_github_has_a_line_for_each_and_no_bare_newline(self) -> None:
         with mock.patch.dict(os.environ, {"GITHUB_WORKSPACE": "/work/of/shop"}):
@@ -272,6 +324,17 @@ class Commands(unittest.TestCase):
         self.assertEqual(report_of_json((self.folder / "r.json").read_text()).verdict, Verdict.NO_RACE)
         told = json.loads((self.folder / "r.sarif").read_text())["runs"][0]
         self.assertEqual((told["results"], told["invocations"]), ([], [{"executionSuccessful": True}]))
+
+    def test_a_program_that_removes_its_folder_is_told_of(self) -> None:
+        kept = Path(self.enterContext(tempfile.TemporaryDirectory()))
+        (self.folder / "shop.py").write_text(SELLING + "import os, shutil\nshutil.rmtree(os.getcwd())\n")
+        self.addCleanup(self.folder.mkdir)
+        ran = self.run_here("run", "--json", f"{kept}/r.json", "--sarif", f"{kept}/r.sarif", "--github", "shop.py")
+        self.assertEqual(ran.returncode, 66, ran.stderr)
+        self.assertIn("itc_trace: race on stock['left']", ran.stderr)
+        self.assertRegex(ran.stdout, r"\A::error file=shop.py,line=4,")
+        self.assertEqual(report_of_json((kept / "r.json").read_text()).folder, "")
+        self.assertEqual(faults(json.loads((kept / "r.sarif").read_text())), [])
 
     def test_a_run_that_was_not_seen_whole_is_no_success_in_any_format(self) -> None:
         (self.folder / "shop.py").write_text("import os, signal\nos.kill(os.getpid(), signal.SIGKILL)\n")

@@ -148,21 +148,6 @@ def of_file(name: str) -> dict[str, str]:
     return dict(zip(parts[1::2], parts[2::2]))
 
 
-COLLECTED = """
-import gc, threading
-class R:
-    def __del__(self): print("gone")
-def work():
-    items, lock = [R()], threading.Lock()
-    def add():
-        with lock: items.append(1)
-    threads = [threading.Thread(target=add) for _ in range(2)]
-    for one in threads: one.start()
-    for one in threads: one.join()
-work()
-gc.collect()
-print("collected")
-"""
 IN_C = " in C"
 PROGRAMS = {
     **{f"expression{number}": of_expression(line) for number, line in enumerate(EXPRESSIONS.strip().splitlines())},
@@ -189,10 +174,6 @@ class SameOutput(unittest.TestCase):
     def test_futures_and_frames_go_at_once_with_nothing_watched(self) -> None:
         chosen = {"references_to_frames": PROGRAMS["references_to_frames"]}
         self.assertEqual(outcome(chosen, "in C", "--watch-nothing").written, outcome(chosen, None).written)
-
-    def test_with_hooks_in_python_the_next_collection_lets_go_of_a_shared_list(self) -> None:
-        traced = outcome({"program": COLLECTED}, "in Python")
-        self.assertEqual(traced.written["program"], "gone\ncollected\n", traced.said)
 
 
 if __name__ == "__main__":

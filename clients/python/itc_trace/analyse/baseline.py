@@ -16,7 +16,7 @@ VERSION = 1
 def read_baseline(file: str) -> list[Known]:
     """The races of a baseline. A fault says what is wrong with the file."""
     try:
-        with open(file, encoding="utf-8") as given:
+        with open(file, encoding="utf-8-sig") as given:
             told = json.load(given)
         races = [Known(str(one["thing"]), tuple(KnownSide(**side) for side in one["sides"])) for one in told["races"]]
         version = told["version"]

@@ -136,7 +136,7 @@ def _lines_with_comment(file: str) -> frozenset[int]:
 def read_patterns(file: str) -> list[Pattern]:
     """The patterns of a file."""
     try:
-        text = Path(file).read_text(encoding="utf-8")
+        text = Path(file).read_text(encoding="utf-8-sig")
     except (OSError, UnicodeDecodeError) as error:
         reason = error.strerror if isinstance(error, OSError) else "it is no text"
         raise Fault(f"{file} cannot be read: {reason}") from error

@@ -8,6 +8,7 @@ import re
 from collections.abc import Callable, Iterable, Iterator
 from pathlib import PurePath
 
+from ..model.file_names import working_folder
 from ..model.sources import LINES_AROUND, MOST_LETTERS, Sources
 from ..record.journal import ProcessTold, SourceText
 
@@ -41,8 +42,14 @@ def source_rows(lines: Iterable[str], find: Find = here) -> Iterator[SourceText]
 
 
 def _path_beside(file: str, path: str) -> str:
-    """The path from the current folder, so that a copy of the repository has it, too. Empty if the name leads there."""
-    whole, folder = os.path.abspath(path), os.getcwd()
+    """The path from the current folder, so that a copy of the repository has it, too.
+
+    Empty if the name leads there, or the folder is gone.
+    """
+    folder = working_folder()
+    if not folder:
+        return ""
+    whole = os.path.abspath(path)
     within = os.path.relpath(whole, folder) if PurePath(whole).is_relative_to(folder) else whole
     return "" if os.path.abspath(file) == whole else within
 

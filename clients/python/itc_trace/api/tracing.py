@@ -17,7 +17,7 @@ from ..analyse.benign import Looking
 from ..record.collector import HOST, Collector
 from ..record.environment import OWN_TENANT, PORT, reporting
 from ..record.faults import Fault
-from ..record.following import ChildProcess
+from ..record.following import ChildProcess, is_beginning
 from ..record.journal_file import JournalFile
 from ..model.lines import state
 from ..record.noting import not_followed
@@ -159,9 +159,11 @@ class Tracing:
             watch.end()
             self._tracer.forget()
         if self._file is not None:
-            state.witness = Witness(self._file)
-            _witnesses.append(state.witness)
-            watch.witness()
+            witness = Witness(self._file)
+            _witnesses.append(witness)
+            if not is_beginning():  # Else what the program does as it is forked would count as not traced.
+                state.witness = witness
+                watch.witness()
         self._tracer = self._file = self._collector = self._announced = None
         self._stopping = plain.RLock()
         self._is_temporary = self._has_own_collector = False

@@ -9,10 +9,12 @@ import signal
 import threading
 import time
 
-from ..processes.hanging import TOLD
+from ..processes.hanging import CHILDREN, TOLD
 from .saying import say
 
 ANSWER_SECONDS = 0.7
+CHILD_SECONDS = 0.3
+"""So long child processes take to answer beside the program's own one."""
 HANDLER_SECONDS = 0.2
 """So long the handler in C of the process takes at most."""
 LINE = re.compile(r'^  File "(.*)", line (\d+) in (.*)$', re.MULTILINE)
@@ -44,6 +46,8 @@ class Asking:
                     self._tell_of_silence(process)
                     return
                 time.sleep(0.02)
+            if os.path.exists(self.asked + CHILDREN):
+                time.sleep(CHILD_SECONDS)
 
     def ask_beside(self, process: int, adds: bool) -> None:
         """The same, and goes on at once."""

@@ -12,6 +12,7 @@ from pathlib import Path
 from types import FrameType
 
 from .asking import Asking
+from .descendants import descendants, end_all
 from .sentinel import Sentinel
 
 LOOK_AGAIN = 0.02
@@ -108,12 +109,15 @@ class Child:
         except subprocess.TimeoutExpired:
             self.is_timed_out = True
         self._asking.ask(process.pid)
+        below = descendants(process.pid)  # Whose parent is over has another one.
         process.terminate()
         try:
-            return process.wait(GRACE_SECONDS)
+            status = process.wait(GRACE_SECONDS)
         except subprocess.TimeoutExpired:
             process.kill()
-        return process.wait()
+            status = process.wait()
+        end_all(below, GRACE_SECONDS)
+        return status
 
     def _ask(self, number: int, _: FrameType | None) -> None:
         """Hands on that somebody asks what the program waits for, unless it was asked itself."""

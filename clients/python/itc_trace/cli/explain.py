@@ -2,6 +2,8 @@
 
 from __future__ import annotations
 
+import codecs
+import json
 import os
 
 from ..analyse.benign import Looking, read_patterns
@@ -13,8 +15,10 @@ from ..report.report import Report, report_of
 from .kept_trace import KeptTrace
 from .saying import UNWRITTEN, say, write
 
-REPORT_BEGINS = b"{\n"
-"""So begins a report of --json, and no export."""
+REPORT_BEGINS = b"{"
+"""So is the first line of a report of --json, and of no export."""
+KEY_OF_REPORT = "verdict"
+"""A key of a report that something has put into one line."""
 
 
 def explain(identity: str, kept: KeptTrace, is_strict: bool, benign: str | None) -> int:
@@ -42,8 +46,9 @@ def _is_report(file: str) -> bool:
     """Whether a file begins as a report. What cannot be read is told by whoever looks for an export there."""
     try:
         with open(file, "rb") as given:
-            return given.read(len(REPORT_BEGINS)) == REPORT_BEGINS
-    except OSError:
+            first = given.readline().removeprefix(codecs.BOM_UTF8).strip()
+        return first == REPORT_BEGINS or KEY_OF_REPORT in json.loads(first)
+    except (OSError, ValueError, TypeError, RecursionError):
         return False
 
 
@@ -52,7 +57,7 @@ def _of_json(kept: KeptTrace) -> Report:
         needless = f"--picture {kept.picture}" if kept.picture is not None else f"the journal {kept.journals[0]}"
         raise Fault(f"{needless} is for an export, and {kept.trace} is a report of --json: leave it out")
     try:
-        with open(kept.trace, encoding="utf-8") as given:
+        with open(kept.trace, encoding="utf-8-sig") as given:
             return report_of_json(given.read())
     except (NoReport, UnicodeDecodeError) as fault:
         raise Fault(f"{kept.trace} is no report: {fault}: name the FILE of --json, or an export") from fault

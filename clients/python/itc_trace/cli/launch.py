@@ -34,7 +34,8 @@ from ..sync.shaking import Shaking
 from ..sync.tracebacks import leave_out_of
 from ..record.tracer_parts import Parts
 from ..api.tracing import Tracing
-from .traced_process import Ending, ended_by
+from .later_imports import hide
+from .traced_process import Ending, ended_by, may_be_asked
 
 REFUSED, RAISED = "refused", "raised"
 """What `run` is told of a program that did not run to its end."""
@@ -60,19 +61,21 @@ def main() -> None:
         watch.tell_missing(packages, folders[0])
         watch.watch_loaded(folders, packages)
     shaking = None if seed is None else Shaking(seed)
+    process = None if child is None else ChildProcess(*child)
     try:
-        traced = Tracing(
-            **configuration, shaking=shaking, parts=parts, child=None if child is None else ChildProcess(*child),
-        ).start()
+        traced = Tracing(**configuration, shaking=shaking, parts=parts, child=process).start()
     except OSError as fault:  # Another session reports, say.
         _refuse(tell, str(fault))
-    Ending(traced).begin(folders, packages)
-    if asked is not None:
+    Ending(traced).begin(folders, packages, asked=asked if process is None else process.asked)
+    if process is not None:
+        may_be_asked(process, traced)
+    elif asked is not None:
         Hanging(asked, traced.write, None if cycles is None else _break_off).begin()
     if cycles is not None:
         Confirming(cycles).begin()
     if meeting is not None:
         meeting.begin()
+    hide()
     try:
         error = _error_of(_run_module if words[0] == "-m" else _run_file, words)
     except _NotRun as fault:

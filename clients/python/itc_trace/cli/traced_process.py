@@ -4,6 +4,7 @@ from __future__ import annotations
 
 import _thread
 import atexit
+import contextlib
 import os
 import signal
 import threading
@@ -12,20 +13,29 @@ from typing import Any
 
 from .. import watch
 from ..api.tracing import Tracing
+from ..model.frames import frame_at
 from ..model.file_names import working_folder
 from ..model.verdict import Cause, Unseen
+from ..processes.hanging import HangingChild
 from ..record.following import ChildProcess, Ways, follow, is_beginning
 from ..record.following import end as end_following
 from ..record.journal_file import JournalFile
+from ..record.raised_within import keep_handler
 from ..model.lines import state
 from ..sync import left_behind
 from ..sync.base import like
 from ..sync.process_pools import take_done
+from .deferred_signals import catch_up, deferred
+from .deferred_signals import shown as as_set
+from .later_imports import hide
 
 ANOTHER_PROGRAM = Unseen(Cause.KILLED, "tracing stopped where the process was to go on as another program")
 _set_handler, _handler_of = signal.signal, signal.getsignal
+_set_mask: Any = getattr(signal, "pthread_sigmask", None)
 _interrupt: Any = _thread.interrupt_main
 """As they are before any program is traced."""
+CHANGING = ("alarm", "setitimer", "pthread_sigmask")
+"""What came before one of them has an effect before it."""
 ENDING_SIGNALS = [getattr(signal, name) for name in ("SIGTERM", "SIGHUP") if hasattr(signal, name)]
 
 
@@ -39,8 +49,10 @@ def begin_as_child(process: ChildProcess) -> None:
         traced.start()
     except OSError:
         return  # The journal of its parent has no end of it.
-    Ending(traced).begin(process.folders, process.packages, process.names)
+    Ending(traced).begin(process.folders, process.packages, process.names, process.asked)
+    may_be_asked(process, traced)
     watch.watch_path_runs()
+    hide()
 
 
 class Beginning:
@@ -61,6 +73,13 @@ def _tracing_of(process: ChildProcess) -> Tracing:
     return Tracing(process.port, process.tenant, process.journal, host=process.host, child=process)
 
 
+def may_be_asked(process: ChildProcess, traced: Tracing) -> None:
+    """From here on the child tells what its tasks wait for, where somebody asks."""
+    if process.asked is not None:
+        with contextlib.suppress(OSError):  # Whoever asks is gone.
+            HangingChild(process.asked, traced.write).begin()
+
+
 class Ending:
     """Has all that was noted reported before the process ends, also where it ends without the interpreter's own end."""
 
@@ -70,6 +89,8 @@ class Ending:
         self._waiting_signal: int | None = None
         self._masks = threading.local()
         self._show_no_handler()
+        if _handler_of(signal.SIGINT) is signal.default_int_handler:
+            _set_handler(signal.SIGINT, deferred(signal.default_int_handler))
         self._before_the_end("_exit")
         for name in ("execv", "execve"):
             self._before_another_program(name)
@@ -81,11 +102,13 @@ class Ending:
                 before=self._hold_signals, after_in_parent=self._let_signals, after_in_child=self._in_child,
             )
 
-    def begin(self, folders: list[str], packages: list[str] | None, names: str | None = None) -> None:
+    def begin(
+        self, folders: list[str], packages: list[str] | None, names: str | None = None, asked: str | None = None,
+    ) -> None:
         """From here on the end of this process is looked after, and its children are traced."""
         atexit.register(self.finish)
         vars(threading)["_register_atexit"](self._main_has_ended)
-        follow(self._traced, folders, packages, self._ways(), names)
+        follow(self._traced, folders, packages, self._ways(), names, asked)
 
     def _ways(self) -> Ways:
         return Ways(self._go_on_as, Beginning, watch.program_of)
@@ -99,7 +122,8 @@ class Ending:
             self._let_signals()
             return  # The journal of its parent has no end of it.
         self._traced, self._process, self._waiting_signal = traced, os.getpid(), None
-        follow(traced, process.folders, process.packages, self._ways(), process.names)
+        follow(traced, process.folders, process.packages, self._ways(), process.names, process.asked)
+        may_be_asked(process, traced)
         for number in ENDING_SIGNALS:
             if _handler_of(number) == signal.SIG_DFL:
                 _set_handler(number, self._end_by)
@@ -111,6 +135,12 @@ class Ending:
             self._traced.tell(one)
 
     def finish(self) -> None:
+        try:
+            catch_up(frame_at(1))
+        finally:
+            self._finish()
+
+    def _finish(self) -> None:
         if os.getpid() == self._process:
             tracer = state.tracer
             for one in () if tracer is None else left_behind.locks_and_results(tracer.main):
@@ -155,27 +185,39 @@ class Ending:
         and asks for that one by this effect."""
 
         def shown(handler: Any) -> Any:
-            return signal.SIG_DFL if handler == self._end_by else handler
+            return signal.SIG_DFL if handler == self._end_by else as_set(handler)
 
         def set_handler(signalnum: Any, handler: Any) -> Any:
+            catch_up(frame_at(1))
+            keep_handler(handler)
             is_ours = handler == signal.SIG_DFL and signalnum in ENDING_SIGNALS and os.getpid() == self._process
-            return shown(_set_handler(signalnum, self._end_by if is_ours else handler))
+            return shown(_set_handler(signalnum, self._end_by if is_ours else deferred(handler)))
 
         def interrupt_main(signum: int = signal.SIGINT, /) -> None:
             # A signal that the program does not handle is not simulated, either.
             if _handler_of(signum) != self._end_by:
                 _interrupt(signum)
 
+        def catching_up(original: Any) -> Any:
+            def change(*words: Any) -> Any:
+                catch_up(frame_at(1))
+                return original(*words)
+
+            return like(original, change)
+
+        for name in CHANGING:
+            if hasattr(signal, name):
+                setattr(signal, name, catching_up(getattr(signal, name)))
         signal.signal = like(_set_handler, set_handler)
         signal.getsignal = like(_handler_of, lambda signalnum: shown(_handler_of(signalnum)))
         _thread.interrupt_main = like(_interrupt, interrupt_main)
 
     def _hold_signals(self) -> None:
         """Until the child has the signals' own effects back, none of them comes: it would be lost."""
-        self._masks.before = signal.pthread_sigmask(signal.SIG_BLOCK, ENDING_SIGNALS)
+        self._masks.before = _set_mask(signal.SIG_BLOCK, ENDING_SIGNALS)
 
     def _let_signals(self) -> None:
-        signal.pthread_sigmask(signal.SIG_SETMASK, self._masks.before)
+        _set_mask(signal.SIG_SETMASK, self._masks.before)
 
     def _in_child(self) -> None:
         for number in ENDING_SIGNALS:
@@ -189,6 +231,8 @@ class Ending:
         if self._waiting_signal is not None:
             return
         self._waiting_signal = number
+        if _set_mask is not None:
+            _set_mask(signal.SIG_BLOCK, signal.valid_signals())  # No handler of the program comes in between.
         if not self._traced.is_child:  # What ends a child is part of the program.
             self._traced.tell(ended_by(number))
         if not self._traced.is_stopping:  # Else whoever stops it looks for the signal.
@@ -198,6 +242,8 @@ class Ending:
     def _die(self, number: int) -> None:
         _set_handler(number, signal.SIG_DFL)
         os.kill(os.getpid(), number)
+        if _set_mask is not None:
+            _set_mask(signal.SIG_UNBLOCK, [number])
 
 
 def ended_by(number: int) -> Unseen:

@@ -106,13 +106,14 @@ class Gathering(Protocol):
 
 
 class Line:
-    """The events of one task, in their order. All but the first eleven fields belong to the thread that reports.
+    """The events of one task, in their order. All but the first twelve fields belong to the thread that reports.
 
     `held` has the locks that the task holds now, in the order of their acquiring.
     """
 
     __slots__ = (
         "number", "tracer", "hint", "waiting", "reference", "must_finish", "held", "lent", "section", "job", "loop_run",
+        "pool",
         "name", "count", "message", "lock", "sent", "pending", "known", "known_by_locks", "parent", "parent_count",
         "touches",
         "end_token", "is_finished", "has_ended", "is_gone", "joined_by", "joined_at", "joined", "first_taker",
@@ -130,6 +131,8 @@ class Line:
         """The pool's job that is done in it, if there are too many jobs for each to be a task of its own."""
         self.loop_run: Gathering | None = None
         """The run of a loop in which a task of asyncio took its last step."""
+        self.pool: weakref.ref[Any] | None = None
+        """The pool whose job it is. Whoever waits for the pool's end comes after it."""
         self.held: tuple[LockIdentity, ...] = ()
         self.lent: tuple[LockIdentity, ...] = ()
         """The locks that the task held which started it."""
@@ -174,6 +177,7 @@ class Line:
         self.reference = weakref.ref(thing, self._gone)
 
     def _gone(self, _: object) -> None:
+        self.reference = None  # If it goes as garbage in a circle, the reference keeps this method, and so the line.
         note = state.note
         if note is not None:
             note((GONE, self))

@@ -11,6 +11,12 @@ from .frames import is_internal, line_of
 
 _VARIABLES = ("NAME", "GLOBAL", "FAST", "DEREF")
 _STORES = {f"STORE_{one}" for one in _VARIABLES}
+_OF_VALUES = ("LOAD_", "PUSH_NULL", "COPY", "NOP", "PRECALL", "CALL", "KW_NAMES", "SWAP")
+"""So begin instructions that leave a value alone which lies below their own."""
+_BESIDE = ("BUILD_LIST", "BUILD_TUPLE", "BUILD_SET")
+"""Those that take so many values as they say."""
+_STORES_AT_ONCE = {"STORE_FAST_LOAD_FAST": 1, "STORE_FAST_STORE_FAST": 2}
+"""Instructions that store so many values from the top, and may do more."""
 _LOADS = {f"LOAD_{one}" for one in (*_VARIABLES, "ATTR")}
 
 _numbers: dict[tuple[str, int, int], itertools.count[int]] = {}
@@ -213,4 +219,33 @@ def variable_of_result(code: CodeType, instruction: int) -> str | None:
         following = next(instructions, None)
         if following is not None and following.opname == "STORE_ATTR":
             return str(following.argval)
+    return _variable_of_several(code, instruction)
+
+
+def _variable_of_several(code: CodeType, instruction: int) -> str | None:
+    """The same where one statement gives several variables their values, as in `one, other = Lock(), Lock()`."""
+    above, size = 0, 0
+    """So many values lie above the result, or so many are in a tuple with it."""
+    for one in dis.get_instructions(code):
+        if one.offset <= instruction or one.opname == "CACHE":
+            continue
+        arg = one.arg or 0
+        if size:  # Nothing but the variables may take the tuple.
+            if one.opname != "UNPACK_SEQUENCE" or arg != size:
+                return None
+            size = 0
+        elif one.opname in _STORES and not above:
+            return str(one.argval)
+        elif above < _STORES_AT_ONCE.get(one.opname, 0):
+            return str(one.argval[above])
+        elif one.opname == "SWAP" and above in (0, arg - 1):
+            above = arg - 1 - above
+        elif one.opname == "BUILD_TUPLE" and above < arg:
+            above, size = arg - 1 - above, arg
+        elif one.opname.startswith((*_OF_VALUES, "STORE_")) or one.opname.startswith(_BESIDE) and arg <= above:
+            above += dis.stack_effect(one.opcode, one.arg if one.opcode >= dis.HAVE_ARGUMENT else None)
+        else:
+            return None
+        if above < 0:
+            return None
     return None

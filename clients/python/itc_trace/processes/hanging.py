@@ -16,6 +16,7 @@ import sys
 import threading
 import time
 from collections.abc import Callable, Iterator
+from io import FileIO
 from types import CodeType, FrameType
 
 from ..model.file_names import name_of_file
@@ -23,19 +24,31 @@ from ..model.frames import line_of
 from ..model.lines import state
 from ..record import own_files, plain
 from ..record.own_threads import start_thread
-from .waits import WAITS, Since, Wait, cycle_of, waits
+from .waits import WAITS, Since, Wait, cycle_of, name_of, waits
 
 LOOK = 0.1
 """In seconds, between two looks at the file and at the threads."""
 STUCK = 1.0
 """So long all tasks wait before that is told."""
+LOOKS = 10
+"""So often it is looked at most, at the end of a trace, whether a cycle stays as it is."""
+GONE_ON = (OSError, RuntimeError, KeyError, AttributeError, ValueError)
+"""What a look raises if a task has gone on meanwhile, or the file is no more."""
 ASKING = ("SIGQUIT", "SIGUSR1")
 TOLD = ".told"
 """Behind the name of the file: there is a letter once the program can be asked, and then one for each answer."""
+CHILDREN = ".children"
+"""Behind the name of the file: it is there if child processes answer, too."""
+_ways_out: list[Callable[[], object]] = []
+"""How this process is broken off once a deadlock is there, if it is to be. A forked child is so as well."""
+_handled: list[FileIO] = []
+"""The file that the handlers in C add to, held open for them. A forked child has those of its parent."""
 
 
 class Hanging:
     """The thread that looks, from the program's beginning to its end."""
+
+    _signals: tuple[str, ...] = ASKING
 
     def __init__(self, asked: str, write: Callable[[str], object], break_off: Callable[[], object] | None) -> None:
         self._asked = asked
@@ -51,35 +64,51 @@ class Hanging:
         self._told: frozenset[tuple[str, str, str, float]] = frozenset()
         """Those of which it was told last that they are stuck."""
         self._begun = time.monotonic()
+        self._size = 0
+        """So long the file was as it was answered last."""
 
     def begin(self) -> None:
+        if not _handled:
+            self._handle()
+        if self._break_off is not None:
+            _ways_out.append(self._break_off)
+        self._can_be_asked()
+        start_thread(self._look_on)
+
+    def _handle(self) -> None:
+        """From here on these signals ask, unless the program handles them."""
         number_of_file = own_files.keep(os.open(self._asked, os.O_WRONLY | os.O_APPEND | os.O_CREAT, 0o600))
-        self._file = open(number_of_file, "ab", buffering=0)  # Held open for the handlers.
-        for name in ASKING:
+        _handled.append(open(number_of_file, "ab", buffering=0))
+        for name in self._signals:
             number = getattr(signal, name, None)
             if number is not None and signal.getsignal(number) == signal.SIG_DFL:
                 with contextlib.suppress(RuntimeError, OSError):
-                    faulthandler.register(number, self._file, all_threads=False, chain=False)
-        self._note_answer()  # It can be asked from here on.
-        start_thread(self._look_on)
+                    faulthandler.register(number, _handled[0], all_threads=False, chain=False)
+
+    def _can_be_asked(self) -> None:
+        self._note_answer()
+
+    def _title(self) -> str:
+        return "the program"
+
+    def _within(self) -> str:
+        return ""
 
     def _look_on(self) -> None:
-        size = 0
         while os.getpid() == self._process:
             plain.sleep(LOOK)
             if state.tracer is None:
                 continue
             try:
                 begun = self._since.look()
-                now = os.stat(self._asked).st_size
-                if now != size:
+                if os.stat(self._asked).st_size != self._size:
                     self._answer()
                     plain.sleep(LOOK)
-                    size = os.stat(self._asked).st_size
+                    self._size = os.stat(self._asked).st_size
                 if self._may_be_stuck(begun):
                     self._look_whether_stuck()
-            except (OSError, RuntimeError, KeyError, AttributeError, ValueError):
-                continue  # A task has gone on meanwhile, or the file is no more.
+            except GONE_ON:
+                continue
 
     def _may_be_stuck(self, begun: dict[int, float]) -> bool:
         """Whether it is worth to look closer: some threads, or the only one, have been where they are for long.
@@ -95,7 +124,7 @@ class Hanging:
 
     def _answer(self) -> None:
         found = waits(self._since)
-        _say(lines_of(found, f"{time.monotonic() - self._begun:.1f} s after its beginning the program has"))
+        _say(lines_of(found, f"{time.monotonic() - self._begun:.1f} s after its beginning {self._title()} has"))
         self._note_answer()
         self._keep(cycle_of(found))
 
@@ -114,9 +143,9 @@ class Hanging:
         if told == self._told:
             pass
         elif are_stuck:
-            _say(lines_of(found, "nobody goes on, as each waits for what only they could give:"))
+            _say(lines_of(found, f"nobody{self._within()} goes on, as each waits for what only they could give:"))
         else:
-            _say(lines_of(found, "some wait for each other of"))
+            _say(lines_of(found, f"some{self._within()} wait for each other of"))
         if self._keep(cycle) and self._break_off is not None:
             self._break_off()
 
@@ -133,6 +162,37 @@ class Hanging:
             self._kept.add(key)
             self._write(deadlock_row(cycle))
         return True
+
+
+class HangingChild(Hanging):
+    """The same in a child process. Its answers are not those that the command waits for.
+
+    Ctrl-\\ comes to all processes of a terminal. SIGUSR1 has the effect that whoever started the child knows.
+    """
+
+    _signals = ASKING[:1]
+
+    def __init__(self, asked: str, write: Callable[[str], object]) -> None:
+        super().__init__(asked, write, _ways_out[-1] if _ways_out else None)
+        self._size = os.stat(asked).st_size  # What was asked before it began, it does not answer.
+
+    def _can_be_asked(self) -> None:
+        with open(self._asked + CHILDREN, "ab"):
+            pass
+
+    def _note_answer(self) -> None:
+        """The command waits for the program's own process."""
+
+    def _title(self) -> str:
+        return f"process {self._name()}"
+
+    def _within(self) -> str:
+        return f" of process {self._name()}"
+
+    @staticmethod
+    def _name() -> str:
+        tracer = state.tracer
+        return str(os.getpid()) if tracer is None else name_of(tracer.main)
 
 
 def lines_of(found: list[Wait], begin: str) -> list[str]:
@@ -203,6 +263,28 @@ def _handles_signals() -> bool:
     """Whether the program has a handler for a signal. That may end any wait."""
     handlers = (signal.getsignal(number) for number in signal.valid_signals())
     return any(callable(one) and one is not signal.default_int_handler for one in handlers)
+
+
+def tell_closed_cycle(write: Callable[[str], object]) -> None:
+    """Writes to the journal a cycle that tasks of the trace have closed, if it is seen by two looks alike."""
+    since, before = Since(), frozenset[tuple[str, str, str, float]]()
+    for _ in range(LOOKS):
+        try:
+            cycle = _traced_cycle(since)
+        except GONE_ON:
+            continue
+        key = frozenset(map(_key, cycle))
+        if cycle and key == before:
+            write(deadlock_row(cycle))
+        if key == before:
+            return
+        before = key
+        plain.sleep(LOOK)
+
+
+def _traced_cycle(since: Since) -> list[Wait]:
+    """One of the tasks that are traced now, and of none that an earlier trace has left."""
+    return cycle_of([one for one in waits(since) if one.line is not None and one.line.tracer is state.tracer])
 
 
 def _key(wait: Wait) -> tuple[str, str, str, float]:

@@ -26,6 +26,7 @@ from ..model.frames import is_internal, line_of
 from ..model.lines import Line, state
 from ..model.lock_identity import LockIdentity
 from ..record import own_threads
+from ..sync.locks import gave, took
 
 _current_frames: Callable[[], dict[int, FrameType]] = vars(sys)["_current_frames"]
 _ITEMS, _THREAD, _FRAME, _INSTRUCTION = methodcaller("items"), itemgetter(0), itemgetter(1), attrgetter("f_lasti")
@@ -35,6 +36,10 @@ WAITS = "waits for "
 OWN = __name__.rpartition(".")[0]
 """The package of what looks."""
 IMPORT_LOCK = "_ModuleLock"
+OF_PROCESSES = "_itc_traced"
+"""The attribute by which a lock of `multiprocessing` has what is known of it."""
+_NOTING = (took.__code__, gave.__code__)
+"""Who is there has acquired the lock, or is about to release it. It may be held back, and waits for no task."""
 FUTURES = "the results of futures"
 _FUNCTIONS = {
     ("concurrent.futures._base", "wait"): FUTURES,
@@ -74,6 +79,9 @@ class Wait:
             yield f"    {name_of(self.on)} holds it, acquired at {self.held}"
         elif self.lock is not None:
             yield "    no task of this process holds it"
+        for lock in () if self.line is None else self.line.held:
+            if lock.across:
+                yield f"    {self.task} holds {lock.name}, acquired at {_place_of(lock.taken_by, lock.taken_at)}"
 
 
 class Since:
@@ -192,6 +200,8 @@ def _is_library(frame: FrameType) -> bool:
 
 def _described(inner: list[FrameType], name: str, line: Line | None, place: str, begun: float) -> Wait:
     """By the outermost frame of the library whose object is known."""
+    if any(frame.f_code in _NOTING for frame in inner):
+        return Wait(name, "runs", place, 0.0, line, is_endless=False)
     is_bounded = any(_has_limit(frame) for frame in inner)
     for frame in reversed(inner):
         words = _FUNCTIONS.get((str(frame.f_globals.get("__name__")), frame.f_code.co_name))
@@ -202,13 +212,12 @@ def _described(inner: list[FrameType], name: str, line: Line | None, place: str,
         what = _what(one, frame.f_code.co_name)
         if what:
             wait = Wait(name, f"{WAITS}{what}", place, begun, line, is_endless=not is_bounded and _is_within(one))
-            identity = getattr(one, "_itc_identity", None) or getattr(
-                getattr(one, "__dict__", {}).get("_itc_permit"), "_itc_identity", None)
-            if isinstance(identity, LockIdentity):
+            lock = _traced_lock(one)
+            if lock is not None:
+                identity: LockIdentity = lock._itc_identity
                 wait.is_endless = wait.is_endless and not identity.across
-                holder = getattr(one, "_itc_holder", None) or getattr(
-                    getattr(one, "__dict__", {}).get("_itc_permit"), "_itc_holder", None)
-                wait.lock, wait.on, wait.held = identity, holder, _place_of(identity.taken_by, identity.taken_at)
+                wait.lock, wait.on = identity, _holder_of(lock)
+                wait.held = _place_of(identity.taken_by, identity.taken_at)
             elif isinstance(one, threading.Thread):
                 wait.on = one.__dict__.get("_itc_line")
             elif type(one).__name__ == IMPORT_LOCK and one.owner is not None:
@@ -221,6 +230,21 @@ def _described(inner: list[FrameType], name: str, line: Line | None, place: str,
     known = next((frame for frame in inner if not _is_of_package(frame)), None)
     where = "code of C" if known is None else f"{known.f_globals.get('__name__')}.{known.f_code.co_name}"
     return Wait(name, f"is in {where}", place, begun, line, is_endless=False)
+
+
+def _traced_lock(one: Any) -> Any:
+    """What is known of the lock that this one is, or by which a semaphore or a lock of processes is followed."""
+    own = getattr(one, "__dict__", {})
+    for lock in (one, own.get("_itc_permit"), own.get(OF_PROCESSES)):
+        if isinstance(getattr(lock, "_itc_identity", None), LockIdentity):
+            return lock
+    return None
+
+
+def _holder_of(lock: Any) -> Line | None:
+    """The task of this process that holds it. A child knows who held it in its parent as that forked."""
+    holder: Line | None = lock._itc_holder
+    return None if holder is None or holder.tracer is not state.tracer else holder
 
 
 def _is_of_package(frame: FrameType) -> bool:
@@ -272,7 +296,8 @@ def _of_processes(one: Any, kind: type, function: str) -> str:
     if module == "multiprocessing.connection" and function in ("recv", "recv_bytes", "poll", "send"):
         return "a pipe"
     if module.startswith("multiprocessing") and function in ("acquire", "__enter__"):
-        return "a lock of several processes"
+        lock = _traced_lock(one)
+        return "a lock of several processes" if lock is None else str(lock._itc_identity.name)
     if module == "subprocess" and function in ("wait", "communicate"):
         return f"the end of process {getattr(one, 'pid', '')}"
     return ""

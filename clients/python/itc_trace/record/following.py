@@ -56,6 +56,8 @@ class ChildProcess(NamedTuple):
     packages: list[str] | None
     names: str | None = None
     """The file of the names that processes share."""
+    asked: str | None = None
+    """The file by which somebody asks what its tasks wait for."""
 
 
 class Traced(Protocol):
@@ -96,6 +98,7 @@ class _Following:
     folders: list[str] = field(default_factory=list)
     packages: list[str] | None = None
     ways: Ways | None = None
+    asked: str | None = None
     is_unfollowed: bool = False
     """Whether the program has made what orders processes, or what they share, and is not followed."""
     has_children: bool = False
@@ -110,11 +113,12 @@ _own = threading.local()
 
 
 def follow(
-    traced: Traced, folders: list[str], packages: list[str] | None, ways: Ways, names: str | None = None
+    traced: Traced, folders: list[str], packages: list[str] | None, ways: Ways, names: str | None = None,
+    asked: str | None = None,
 ) -> None:
     """From here on the children of this process are traced.
 
-    The names that it shares with its parent are there already.
+    The names that it shares with its parent are there already. By the last file somebody asks all of them.
     """
     global _following
     shared = _following.names
@@ -122,7 +126,7 @@ def follow(
         shared.after_fork()
     elif names is not None:
         shared = SharedNames(names)
-    _following = _Following(traced, folders, packages, ways, names=shared)
+    _following = _Following(traced, folders, packages, ways, asked, names=shared)
 
 
 def is_not_followed(what: str) -> None:
@@ -218,7 +222,7 @@ def begin(hint: str, how: str, depth: int) -> Begun | None:
     tag, names = _fresh_tag(tracer), shared_names()
     process = ChildProcess(
         tracer.port, traced.host, traced.tenant, os.path.abspath(traced.journal), line.name, tag, tracer.part,
-        _following.folders, _following.packages, None if names is None else names.path,
+        _following.folders, _following.packages, None if names is None else names.path, _following.asked,
     )
     _following.has_children = True
     traced.write(child_begun_row(tag, f"{how} at {place_of_start(depth)}"))

@@ -19,6 +19,7 @@ from ..model.lines import MARK, RESULT, SPAWN, TAKE, TOUCH, Line, Note, Section,
 from ..model.loop_runs import begun_here, number_of_loop
 from ..model.verdict import Cause, Unseen
 from ..model.stretches import STRETCHES, TURNS, Across, leave
+from .raised_within import is_of_program
 
 local = threading.local()
 """`line` is the thread's own line, and that of a pool's job while it runs there."""
@@ -197,7 +198,12 @@ LOST: dict[tuple[CodeType | None, int, str], int] = {}
 
 
 def lost(fault: Exception) -> None:
-    """Counts a touch that a hook failed to note. The order of the rest is not lost, so tracing goes on."""
+    """Counts a touch that a hook failed to note. The order of the rest is not lost, so tracing goes on.
+
+    What the program itself raises there reaches it.
+    """
+    if is_of_program(fault):
+        raise fault
     kind = type(fault)
     text = f"{kind.__name__}: {fault}" if kind.__module__ == "builtins" else kind.__name__
     where = (*place(_getframe(1)), text.split("\n", 1)[0])

@@ -40,6 +40,14 @@ def _number(line: Line) -> int:
     return line.number
 
 
+def _is_for_pool(line: Line) -> bool:
+    """Whether it is a job after which whoever waits for the end of its pool will come, and nobody has joined it yet.
+
+    Whoever takes its result comes after a message of it. If he joined it, the end of the pool came after him, too.
+    """
+    return line.pool is not None and line.joined_by is None and line.pool() is not None
+
+
 class OrderOfTasks:
     """Reports what orders tasks. A release becomes a message once somebody may still take it and its task goes on."""
 
@@ -193,7 +201,7 @@ class OrderOfTasks:
     def _is_last_taker(self, source: Line, token: Token) -> bool:
         """Whether the task is finished, and nobody but whoever asks now can wait for it."""
         is_at_end = source.is_finished and token.count == source.count and token.what.lock is None
-        return is_at_end and not self.may_be_asked_for(source)
+        return is_at_end and not self.may_be_asked_for(source) and not _is_for_pool(source)
 
     def take_end(self, line: Line, source: Line, code: CodeType | None, instruction: int) -> None:
         """The line has seen that the other one is done."""
@@ -317,7 +325,7 @@ class OrderOfTasks:
             return
         self.leave(line, only_locks=True)
         self.end(line, END.giving)
-        taker = line.first_taker
+        taker = None if _is_for_pool(line) else line.first_taker
         if taker is not None and not taker.is_finished and not taker.has_ended:
             self._join_now(taker, line, None, 0, f"join {line.name}")
 
@@ -358,7 +366,7 @@ class OrderOfTasks:
         """Has a task of its own take the ends of those that the end of the program waits for,
         in place of all of them."""
         ended = [
-            line for line in take_awaited(lambda line: line.has_ended)
+            line for line in take_awaited(lambda line: line.has_ended and not _is_for_pool(line))
             if not self._knows(self._reporter.main, line, max(line.count, 1))
         ]
         if ended and self._keeper is None:

@@ -16,6 +16,9 @@ MOST_PRIVATE = 512
 MOST_KEPT = 2048
 """So many things are known. Then the rows of those that were not touched for long are put aside, in the journal."""
 PUT_ASIDE_AT_ONCE = 256
+MOST_READ, MOST_BY_ONE = 64, 1024
+"""So many touches of a thing are known that several tasks have read, or that one task alone has touched. Then these
+touches are put aside, and the thing stays."""
 MOST_OF_EVENT = 1024
 """So many touches of an event that goes on are known. One that comes again behind them may be told once more."""
 BITS = 1 << 22
@@ -79,6 +82,8 @@ class TouchRows:
         """Of each thing that was seen lately by its number, and None of those that are listed."""
         self._put_aside = _Numbers()
         """Those that were seen before. A further touch of theirs is listed."""
+        self._full: dict[int, _Alone] = {}
+        """Those of which many touches are known."""
         self._swept = 0
         self.jobs = ManyJobs()
 
@@ -120,6 +125,8 @@ class TouchRows:
         if alone.has_other_task and alone.is_changed:
             rows += [self._row(*one) for one in alone.waiting]
             self._alone[number] = None
+        elif len(alone.waiting) >= (MOST_READ if alone.has_other_task else MOST_BY_ONE):
+            self._full[number] = alone
 
     def _row(self, event: TouchEvent, touch: Touch) -> str:
         return f"{self._begin(event)}{self._texts.text(touch)}"
@@ -131,11 +138,15 @@ class TouchRows:
         return f'{{"event":{event.event},{part_text(event.part)}{time}"task":"{event.task}",'
 
     def put_aside(self) -> Iterator[str]:
-        """Forgets the things that nobody has touched for the longest time, if too many are known. Gives their rows,
-        those of some things at a time.
+        """Forgets many touches of one thing, and the things that nobody has touched for the longest time, if too many
+        are known. Gives their rows, those of some things at a time.
 
         Whoever reads the journal passes over the rows that are put aside, but of things that others' rows tell of.
         """
+        if self._full:
+            full, self._full = self._full, {}
+            known = [alone for number, alone in full.items() if self._alone.get(number) is alone]
+            yield "".join(map(self._touches_aside, known))
         if len(self._alone) > MOST_KEPT:
             oldest = list(islice(self._alone, len(self._alone) - MOST_KEPT // 2))
             for first in range(0, len(oldest), PUT_ASIDE_AT_ONCE):
@@ -144,7 +155,11 @@ class TouchRows:
     def _row_aside(self, number: int) -> str:
         alone = self._alone.pop(number)
         self._put_aside.add(number)
-        return "" if alone is None else self._texts.aside(alone.thing, alone.waiting)
+        return "" if alone is None else self._touches_aside(alone)
+
+    def _touches_aside(self, alone: _Alone) -> str:
+        told, alone.waiting = alone.waiting, []
+        return self._texts.aside(alone.thing, told) if told else ""
 
     def keep_last(self) -> None:
         """At the end of a part: of what one task alone has touched at one place, the last touch stands for all."""

@@ -50,6 +50,10 @@ def _lines(finding: Finding, report: Report) -> Iterator[str]:
             yield f"    it is {state}"
     for test in finding.tests:
         yield f"    met by {test}"
+    for other in report.all_findings:
+        if other is not finding and other.identity == finding.identity:
+            places = " and ".join(side.told_place for side in other.sides)
+            yield f"    the same sources race at {places}: it has this id, too"
     story = finding.story
     for number, side in enumerate(finding.sides):
         yield ""

@@ -44,7 +44,7 @@ def _best_first(finding: Finding) -> list[FoundSide]:
 def _named(file: str, folder: str, root: str) -> str:
     """The file by its name within the repository, and by its whole name if it is not of it."""
     whole = os.path.normpath(os.path.join(folder, file))
-    return os.path.relpath(whole, root) if PurePath(whole).is_relative_to(root) else whole
+    return os.path.relpath(whole, root) if root and PurePath(whole).is_relative_to(root) else whole
 
 
 def _data(text: str) -> str:

@@ -2,13 +2,13 @@
 
 from __future__ import annotations
 
-import os
 from collections.abc import Iterable
 from dataclasses import dataclass, field
 
 from ..analyse.benign import Looking
 from ..analyse.deadlocks import Deadlock
 from ..analyse.races import Race, Races
+from ..model.file_names import working_folder
 from ..model.finding import Finding, Known
 from ..model.verdict import PassedOver, Unseen, Verdict
 from .hints import hints
@@ -37,8 +37,8 @@ class Report:
     """How much was looked at: `places`, `things`, `events` and `runs`."""
     picture: str | None = None
     """The file of the page that shows the trace."""
-    folder: str = field(default_factory=os.getcwd)
-    """The files of findings are named from here, if their names are no whole paths."""
+    folder: str = field(default_factory=working_folder)
+    """The files of findings are named from here, if their names are no whole paths. Empty if it is gone."""
 
     @property
     def all_findings(self) -> list[Finding]:

@@ -39,10 +39,15 @@ def as_object(report: Report) -> dict[str, Any]:
         "$schema": SCHEMA, "version": "2.1.0",
         "runs": [{
             "tool": {"driver": {"name": "itc-trace", "rules": [_rule(kind) for kind in kinds]}},
-            "originalUriBaseIds": {ROOT: {"uri": f"file://{uri_of(os.path.join(report.folder, ''))}"}},
+            "originalUriBaseIds": {ROOT: _base(report.folder)},
             "invocations": [_invocation(report)], "columnKind": "unicodeCodePoints", "results": results,
         }],
     }
+
+
+def _base(folder: str) -> dict[str, str]:
+    """The folder as a whole URI. If it is gone, whoever reads this has to know where it was."""
+    return {"uri": f"file://{uri_of(os.path.join(folder, ''))}"} if folder else {}
 
 
 def _rule(kind: str) -> dict[str, Any]:
@@ -68,7 +73,8 @@ def _result(finding: Finding, report: Report, kinds: list[str], suppressed: str 
     sides = sorted(finding.sides, key=lambda side: not side.is_write)
     related = [_location(side, report, number) for number, side in enumerate(sides[1:], 1)]
     others = ", ".join(f"[{side.kind} by {side.task}]({number})" for number, side in enumerate(sides[1:], 1))
-    told = f"{finding.title}: {sides[0].kind} by {sides[0].task}, and {others}: {finding.why} (id {finding.identity})"
+    first = _without_links(f"{finding.title}: {sides[0].kind} by {sides[0].task}")
+    told = f"{first}, and {others}: {_without_links(finding.why)} (id {finding.identity})"
     return {
         "ruleId": _id(finding.kind), "ruleIndex": kinds.index(finding.kind),
         "level": "warning" if finding.is_possible else "error", "message": {"text": told},
@@ -77,6 +83,11 @@ def _result(finding: Finding, report: Report, kinds: list[str], suppressed: str 
         **({"suppressions": [{"kind": suppressed}]} if suppressed else {}),
         **({"properties": {"confirmed": True}} if finding.is_confirmed else {}),
     }
+
+
+def _without_links(text: str) -> str:
+    """The text, in which a key of the program as `](7)` leads to no place."""
+    return text.replace("](", "] (")
 
 
 def _location(side: FoundSide, report: Report, number: int | None = None) -> dict[str, Any]:

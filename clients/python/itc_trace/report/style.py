@@ -56,11 +56,12 @@ class TerminalStyle(Style):
 
     def _with_link(self, line: str, side: FoundSide, place: str, folder: str) -> str:
         """The line, in which the place leads to its file."""
-        if not self._has_links or not side.file or side.file.startswith("<"):
+        whole = os.path.join(folder, side.found_at)
+        if not self._has_links or not side.file or side.file.startswith("<") or not os.path.isabs(whole):
             return line
         before, at, behind = line.partition(" at ")
         shown = readable(place)
-        linked = f"\033]8;;file://{uri_of(os.path.join(folder, side.found_at))}\033\\{shown}\033]8;;\033\\"
+        linked = f"\033]8;;file://{uri_of(whole)}\033\\{shown}\033]8;;\033\\"
         return before + at + re.sub(rf"{re.escape(shown)}(?!\d)", lambda _: linked, behind, count=1)
 
     def summary(self, text: str, is_good: bool) -> str:

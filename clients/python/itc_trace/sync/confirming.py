@@ -34,24 +34,40 @@ class _Arrived(NamedTuple):
 
 
 class _Cycle:
-    """The tasks that are held at the steps of one cycle."""
+    """The tasks that are held at the steps of one cycle. Several steps may be at the same lines."""
 
     def __init__(self, steps: list[Step]) -> None:
-        self.steps = steps
-        self.holds = [0] * len(steps)
-        self.arrived: list[list[_Arrived]] = [[] for _ in steps]
+        self._steps = steps
+        self._left = {step: MOST_HOLDS * steps.count(step) for step in steps}
+        self._arrived: dict[Step, list[_Arrived]] = {step: [] for step in steps}
 
-    def closes(self, mine: _Arrived, number: int) -> bool:
+    def steps(self) -> list[Step]:
+        return list(self._arrived)
+
+    def add(self, mine: _Arrived, step: Step) -> bool:
+        """Whether the task is held there. None is if some were before, for whom it never closed."""
+        if not self._left[step]:
+            return False
+        self._left[step] -= 1
+        self._arrived[step].append(mine)
+        return True
+
+    def remove(self, mine: _Arrived, step: Step) -> None:
+        self._arrived[step].remove(mine)
+
+    def closes(self, mine: _Arrived, step: Step) -> bool:
         """Whether tasks are held at all steps, each of which wants what the next one holds."""
-        path, at = mine, number
-        for _ in range(len(self.steps) - 1):
-            at = (at + 1) % len(self.steps)
-            others = (one for one in self.arrived[at] if one.held is path.wanted and one.line is not mine.line)
+        return any(self._closes_at(mine, number) for number, one in enumerate(self._steps) if one == step)
+
+    def _closes_at(self, mine: _Arrived, number: int) -> bool:
+        path = [mine]
+        for step in (*self._steps[number + 1:], *self._steps[:number]):
+            others = (one for one in self._arrived[step] if one.held is path[-1].wanted)
             found = next(others, None)
-            if found is None:
+            if found is None or any(found.line is one.line for one in path):
                 return False
-            path = found
-        return path.wanted is mine.held
+            path.append(found)
+        return path[-1].wanted is mine.held
 
 
 class Confirming:
@@ -59,7 +75,7 @@ class Confirming:
 
     def __init__(self, cycles: list[list[Step]]) -> None:
         self._cycles = [_Cycle([(str(held), str(wanted)) for held, wanted in steps]) for steps in cycles]
-        self._wanted = {wanted for one in self._cycles for _, wanted in one.steps}
+        self._wanted = {wanted for one in self._cycles for _, wanted in one.steps()}
         self._guard = plain.allocate_lock()
 
     def begin(self) -> None:
@@ -84,23 +100,22 @@ class Confirming:
         if here not in self._wanted:
             return
         for cycle in self._cycles:
-            for number, (held_at, wanted_at) in enumerate(cycle.steps):
+            for step in cycle.steps():
+                held_at, wanted_at = step
                 held = next((one for one in line.held if _here(one.taken_by, one.taken_at) == held_at), None)
                 if wanted_at == here and held is not None and held is not lock._itc_identity:
-                    self._hold_at(cycle, number, _Arrived(line, held, lock._itc_identity))
+                    self._hold_at(cycle, step, _Arrived(line, held, lock._itc_identity))
 
-    def _hold_at(self, cycle: _Cycle, number: int, mine: _Arrived) -> None:
+    def _hold_at(self, cycle: _Cycle, step: Step, mine: _Arrived) -> None:
         with self._guard:
-            if cycle.holds[number] >= MOST_HOLDS:
+            if not cycle.add(mine, step):
                 return
-            cycle.holds[number] += 1
-            cycle.arrived[number].append(mine)
         end = monotonic() + HOLD
-        while not cycle.closes(mine, number) and monotonic() < end:
+        while not cycle.closes(mine, step) and monotonic() < end:
             sleep(PAUSE)
-        if not cycle.closes(mine, number):  # Else it stays, for the others to see.
+        if not cycle.closes(mine, step):  # Else it stays, for the others to see.
             with self._guard:
-                cycle.arrived[number].remove(mine)
+                cycle.remove(mine, step)
 
 
 def _here(code: Any, instruction: int) -> str:

@@ -18,6 +18,7 @@ from ..record.noting import current, enter, joining, local, mark, starting, take
 from ..model.frames import frame_at, is_internal, place
 from ..record.messages import incoming_at
 from .base import Patches, like, named_like
+from .jobs_of_pools import JobsOfPool
 from .left_behind import Outcome, begun, taken
 from ..record.awaited import await_at_exit
 
@@ -267,9 +268,11 @@ def _begin_job(item: Any, future: Any, pool: Any, name: str) -> None:
     line.watch(future)
     future._itc_line = item._itc_line = line
     item._itc_is_after_worker = getattr(pool, "_initializer", None) is not None
-    pool.__dict__.setdefault("_itc_jobs", []).append(line)
+    starter = starting(line)
+    jobs = pool.__dict__.get("_itc_jobs") or pool.__dict__.setdefault("_itc_jobs", JobsOfPool(pool))
+    jobs.add(line, starter)
     await_at_exit(line)
-    note((SPAWN, starting(line), line, *place(frame_at(4))))
+    note((SPAWN, starter, line, *place(frame_at(4))))
 
 
 def _item_run(original: Any) -> Any:
@@ -314,17 +317,8 @@ def _tell_called(item: Any) -> None:
 def _shutdown(original: Any) -> Any:
     def shutdown(self: Any, wait: bool = True, **named: Any) -> None:
         original(self, wait, **named)
-        jobs = self.__dict__.get("_itc_jobs")
-        if wait and jobs:
-            _take_jobs(jobs)
+        jobs: JobsOfPool | None = self.__dict__.get("_itc_jobs")
+        if wait and jobs is not None:
+            jobs.take(*place(frame_at(1)))
 
     return shutdown
-
-
-def _take_jobs(jobs: list[Line]) -> None:
-    """Whoever has waited for the pool's end comes after all of its jobs."""
-    where = place(frame_at(2))
-    for line in list(jobs):
-        note = state.note
-        if note is not None and line.tracer is state.tracer:
-            note((TAKE_END, joining(line), line, *where))

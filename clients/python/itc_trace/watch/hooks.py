@@ -71,7 +71,7 @@ from .rewrite import FINALIZER, OF_OBJECT, ON, PREFIX
 from .seen import NEVER
 from .templates import Path, field_paths
 from .things import (
-    MADE, NO_MODULE, OWNERS, Made, Owner, let_go_of, let_go_of_some, made_by, made_here, maker_now, mark_of,
+    HELD, MADE, NO_MODULE, OWNERS, Made, Owner, let_go_of, let_go_of_some, made_by, made_here, maker_now, mark_of,
     measure_finalizers, owner_of, variable_of,
 )
 
@@ -82,6 +82,7 @@ ANYBODY, NOBODY = 0, sys.maxsize
 """A limit of references that nothing is within, and one that everything is."""
 OF_VARIABLE_IN_C = 2
 """How many references the helper sees of what only one variable refers to."""
+LOOKED_THROUGH_BEHIND_CALLS = 8
 
 owner_at = OWNERS.get
 stretch_of = STRETCHES.get
@@ -1332,6 +1333,13 @@ def hook_at_finalizer(one: Any) -> None:
 def hook_after_letting_go() -> None:
     """Behind where something is let go of."""
     let_go_of_some(LOOKED_THROUGH_AT_ONCE)
+
+
+def hook_after_return(one: Any) -> Any:
+    """Behind a call: what the function has let go of goes. Only the hooks in Python hold anything for that long."""
+    if HELD:
+        let_go_of_some(LOOKED_THROUGH_BEHIND_CALLS)
+    return one
 
 
 # What the helper asks for, if there is one

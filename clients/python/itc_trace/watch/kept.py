@@ -19,7 +19,7 @@ from os import read as read_file
 from os import stat as status
 from typing import Any
 
-from .helper import user_folder
+from .helper import quick, user_folder
 
 MAGIC = b"itc_trace kept 1"
 DIGEST = 16
@@ -66,7 +66,8 @@ def _setting() -> bytes:
 
 def _python() -> tuple[object, ...]:
     has_columns = next(compile("a", "", "eval").co_positions())[2] is not None
-    return sys.implementation.cache_tag, sys.hexversion, importlib.util.MAGIC_NUMBER, sys.flags.optimize, has_columns
+    words = sys.implementation.cache_tag, sys.hexversion, importlib.util.MAGIC_NUMBER, sys.flags.optimize
+    return *words, has_columns, quick is None
 
 
 class Kept:

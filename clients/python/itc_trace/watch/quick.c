@@ -894,6 +894,8 @@ static PyObject *end_hook(PyObject *back, int result)
         PyObject *type, *fault, *trace;
         PyErr_Fetch(&type, &fault, &trace);
         PyErr_NormalizeException(&type, &fault, &trace);
+        if (trace != NULL && PyException_SetTraceback(fault, trace) < 0)
+            PyErr_Clear();
         PyObject *told = PyObject_CallOneArg(given.lost, fault);
         Py_XDECREF(type);
         Py_XDECREF(fault);

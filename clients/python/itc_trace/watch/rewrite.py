@@ -19,6 +19,7 @@ from .kinds import (
     KEYED, LATE_METHODS, METHODS, ORDERED, READERS, SHOWING, SHOWN, STATE, STEPPERS, STEPPING, TRUTH, WRITTEN, depth_of,
     known_function,
 )
+from .helper import quick
 from .patterns import Patterns
 from .learned import Learned
 from .nodes import LOAD, as_statement, at, call_of, chosen, compiled, copied, name_at, new_node, place_of, with_ends
@@ -78,6 +79,8 @@ CALLED_BY_OTHERS = frozenset((
     *OF_ATTRIBUTES, *"len sum min max any all next iter sorted list tuple set frozenset dict str repr".split(),
 ))
 """Functions of the language that are handed on, as `map(len, rows)` does, and look at what they are called with."""
+LETTING_GO = frozenset("next setattr delattr".split())
+"""Functions of the language that may have the program let go of something."""
 OF_SYSTEM = frozenset(("os.environ", "sys.path", "sys.argv", "sys.modules"))
 """Containers of the library that programs change."""
 GIVERS = frozenset("getattr next vars globals max min iter reversed".split())
@@ -403,7 +406,16 @@ class Rewriter:
     # Statements
 
     def _statements(self, body: list[Any]) -> list[ast.stmt]:
+        if quick is None:
+            return [made for before, one in zip([None, *body], body) for made in self._behind_block(before, one)]
         return [made for one in body for made in self._statement(one)]
+
+    def _behind_block(self, before: Any, node: Any) -> list[ast.stmt]:
+        """A statement. The end of a block before it may let go of something that the hooks in Python hold."""
+        if not isinstance(before, _BLOCKS) or isinstance(node, _OWN_CODE):
+            return self._statement(node)
+        hook = as_statement(self._hook("after_letting_go", node), node)
+        return [*self._only_on([hook], node), *self._statement(node)]
 
     def _statement(self, node: Any) -> list[ast.stmt]:
         kind = type(node)
@@ -451,9 +463,16 @@ class Rewriter:
             is_apart = any([type(target) in ROWS or _is_slice(target) for target in node.targets])
             node.value = self._whole(node.value, KEYS) if is_apart else self._child(node.value)
         self._store_targets(node)
-        if type(node.value) is ast.Constant and node.value.value is None:
+        is_none = type(node.value) is ast.Constant and node.value.value is None
+        if is_none or quick is None and self._may_replace(node):
             self._after.append(as_statement(self._hook("after_letting_go", node), node))
         return node
+
+    def _may_replace(self, node: ast.Assign) -> bool:
+        """Whether an assignment may let go of what was there before."""
+        return any(
+            type(one) is not ast.Name or self._scope.owner(one.id).bound.get(one.id, 0) != 1 for one in node.targets
+        )
 
     def _store_targets(self, node: ast.Assign) -> None:
         targets = node.targets
@@ -896,8 +915,15 @@ class Rewriter:
         if passed_over.is_replacing(name):
             what = str(name).removeprefix("unittest.")
             hook = self._hook("at_passed_over", node, self._site(node, "passed over", "", what))
+        is_held = quick is None and self._may_let_go(node.func)
         made = self._call(node, name)
+        if is_held:
+            made = self._hook("after_return", made, made)
         return made if hook is None else ast.copy_location(ast.BoolOp(ast.Or(), [hook, made]), node)
+
+    def _may_let_go(self, function: Any) -> bool:
+        """Whether a call may let go of something that the hooks in Python hold."""
+        return type(function) is not ast.Name or function.id in LETTING_GO or not self._is_builtin(function.id)
 
     def _call(self, node: ast.Call, name: str | None) -> ast.expr:
         self._name_handed(node)
@@ -1619,6 +1645,8 @@ _WITH = (ast.With, ast.AsyncWith)
 A handler so keeps one.
 """
 _OWN_LOOPS = (ast.For, ast.AsyncFor, ast.While)
+_BLOCKS = (*_OWN_LOOPS, *_WITH, ast.Try, ast.TryStar)
+"""Statements at whose end something may be let go of."""
 _OWN_CODE = (ast.FunctionDef, ast.AsyncFunctionDef, ast.ClassDef)
 
 

@@ -1,7 +1,7 @@
 """What tasks touch: fields, variables, cells, elements and shapes, each with a name that a person knows.
 
 An object is known by its identity while it is there. What can be referred to weakly leaves as soon as the program lets
-go of it. What cannot, as a list or a dict, is held from its first touch among several tasks until nobody else holds it.
+go of it. The hooks in C see that of lists and dicts, too. Those in Python hold them until nobody else does.
 """
 
 from __future__ import annotations
@@ -10,7 +10,7 @@ import os
 import re
 import weakref
 from _thread import get_ident
-from builtins import id, len, list, min, next, repr, type
+from builtins import id, len, list, next, repr, type
 from collections import deque
 from collections.abc import Callable
 from hashlib import blake2b
@@ -26,6 +26,7 @@ from ..model.stretches import SITES
 from .both_languages import LOOKED_THROUGH, MOST_HELD, MOST_MADE
 from .decisions import fields_of, name_of
 from .helper import quick
+from .holding import OLDEST, REFERENCES_OF_HELD, Held
 from .keys import UNKNOWN
 from .places import ACCESSES
 from .seen import NEVER
@@ -178,9 +179,6 @@ class Owner(Fields):
 OWNERS: dict[int, Owner] = {} if quick is None else quick.OWNERS
 """Of each object that is known, by its identity."""
 MADE: dict[int, Made] = {}
-KEPT: dict[int, Any] = {}
-"""What cannot be referred to weakly, and is held therefore."""
-HELD: deque[int] = deque()
 
 _numbers = iter(range(1, 1 << 62))
 _bases = iter(range(FIRST_NUMBER_OF_OWNERS, 1 << 62, FIRST_NUMBER_OF_OWNERS))
@@ -207,31 +205,28 @@ def _new_owner(one: Any, key: int, name: str) -> Owner:
     try:
         owner.reference = weakref.ref(one, gone)
     except TypeError:
-        let_go_of_some(LOOKED_THROUGH)
-        KEPT[key] = one
-        HELD.append(key)
+        HELD.let_go_of_some(LOOKED_THROUGH)
+        HELD.hold(key, one)
     return OWNERS.setdefault(key, owner)
 
 
+def _left(key: int, is_gone: bool) -> None:
+    """The object of this identity is known no more."""
+    owner = OWNERS.pop(key, None)
+    if is_gone and owner is not None:
+        owner.leave()
+
+
+HELD = Held(_left)
+"""What cannot be referred to weakly."""
+
+
 def let_go_of_some(most: int) -> None:
-    """Lets go of some of what nobody else holds any more, and of the oldest where too many are held."""
+    """Lets go of some of what nobody else holds any more, and of the oldest if too many are held."""
     if quick is not None:
         quick.OWNERS.let_go_of_some(most)
-    for _ in range(min(most, len(HELD))):
-        try:
-            key = HELD.popleft()
-        except IndexError:
-            return
-        if key not in KEPT:
-            continue
-        is_alone = getrefcount(KEPT[key]) <= REFERENCES_OF_HELD
-        if not is_alone and len(HELD) < MOST_HELD:
-            HELD.append(key)
-            continue
-        owner = OWNERS.pop(key, None)
-        if is_alone and owner is not None:
-            owner.leave()
-        KEPT.pop(key, None)
+    else:
+        HELD.let_go_at_once(most)
 
 
 CONTAINERS = frozenset((list, dict, set, bytearray, deque))
@@ -240,16 +235,15 @@ _collecting: set[int] = set()
 
 
 def collecting(phase: str, found: dict[str, int]) -> None:
-    """What nobody else holds goes when the garbage is collected, and all of it where all garbage is."""
+    """What nobody else holds goes when the garbage is collected, and all of it if all garbage is."""
     if phase == "stop":
         _collecting.discard(get_ident())
-    elif phase == "start":
+    else:
         _collecting.add(get_ident())
-        let_go_of_some(MOST_HELD if found["generation"] == OLDEST else LOOKED_THROUGH)
-
-
-OLDEST = 2
-"""The last generation of the collector of garbage."""
+    if quick is None:
+        HELD.collecting(phase, found["generation"])
+    elif phase == "start":
+        quick.OWNERS.let_go_of_some(MOST_HELD if found["generation"] == OLDEST else LOOKED_THROUGH)
 
 
 _finalized: list[int] = []
@@ -280,31 +274,20 @@ def let_go_of(one: Any, references: int) -> None:
     fields = fields_of(one)
     for name in list(fields):
         key = id(fields[name])
-        if type(fields[name]) in CONTAINERS and getrefcount(fields[name]) == REFERENCES_OF_HELD + (key in KEPT):
+        if type(fields[name]) in CONTAINERS and getrefcount(fields[name]) == REFERENCES_OF_HELD + HELD.has(key):
             _forget(key)
 
 
 def _forget(key: int) -> None:
     """Nobody else reaches the object. If it was held for its identity, it is held no more."""
-    owner = OWNERS.pop(key, None)
-    if owner is not None:
-        owner.leave()
-    KEPT.pop(key, None)
-
-
-def _references_of_held() -> int:
-    kept: dict[int, Any] = {0: []}
-    return getrefcount(kept[0])
-
-
-REFERENCES_OF_HELD = _references_of_held()
+    _left(key, True)
+    HELD.forget(key)
 
 
 def let_go() -> None:
     """Holds nothing any more, at the end of tracing."""
     OWNERS.clear()
     HELD.clear()
-    KEPT.clear()
     MADE.clear()
 
 

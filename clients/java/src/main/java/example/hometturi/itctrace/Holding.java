@@ -10,13 +10,20 @@ final class Holding {
     private final LockName name;
     private final HeldLock lock;
     private final Holding others;
+    /** The locks that the thread has acquired before the last one, and released since. */
+    private final List<String> outlived;
     /** The locks alone, once a touch needs them. */
     private Held locks;
 
     Holding(LockName name, HeldLock lock, Holding others) {
+        this(name, lock, others, List.of());
+    }
+
+    private Holding(LockName name, HeldLock lock, Holding others, List<String> outlived) {
         this.name = name;
         this.lock = lock;
         this.others = others;
+        this.outlived = outlived;
     }
 
     Holding others() {
@@ -39,11 +46,16 @@ final class Holding {
         }
     }
 
-    /** All of them, the last one last. */
-    List<HeldLock> inOrder() {
+    /**
+     * The last one, which the thread has waited for, behind those that it held meanwhile. Two locks may be a lock of readers: one of them
+     * has the other acquired, is released, and is acquired once more to release that. Readers do not wait for each other by that.
+     */
+    List<HeldLock> awaited() {
         List<HeldLock> held = new ArrayList<>();
         for (Holding one = this; one != null; one = one.others) {
-            held.add(0, one.lock);
+            if (!one.outlived.contains(lock.lock())) {
+                held.add(0, one.lock);
+            }
         }
         return held;
     }
@@ -56,12 +68,18 @@ final class Holding {
         return holding == null ? null : holding.locks;
     }
 
-    /** The same without this lock. */
-    static Holding without(Holding holding, String lock) {
+    /** The same without this lock. If it is lent for the time of a wait, no later one outlives it. */
+    static Holding without(Holding holding, String lock, boolean isLent) {
         if (holding == null || holding.isOf(lock)) {
             return holding == null ? null : holding.others;
         }
-        Holding others = without(holding.others, lock);
-        return others == holding.others ? holding : new Holding(holding.name, holding.lock, others);
+        Holding others = without(holding.others, lock, isLent);
+        return others == holding.others ? holding : holding.above(others, isLent ? List.of() : List.of(lock));
+    }
+
+    private Holding above(Holding others, List<String> released) {
+        List<String> all = new ArrayList<>(outlived);
+        all.addAll(released);
+        return new Holding(name, lock, others, all);
     }
 }

@@ -1,6 +1,7 @@
 package example.hometturi.itctrace;
 
 import example.hometturi.itctrace.Place.Gives;
+import example.hometturi.itctrace.Place.Kind;
 import example.hometturi.itctrace.Place.Noted;
 import example.hometturi.itctrace.Row.Site;
 import example.hometturi.itctrace.Task.HeldLock;
@@ -14,11 +15,8 @@ final class LockName {
     private String name;
     private Gives luck;
     private Gives guard;
-    private Gives signal;
-    /** Whether others wait for more than the lock, as for a condition. */
+    /** Whether others wait for more than the lock: for a condition, or for one that was acquired later and was held at its release. */
     private volatile boolean isGuard;
-    /** Whether it keeps nobody out: it was released while one was held that was acquired later. */
-    private volatile boolean isSignal;
     /** Whether another one was acquired while it was held. Then it is looked where each task acquires it. */
     private volatile boolean isNested;
     /** What a thread held that had acquired it alone, to be held again. */
@@ -28,9 +26,8 @@ final class LockName {
         if (name == null) {
             name = Traced.lockName(made);
             String told = "lock (" + made + ")";
-            luck = new Gives("lock" + made.line(), "release " + told, "acquire " + told, name, true);
-            guard = new Gives("lock" + made.line(), "release " + told, "acquire " + told, name, false);
-            signal = Gives.order("lock" + made.line(), "release " + told, "acquire " + told);
+            luck = new Gives("lock" + made.line(), "release " + told, "acquire " + told, name, Kind.LUCK);
+            guard = new Gives("lock" + made.line(), "release " + told, "acquire " + told, name, Kind.GUARD);
         }
         return name;
     }
@@ -46,7 +43,7 @@ final class LockName {
     }
 
     private Gives gives() {
-        return isSignal ? signal : isGuard ? guard : luck;
+        return isGuard ? guard : luck;
     }
 
     /** Others wait for more than the lock, as for a condition. Then its hand-over is meant, and no luck. */
@@ -66,7 +63,7 @@ final class LockName {
             held = own.with(this, new HeldLock(name(), at, isShared));
             alone = own.holdsAny() ? alone : held;
         }
-        own.hold(held, hasWaited && !isSignal);
+        own.hold(held, hasWaited);
     }
 
     /** Another one was acquired while it was held. */
@@ -74,11 +71,10 @@ final class LockName {
         isNested = true;
     }
 
-    /** This thread's task no longer holds it. */
-    void letGo(Traced.Own own) {
-        if (own.letGo(name()) && !isSignal) {
-            isSignal = true; // One that was acquired later stays, as in a lock made of two.
-            Traced.tellSignal(name());
+    /** This thread's task no longer holds it, or lends it for the time of a wait. */
+    void letGo(Traced.Own own, boolean isLent) {
+        if (own.letGo(name(), isLent)) {
+            isGuard = true; // One that was acquired later stays, as in a lock made of two.
         }
     }
 
@@ -89,7 +85,7 @@ final class LockName {
     Noted release(Place here, Noted last, int turns) {
         name();
         Gives gives = gives();
-        Place.Slot slot = here.slot(gives.isLuck());
+        Place.Slot slot = here.slot(gives.kind());
         if (turns < FEW_TURNS || last == null) {
             slot.noted = new Noted(gives, Traced.site(), Row.now());
         } else if (slot.noted == null || slot.noted.gives() != gives) {

@@ -6,22 +6,29 @@ import java.util.concurrent.atomic.AtomicIntegerFieldUpdater;
 
 /** A place in a task, behind all that it did until then. Somebody may come after it as long as it has marks. */
 final class Place {
-    /** What an order is called: its message, its giving and its taking. A lock is named. It is luck if nobody waits for its hand-over. */
-    record Gives(String hint, String giving, String taking, String lock, boolean isLuck) {
+    /** Whether an order is meant, or a lock's that others wait for, too, or a lock's that only luck hands over. */
+    enum Kind {
+        MEANT,
+        GUARD,
+        LUCK
+    }
+
+    /** What an order is called: its message, its giving and its taking. A lock is named. */
+    record Gives(String hint, String giving, String taking, String lock, Kind kind) {
         static Gives order(String hint, String giving, String taking) {
-            return new Gives(hint, giving, taking, null, false);
+            return new Gives(hint, giving, taking, null, Kind.MEANT);
         }
 
         /** What a row names of it. */
         Handed handed() {
-            return lock == null ? null : new Handed(lock, isLuck);
+            return lock == null ? null : new Handed(lock, kind == Kind.LUCK);
         }
     }
 
     /** What has marked a place last, and where and when. The time is 0 if nobody has asked for it. */
     record Noted(Gives gives, Site site, long time) {}
 
-    /** One of the two messages that a place may be sent as. */
+    /** One of the messages that a place may be sent as: of each kind one, so that the order without locks is told in full. */
     static final class Slot {
         volatile Noted noted;
         /** Once it is sent. */
@@ -37,6 +44,7 @@ final class Place {
 
     final Task task;
     final Slot luck = new Slot();
+    final Slot guard = new Slot();
     final Slot meant = new Slot();
     private volatile int marks;
     /** How many places of the task were sent up to this one. It is 0 as long as it is not sent. */
@@ -46,8 +54,8 @@ final class Place {
         this.task = task;
     }
 
-    Slot slot(boolean isLuck) {
-        return isLuck ? luck : meant;
+    Slot slot(Kind kind) {
+        return kind == Kind.LUCK ? luck : kind == Kind.GUARD ? guard : meant;
     }
 
     boolean hasMark() {
@@ -63,7 +71,7 @@ final class Place {
     }
 
     boolean hasUnsent() {
-        return luck.unsent() != null || meant.unsent() != null;
+        return luck.unsent() != null || guard.unsent() != null || meant.unsent() != null;
     }
 
     /** A place that somebody may come after, and what has marked it. It counts up to its end. */

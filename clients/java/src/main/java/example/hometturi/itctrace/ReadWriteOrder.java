@@ -115,8 +115,8 @@ final class ReadWriteOrder {
         }
     }
 
-    /** This thread is about to release it. */
-    void releasing(boolean isWriter) {
+    /** This thread is about to release it, or to lend it for the time of a wait. */
+    void releasing(boolean isWriter, boolean isLent) {
         if (!Traced.isOn()) {
             return;
         }
@@ -124,7 +124,7 @@ final class ReadWriteOrder {
             nameIt(); // It may have been acquired before there was a trace.
         }
         Traced.Own own = Traced.own();
-        name.letGo(own);
+        name.letGo(own, isLent);
         Mark last = byLastReader;
         boolean isThere = !isWriter && isSettled && last != null && last.place == own.task().here && name.gives(last.noted);
         if (!isThere) {

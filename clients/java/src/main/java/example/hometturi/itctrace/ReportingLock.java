@@ -15,8 +15,11 @@ abstract class ReportingLock implements Lock {
     /** This thread holds it from now on. It would have waited for it for ever, or had a way back. */
     abstract void acquired(boolean hasWaited);
 
-    /** This thread is about to release it. Reports nothing if the thread does not hold it: the lock itself says what is wrong. */
-    abstract void releasing();
+    /**
+     * This thread is about to release it, or to lend it for the time of a wait. Reports nothing if the thread does not hold it: the lock
+     * itself says what is wrong.
+     */
+    abstract void releasing(boolean isLent);
 
     /** Others wait for more than the lock, as for a condition. Then its hand-over is meant, and no luck. */
     abstract void becomeGuard();
@@ -55,7 +58,7 @@ abstract class ReportingLock implements Lock {
 
     @Override
     public final void unlock() {
-        releasing();
+        releasing(false);
         lock.unlock();
     }
 

@@ -198,11 +198,6 @@ record Row(
         return "[" + quoted(site.file) + "," + site.line + "," + quoted(site.function) + "]";
     }
 
-    /** The line that says that a lock keeps nobody out. */
-    static String signal(String lock) {
-        return "{\"signal\":" + quoted(lock) + "}\n";
-    }
-
     /** The line that says that a child process adds to the journal. */
     static String childBegun(String tag, String how) {
         return "{\"child\":" + quoted(tag) + ",\"begun\":" + quoted(how) + "}\n";

@@ -1,5 +1,6 @@
 package example.hometturi.itctrace;
 
+import example.hometturi.itctrace.Place.Kind;
 import example.hometturi.itctrace.Place.Mark;
 import java.util.ArrayList;
 import java.util.HashMap;
@@ -40,6 +41,7 @@ final class Task {
     Task joinedBy;
     private int many = MANY;
     private Map<Integer, Long> meant = new HashMap<>();
+    private Map<Integer, Long> guards = new HashMap<>();
     private Map<Integer, Long> luck = new HashMap<>();
 
     Task(String name) {
@@ -171,16 +173,22 @@ final class Task {
         open = left;
     }
 
-    /** Whether the task has come after the place. What it knows by luck counts if the place is one of luck. */
-    boolean knows(Place place, boolean isLuck) {
+    /** Whether the task has come after the place. What it knows by locks counts if the place is one of a lock. */
+    boolean knows(Place place, Kind kind) {
         long position = place.position;
+        int number = place.task.number;
         return position > 0
-                && (meant.getOrDefault(place.task.number, 0L) >= position
-                        || isLuck && luck.getOrDefault(place.task.number, 0L) >= position);
+                && (meant.getOrDefault(number, 0L) >= position
+                        || kind != Kind.MEANT && guards.getOrDefault(number, 0L) >= position
+                        || kind == Kind.LUCK && luck.getOrDefault(number, 0L) >= position);
     }
 
-    void learn(Task other, long position, boolean isLuck) {
-        Map<Integer, Long> known = isLuck ? luck : meant;
+    private Map<Integer, Long> knownBy(Kind kind) {
+        return kind == Kind.LUCK ? luck : kind == Kind.GUARD ? guards : meant;
+    }
+
+    void learn(Task other, long position, Kind kind) {
+        Map<Integer, Long> known = knownBy(kind);
         if (known.size() > MOST_KNOWN) {
             known.clear();
         }
@@ -190,14 +198,16 @@ final class Task {
     /** A new task knows what its parent does. */
     void begin(Task parent) {
         meant.putAll(parent.meant);
+        guards.putAll(parent.guards);
         luck.putAll(parent.luck);
-        learn(parent, parent.position, false);
+        learn(parent, parent.position, Kind.MEANT);
     }
 
     /** It does nothing more. */
     void forget() {
         open = new ArrayList<>(List.of(new Segment(here)));
         meant = new HashMap<>();
+        guards = new HashMap<>();
         luck = new HashMap<>();
     }
 }

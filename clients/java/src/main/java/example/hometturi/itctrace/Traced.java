@@ -2,6 +2,7 @@ package example.hometturi.itctrace;
 
 import example.hometturi.itctrace.Environment.Child;
 import example.hometturi.itctrace.Place.Gives;
+import example.hometturi.itctrace.Place.Kind;
 import example.hometturi.itctrace.Place.Mark;
 import example.hometturi.itctrace.Place.Noted;
 import example.hometturi.itctrace.Row.Site;
@@ -44,10 +45,10 @@ public final class Traced {
     static final class Own {
         private Task task;
         private Holding holding;
-        /** The last place of another task that the task has come after, to be read under a lock, and whether by luck. */
+        /** The last place of another task that the task has come after, to be read under a lock, and by what. */
         private Place taken;
 
-        private boolean isTakenByLuck;
+        private Kind takenBy;
         /** Where it has released the lock that it has acquired last, if it does nothing else but to release it again. It has a mark. */
         private Place kept;
 
@@ -73,12 +74,12 @@ public final class Traced {
         }
 
         boolean hasTaken(Mark mark) {
-            return taken == mark.place && (!isTakenByLuck || mark.noted.gives().isLuck());
+            return taken == mark.place && takenBy.compareTo(mark.noted.gives().kind()) <= 0;
         }
 
         void tookLast(Mark mark) {
             taken = mark.place;
-            isTakenByLuck = mark.noted.gives().isLuck();
+            takenBy = mark.noted.gives().kind();
         }
 
         boolean holdsAny() {
@@ -94,20 +95,24 @@ public final class Traced {
         void hold(Holding held, boolean hasWaited) {
             boolean isInner = holdsAny();
             holding = held;
-            if (isInner && hasWaited) {
+            List<HeldLock> awaited = isInner && hasWaited ? holding.awaited() : List.of();
+            if (awaited.size() > 1) {
                 dropKept();
                 holding.tellNested();
-                TRACER.acquire(task(), holding.inOrder());
+                TRACER.acquire(task(), awaited);
             }
         }
 
-        /** This thread no longer holds the lock. Gives whether it still holds one that it acquired later. */
-        boolean letGo(String lock) {
+        /**
+         * This thread no longer holds the lock, or lends it for the time of a wait. Gives whether it still holds one that it acquired
+         * later.
+         */
+        boolean letGo(String lock, boolean isLent) {
             if (holding != null && holding.isOf(lock)) {
                 holding = holding.others();
                 return false;
             }
-            Holding without = Holding.without(holding, lock);
+            Holding without = Holding.without(holding, lock, isLent);
             boolean isCrossed = without != holding;
             holding = without;
             return isCrossed;
@@ -363,7 +368,7 @@ public final class Traced {
         }
         Place here = here();
         Noted noted = new Noted(gives, site, Row.now());
-        here.slot(gives.isLuck()).noted = noted;
+        here.slot(gives.kind()).noted = noted;
         return new Mark(here, noted);
     }
 
@@ -487,13 +492,6 @@ public final class Traced {
 
     static String lockName(Site site) {
         return isOn() ? TRACER.lockName("lock (" + site + ")") : "";
-    }
-
-    /** The lock keeps nobody out, as was found out. */
-    static void tellSignal(String lock) {
-        if (isOn()) {
-            TRACER.tellSignal(lock);
-        }
     }
 
     /** Starts the task of a process, and tells the process so. Null if there is no trace. */

@@ -65,14 +65,14 @@ final class TracedLock extends ReportingLock {
     }
 
     @Override
-    void releasing() {
+    void releasing(boolean isLent) {
         if (!isOwner() || --depth > 0) {
             return;
         }
         owner = null; // Else this thread could take itself for the owner while another one is.
         if (Traced.isOn()) {
             own = own == null ? Traced.own() : own; // It may have been acquired before there was a trace.
-            name.letGo(own);
+            name.letGo(own, isLent);
             Place here = own.task().here;
             release = name.release(here, release, turns);
             if (!own.takesKept(here)) {
@@ -102,7 +102,7 @@ final class TracedLock extends ReportingLock {
         }
         int before = depth;
         depth = 1;
-        releasing();
+        releasing(true);
         return () -> {
             acquired(true);
             depth = before;

@@ -47,9 +47,9 @@ public final class TracedMonitor implements AutoCloseable {
         name.hold(own, at, false, true);
     }
 
-    private void releasing() {
+    private void releasing(boolean isLent) {
         if (Traced.isOn()) {
-            name.letGo(Traced.own());
+            name.letGo(Traced.own(), isLent);
             released = Traced.here();
             release = name.release(released, release, turns);
             released.addMark();
@@ -66,7 +66,7 @@ public final class TracedMonitor implements AutoCloseable {
         Object own = object.get();
         int before = depth;
         name.becomeGuard();
-        releasing();
+        releasing(true);
         depth = 0;
         try {
             own.wait(milliseconds);
@@ -80,7 +80,7 @@ public final class TracedMonitor implements AutoCloseable {
     @Override
     public void close() {
         if (--depth == 0) {
-            releasing();
+            releasing(false);
         }
     }
 }

@@ -43,9 +43,9 @@ final class TracedReadWriteLock implements ReadWriteLock {
         }
 
         @Override
-        void releasing() {
+        void releasing(boolean isLent) {
             if (Traced.isOn() && isHeld.getAsBoolean()) {
-                order.releasing(isWriter);
+                order.releasing(isWriter, isLent);
             }
         }
 
@@ -59,7 +59,7 @@ final class TracedReadWriteLock implements ReadWriteLock {
             if (!isHeld.getAsBoolean()) {
                 return () -> {};
             }
-            releasing();
+            releasing(true);
             return () -> acquired(true);
         }
     }

@@ -24,7 +24,7 @@ final class TracedStampedLock extends StampedLock {
 
     private void releasing(boolean isWriter, boolean isHeld) {
         if (isHeld) {
-            order.releasing(isWriter);
+            order.releasing(isWriter, false);
         }
     }
 

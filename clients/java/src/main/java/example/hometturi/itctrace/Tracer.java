@@ -2,6 +2,7 @@ package example.hometturi.itctrace;
 
 import example.hometturi.itctrace.Environment.Child;
 import example.hometturi.itctrace.Place.Gives;
+import example.hometturi.itctrace.Place.Kind;
 import example.hometturi.itctrace.Place.Mark;
 import example.hometturi.itctrace.Place.Noted;
 import example.hometturi.itctrace.Place.Slot;
@@ -283,13 +284,6 @@ final class Tracer {
         done(task);
     }
 
-    /** The lock keeps nobody out. Whoever looks for cycles of locks passes it over. */
-    synchronized void tellSignal(String lock) {
-        if (stage != Stage.OVER) {
-            unwritten.append(Row.signal(lock));
-        }
-    }
-
     /** Reports what stands behind no place that somebody may come after. */
     private void advance(Task task) {
         List<Segment> open = task.open;
@@ -332,7 +326,7 @@ final class Tracer {
         if (place.position == 0) {
             place.position = ++task.position;
         }
-        place.slot(noted.gives().isLuck()).message = message;
+        place.slot(noted.gives().kind()).message = message;
         if (hasParts) {
             gone.watch(place, message);
         }
@@ -345,7 +339,7 @@ final class Tracer {
     private void tellWhole(Task task, Segment segment) {
         tellTouches(task, segment);
         if (segment.place.hasMark()) {
-            for (Slot slot : List.of(segment.place.luck, segment.place.meant)) {
+            for (Slot slot : List.of(segment.place.luck, segment.place.guard, segment.place.meant)) {
                 if (slot.unsent() != null) {
                     send(task, segment, slot.unsent());
                 }
@@ -417,18 +411,18 @@ final class Tracer {
     /** The task comes after the place. */
     synchronized void take(Task task, Place place, Noted noted, Site site) {
         holdBack();
-        boolean isLuck = noted.gives().isLuck();
-        if (stage == Stage.OVER || place.task == task || task.knows(place, isLuck)) {
+        Kind kind = noted.gives().kind();
+        if (stage == Stage.OVER || place.task == task || task.knows(place, kind)) {
             return;
         }
-        Slot slot = place.slot(isLuck);
+        Slot slot = place.slot(kind);
         if (slot.message == null) {
             give(place, noted);
         }
         if (slot.message == null) {
             return;
         }
-        task.learn(place.task, place.position, isLuck);
+        task.learn(place.task, place.position, kind);
         leave(task);
         Row row = Row.of(task.name, "recv", site, noted.gives().taking(), noted.gives().handed());
         tell(task, "recv " + task.name + " " + slot.message, row, Refusable.RECEIVED, null);
@@ -491,7 +485,7 @@ final class Tracer {
     synchronized Mark kept(Task by, List<Mark> marks, Gives gives) {
         marks.forEach(mark -> take(by, mark.place, mark.noted, Site.NONE));
         Noted noted = new Noted(gives, Site.NONE, Row.now());
-        by.here.slot(gives.isLuck()).noted = noted;
+        by.here.slot(gives.kind()).noted = noted;
         return new Mark(by.here, noted);
     }
 
@@ -531,7 +525,7 @@ final class Tracer {
         if (child.joinedBy == null) {
             child.joinedBy = task;
             ended.remove(child);
-            task.learn(child, child.position, false);
+            task.learn(child, child.position, Kind.MEANT);
             leave(task);
             Row row = Row.of(task.name, "join", site, "join " + child.name, null);
             tell(task, "join " + task.name + " " + child.name, row, Refusable.NEVER, null);

@@ -1,0 +1,213 @@
+"""Has a handler of the program wait until no code of this package stands in between.
+
+What it raises in the middle of a hook would be taken for a fault of the hook, and what it raises while garbage is
+collected would be lost. A lock that was acquired within this package would stay acquired.
+"""
+
+from __future__ import annotations
+
+import os
+import signal
+import sys
+import threading
+import time
+from _thread import get_ident
+from types import FrameType
+from typing import Any
+
+from ..record import plain
+from ..record.noting import without_own_frame
+from ..record.own_threads import start_thread
+from ..record.raised_within import is_of_library
+
+_FOLDER = os.path.dirname(os.path.dirname(os.path.abspath(__file__)))
+_PARTS = (("model", ""), ("record", ""), ("watch", ""), ("cli", "traced_process.py"))
+WITHIN = (__file__, *(os.path.join(_FOLDER, *names) for names in _PARTS))
+"""Where a handler waits for the end of this code, and of what it calls of the library."""
+BETWEEN = (*WITHIN, *(os.path.join(_FOLDER, name, "") for name in ("marked", "sync")))
+"""Where it waits for the end of this code: what that calls of the library, the program might call as well."""
+WAITING = tuple(os.path.join(_FOLDER, *names) for names in (("marked", ""), ("sync", ""), ("record", "waiting.py")))
+"""Where this code may wait for something, too."""
+DELAY, LONGEST_DELAY = 0.001, 0.05
+NO_TIME = 200_000
+"""A thread that has computed for less than so many nanoseconds, and stands where it stood, waits there."""
+MOST_TRIES = 50
+FINALIZER = "__del__"
+_send = getattr(signal, "pthread_kill", None)
+_handler_of = signal.getsignal
+_trace_of, _set_trace = sys.gettrace, sys.settrace
+_lock = plain.RLock()
+"""Held while a signal is sent once more, so that no other handler is set meanwhile."""
+_late: dict[int, Deferred] = {}
+"""The handlers that may have to be called for what has come."""
+_looked_at: list[FrameType] = []
+"""The frame of the program in which the handlers are called as soon as it goes on."""
+
+
+def _in_child() -> None:
+    """The thread that held the lock is not in this process."""
+    global _lock
+    _lock = plain.RLock()
+
+
+if hasattr(os, "register_at_fork"):
+    os.register_at_fork(after_in_child=_in_child)
+
+
+class Deferred:
+    """Stands for a handler of a signal.
+
+    What has come waits, and a thread sends the signal again and again until the handler was called: who is about to
+    wait may miss one.
+    """
+
+    __slots__ = ("handler", "_waiting", "_process", "_stood", "_tries", "_is_sent", "_has_thread")
+
+    def __init__(self, handler: Any) -> None:
+        self.handler = handler
+        self._stood: tuple[FrameType, int, int] | None = None
+        self._forget()
+
+    def _forget(self) -> None:
+        self._waiting: list[int] = []
+        """The number of each signal that has come, and for which the handler was not called."""
+        self._process, self._tries = os.getpid(), 0
+        self._is_sent = self._has_thread = False
+
+    def __call__(self, number: int, frame: FrameType | None) -> Any:
+        if self._process != os.getpid():  # The threads of a process that was forked are not in its child.
+            self._forget()
+        is_sent, self._is_sent = self._is_sent, False
+        before, self._stood = self._stood, None
+        if frame is not None and _is_between(frame) and not _waits(before, frame) and self._defer(number, is_sent):
+            self._stood = _standing(frame)
+            _look_at(_of_program(frame))
+            return None
+        if is_sent and not self.takes_one():
+            return None
+        try:
+            return self.handler(number, _of_program(frame) or frame)
+        except BaseException as fault:
+            without_own_frame(fault)
+            raise
+
+    def _defer(self, number: int, is_sent: bool) -> bool:
+        if self._tries > MOST_TRIES:
+            return False
+        with _lock:
+            if not is_sent:
+                self._waiting.append(number)
+                _late[number] = self
+            has_thread, self._has_thread = self._has_thread, True
+        try:
+            if not has_thread:
+                start_thread(lambda: self._send_again(number))
+        except RuntimeError:  # No thread can be started.
+            self._has_thread = False
+            return is_sent or not self.takes_one()
+        return True
+
+    def _send_again(self, number: int) -> None:
+        """In a thread of its own: the signal comes once more, as the code that was interrupted may wait."""
+        delay = DELAY
+        while True:
+            plain.sleep(delay)
+            delay = min(2 * delay, LONGEST_DELAY)
+            with _lock:
+                main = threading.main_thread().ident
+                if not self._waiting or main is None or _send is None or _handler_of(number) is not self:
+                    self._has_thread = False
+                    return
+                self._tries += 1
+                self._is_sent = True
+                _send(main, number)
+
+    def takes_one(self) -> bool:
+        """Whether there is one more for which the handler is to be called now."""
+        self._stood, self._tries = None, 0
+        with _lock:
+            return self._process == os.getpid() and bool(self._waiting) and bool(self._waiting.pop())
+
+
+def _is_between(frame: FrameType) -> bool:
+    if frame.f_code.co_filename.startswith(BETWEEN):
+        return True
+    above: FrameType | None = frame
+    while above is not None and is_of_library(above.f_code.co_filename):
+        above = above.f_back
+    return above is not None and above.f_code.co_filename.startswith(WITHIN)
+
+
+def _standing(frame: FrameType) -> tuple[FrameType, int, int] | None:
+    """Where the code is that may wait for something, and how long this thread has computed."""
+    may_wait = frame.f_code.co_filename.startswith(WAITING)
+    return (frame, frame.f_lasti, time.thread_time_ns()) if may_wait else None
+
+
+def _waits(before: tuple[FrameType, int, int] | None, frame: FrameType) -> bool:
+    """Whether the code that was interrupted waits for something, so that nobody knows when it goes on."""
+    now = _standing(frame)
+    return before is not None and now is not None and before[:2] == now[:2] and now[2] - before[2] < NO_TIME
+
+
+def _of_program(frame: FrameType | None) -> FrameType | None:
+    """The frame of the program from which this package was called. None if the program has ended."""
+    found = frame
+    while found is not None and _is_between(found):
+        found = found.f_back
+    return found
+
+
+def _look_at(frame: FrameType | None) -> None:
+    """Has the handlers called when this frame goes on, or the program calls another function."""
+    if frame is not None and _trace_of() is None:
+        _looked_at[:] = [frame]
+        frame.f_trace = _goes_on
+        _set_trace(_is_called)
+
+
+def _is_called(frame: FrameType, event: str, value: Any) -> None:
+    """What is raised in a finalizer is lost, and the library has functions that are called as weak references go."""
+    file = frame.f_code.co_filename
+    if not file.startswith(_FOLDER) and not is_of_library(file) and frame.f_code.co_name != FINALIZER:
+        _goes_on(frame, event, value)
+
+
+def _goes_on(frame: FrameType, _: str, __: Any) -> None:
+    if _trace_of() is _is_called:  # Else the program has set a function of its own meanwhile.
+        _set_trace(None)
+    for one in _looked_at:
+        if one.f_trace is _goes_on:
+            one.f_trace = None
+    _looked_at.clear()
+    try:
+        catch_up(frame)
+    except BaseException as fault:
+        without_own_frame(fault)
+        raise
+
+
+def catch_up(frame: FrameType | None) -> None:
+    """The handlers are called for what has come: the program goes on, changes what signals do, or ends."""
+    if not _late or get_ident() != threading.main_thread().ident:
+        return
+    try:
+        for number, one in list(_late.items()):
+            while one.takes_one():
+                one.handler(number, frame)
+            _late.pop(number, None)
+    except BaseException as fault:
+        without_own_frame(fault)
+        raise
+
+
+def deferred(handler: Any) -> Any:
+    """What is set for a handler of the program. That of a loop does nothing, as the loop reads of signals from a file.
+    """
+    is_plain = _send is None or not callable(handler) or isinstance(handler, (Deferred, signal.Handlers))
+    return handler if is_plain or str(getattr(handler, "__module__", "")).startswith("asyncio.") else Deferred(handler)
+
+
+def shown(handler: Any) -> Any:
+    """The handler as the program has set it."""
+    return handler.handler if type(handler) is Deferred else handler

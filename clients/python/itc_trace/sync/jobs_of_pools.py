@@ -1,0 +1,70 @@
+"""The jobs that were given to a pool, for whoever waits for its end. One task stands for those that are long over."""
+
+from __future__ import annotations
+
+import weakref
+from types import CodeType
+from typing import Any
+
+from ..model.lines import MARK, RESULT, SPAWN, TAKE, TAKE_END, Line, Token, state
+from ..record.noting import current, joining
+
+KEEPER = "ended jobs"
+"""What the task is called that comes after jobs whose results nobody can take any more."""
+FEW = 64
+"""So many jobs of a pool are known by themselves, and twice as many as the last look has left."""
+
+
+class JobsOfPool:
+    """The jobs of one pool. They are added one at a time, as the pool takes them.
+
+    Once there are many, a task of its own takes the ends of those that are over. It begins right before the next job,
+    by whoever gives that one. So it knows nothing that the jobs do not know, and nobody but the end of the pool comes
+    after it.
+    """
+
+    def __init__(self, pool: Any) -> None:
+        self._pool: weakref.ref[Any] = weakref.ref(pool)
+        self._lines: list[Line] = []
+        self._keeper: Line | None = None
+        self._most = FEW
+
+    def add(self, line: Line, parent: Line) -> None:
+        """The job of this line is about to be begun by this task."""
+        if len(self._lines) >= self._most:
+            self._shorten(parent)
+            self._most = max(FEW, 2 * len(self._lines))
+        line.pool = self._pool
+        self._lines.append(line)
+
+    def _shorten(self, parent: Line) -> None:
+        note = state.note
+        over = [line for line in self._lines if _is_over(line)]
+        if note is None or not over:
+            return
+        if self._keeper is None or self._keeper.tracer is not state.tracer:
+            self._keeper = Line(state.tracer, KEEPER)
+            self._keeper.watch(self._pool())
+            note((SPAWN, parent, self._keeper, None, 0))
+        for line in over:
+            note((TAKE_END, self._keeper, line, None, 0))
+        left = set(over)
+        self._lines = [line for line in self._lines if line.tracer is state.tracer and line not in left]
+
+    def take(self, code: CodeType | None, instruction: int) -> None:
+        """From now on the current task comes after all of them, at this place."""
+        for line in list(self._lines):
+            note = state.note
+            if note is not None and line.tracer is state.tracer:
+                note((TAKE_END, joining(line), line, code, instruction))
+        note, keeper = state.note, self._keeper
+        if note is not None and keeper is not None and keeper.tracer is state.tracer:
+            token = Token(keeper, RESULT, None, 0)
+            note((MARK, token))
+            note((TAKE, current(), token, code, instruction))
+
+
+def _is_over(line: Line) -> bool:
+    """Whether the job has ended, nobody has its result, and nobody was told to come after its end."""
+    is_known = line.joined_by is None and not line.is_forgotten
+    return line.tracer is state.tracer and line.has_ended and line.is_gone and is_known

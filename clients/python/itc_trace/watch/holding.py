@@ -1,0 +1,169 @@
+"""Holds what cannot be referred to weakly, as a list or a dict, as long as somebody else does.
+
+The hooks in C see that such an object goes. Python tells nobody, so the hooks in Python hold it: otherwise another
+object might take its place in memory, and be taken for it.
+"""
+
+from __future__ import annotations
+
+import gc
+from collections import deque
+from collections.abc import Callable, Container, Iterator
+from itertools import compress
+from sys import getrefcount
+from typing import Any
+
+from .both_languages import LOOKED_THROUGH, MOST_HELD
+
+OLDEST = 2
+"""The last generation of the collector of garbage."""
+FIRST_LOOKED_AT = 1
+"""Rings are let go of by collections of this generation and of older ones."""
+HAS_COLLECTION = 1 << 14
+"""The flag of a type whose objects the collector follows."""
+MOST_OLD = 50_000
+"""If there are more objects than that in the last generation, only its own collections let go of rings: each one looks
+through all of them.
+"""
+DEEPEST = 8
+LAST_LOOKED_AT = 24
+
+
+def _references_of_held() -> int:
+    kept: dict[int, Any] = {0: []}
+    return getrefcount(kept[0])
+
+
+REFERENCES_OF_HELD = _references_of_held()
+REFERENCES_OF_ONE = REFERENCES_OF_HELD + 1
+"""Of what a variable refers to, too."""
+
+
+class Held:
+    """The objects that are held, by their identities.
+
+    `left` is called for each that is held no more, and is told whether nobody else holds it.
+    """
+
+    def __init__(self, left: Callable[[int, bool], None]) -> None:
+        self._left = left
+        self._objects: dict[int, Any] = {}
+        self._order: deque[int] = deque()
+        self._latest: list[int] = []
+        """Those that were held last, the last one at the end. If threads change it at once, it may lack some."""
+        self._released: dict[int, type] = {}
+        """What the collector of garbage decides about just now, and of which type it is."""
+        self._has_many_old = False
+
+    def __len__(self) -> int:
+        return len(self._order)
+
+    def hold(self, key: int, one: Any) -> None:
+        self._objects[key] = one
+        self._order.append(key)
+        if len(self._latest) > 2 * len(self._objects) + LAST_LOOKED_AT:
+            self._latest = list(filter(self._is_known, self._latest))
+        self._latest.append(key)
+
+    def has(self, key: int) -> bool:
+        return key in self._objects
+
+    def forget(self, key: int) -> None:
+        """It is held no more, whoever else holds it."""
+        self._released.pop(key, None)
+        self._objects.pop(key, None)
+
+    def let_go_of_some(self, most: int) -> bool:
+        """Lets go of some of what nobody else holds any more, and of the oldest if too many are held.
+
+        Says whether anything went: it may have held more of them.
+        """
+        has_gone = False
+        for _ in range(min(most, len(self._order))):
+            try:
+                key = self._order.popleft()
+            except IndexError:  # Another thread was faster.
+                break
+            if key in self._released:
+                self._order.append(key)
+                continue
+            one = self._objects.get(key)
+            if one is None:
+                continue
+            is_alone = getrefcount(one) <= REFERENCES_OF_ONE
+            if not is_alone and len(self._order) < MOST_HELD:
+                self._order.append(key)
+            elif self._objects.pop(key, None) is not None:
+                has_gone = has_gone or is_alone
+                self._left(key, is_alone)
+        return has_gone
+
+    def let_go_at_once(self, most: int) -> None:
+        """The same until nothing goes. What is held last is looked at first: it is most often what a function made."""
+        while self._let_go_of_last() or self.let_go_of_some(most):
+            pass
+
+    def _let_go_of_last(self) -> bool:
+        has_gone = has_gaps = False
+        for key in self._latest[-LAST_LOOKED_AT:][::-1]:
+            one = self._objects.get(key)
+            if one is None:
+                has_gaps = has_gaps or key not in self._released
+            elif getrefcount(one) <= REFERENCES_OF_ONE and self._objects.pop(key, None) is not None:
+                has_gone = has_gaps = True
+                self._left(key, True)
+        if has_gaps:
+            self._latest[-LAST_LOOKED_AT:] = filter(self._is_known, self._latest[-LAST_LOOKED_AT:])
+        return has_gone
+
+    def _is_known(self, key: int) -> bool:
+        return key in self._objects or key in self._released
+
+    def collecting(self, phase: str, generation: int) -> None:
+        """Has a collection of garbage find what only rings of objects hold, as it would if nothing were held here."""
+        if phase == "start":
+            self.let_go_of_some(MOST_HELD if generation == OLDEST else LOOKED_THROUGH)
+            if self._objects and (generation == OLDEST or generation >= FIRST_LOOKED_AT and not self._has_many_old):
+                self._release(generation)
+        elif self._released:
+            self._take_back(min(generation + 1, OLDEST))
+
+    def _release(self, generation: int) -> None:
+        for number in range(generation + 1):
+            for one in _of_keys(gc.get_objects(number), self._objects):
+                if _stays_tracked(one, DEEPEST) and self._objects.get(id(one)) is one:
+                    self._released[id(one)] = type(one)
+                    self._objects.pop(id(one), None)
+
+    def _take_back(self, generation: int) -> None:
+        """What is still there has become older by the collection. What is new has not, wherever it lies in memory."""
+        old = gc.get_objects(generation)
+        self._has_many_old = len(old) > MOST_OLD
+        for one in _of_keys(old, self._released):
+            kind = self._released.pop(id(one), None)
+            if kind is type(one):
+                self._objects[id(one)] = one
+            elif kind is not None:
+                self._left(id(one), True)
+        gone, self._released = self._released, {}
+        for key in gone:
+            self._left(key, True)
+
+    def clear(self) -> None:
+        self._order.clear()
+        self._latest.clear()
+        self._objects.clear()
+
+
+def _of_keys(objects: list[Any], keys: Container[int]) -> Iterator[Any]:
+    """Those that have one of these identities."""
+    return compress(objects, map(keys.__contains__, map(id, objects)))
+
+
+def _stays_tracked(one: Any, deepest: int) -> bool:
+    """Whether the collector goes on following the object: it leaves dicts and tuples alone that have nothing to follow.
+    """
+    kind = type(one)
+    if kind is not dict and kind is not tuple:
+        return kind is not type and bool(kind.__flags__ & HAS_COLLECTION)
+    return deepest > 0 and any([_stays_tracked(part, deepest - 1) for part in gc.get_referents(one)])
