@@ -179,7 +179,7 @@ class Line:
     def _gone(self, _: object) -> None:
         self.reference = None  # If it goes as garbage in a circle, the reference keeps this method, and so the line.
         note = state.note
-        if note is not None:
+        if note is not None and self.tracer is state.tracer:  # It may be of a session that is over.
             note((GONE, self))
 
 

@@ -301,7 +301,7 @@ def _item_run(original: Any) -> Any:
             del self
             enter(before)
             note = state.note
-            if note is not None:
+            if note is not None and line.tracer is state.tracer:
                 note((FINISH, line, False, False))
 
     return run
