@@ -19,6 +19,9 @@ const MOST_LEVELS: usize = 2048;
 /// The bytes that a walk over the deepest trees takes for each of their levels.
 const BYTES_OF_LEVEL: usize = 260;
 
+/// The bytes beside those of the levels, for the calls around a walk.
+const BYTES_AROUND: usize = 16384;
+
 const PAGE: usize = 4096;
 
 impl Stack {
@@ -43,12 +46,12 @@ impl Stack {
         self.grow(alloc, levels)
     }
 
-    /// Makes the stack long enough for trees of a quarter more levels, or for the deepest ones.
+    /// Makes the stack long enough for trees of an eighth more levels, or for the deepest ones.
     #[inline(never)]
     fn grow(&mut self, alloc: Global, levels: usize) -> Result<(), AllocError> {
         let levels = levels.min(MOST_LEVELS);
-        let levels = (levels + levels / 4).min(MOST_LEVELS);
-        let bytes = levels * BYTES_OF_LEVEL;
+        let levels = (levels + levels / 8).min(MOST_LEVELS);
+        let bytes = levels * BYTES_OF_LEVEL + BYTES_AROUND;
         let block: Vec<u8> = Vec::with_capacity(alloc, bytes)?;
         drop(block);
         // What it gives says nothing.

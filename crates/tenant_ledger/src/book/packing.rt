@@ -13,7 +13,7 @@ const LEAST: u64 = 256;
 const FEW_EVENTS: u64 = 512;
 
 /// How many nodes more it keeps loose for each further event, up to as many events as the usual limit allows.
-const NODES: u64 = 4;
+const NODES: u64 = 1;
 
 /// As many events as the usual limit allows.
 const USUAL_EVENTS: u64 = 4096;
