@@ -227,7 +227,7 @@ def _messages_of_nobody(self: Divider, border: Border, task: str, sent: Any, las
 
 def _not_moved_on(self: AcrossParts, at: Any) -> Any:
     """As if the positions of one part were those of the next."""
-    return ((one, one.known) for things in self._kept.values() for one in things)
+    return ((group, known) for known, group in self._groups.items())
 
 
 def _nothing_kept(self: AcrossParts, touches: Any, trace: Any, border: Border) -> None:
@@ -238,15 +238,19 @@ def _dropped_if_one_knows(self: AcrossParts, touches: Any, trace: Any, border: B
     """As if a touch came before all that may happen if one live task knows it."""
     _move_on(self, touches, trace, border)
     live = across_parts._union(1 << event for event in border.tasks)
-    self._kept = {thing: left for thing, kept in self._kept.items() if (left := [one for one in kept if not one.known & live])}
+    self._groups = {known: group for known, group in self._groups.items() if not known & live}
 
 
 def _kept_as_one(self: AcrossParts, touches: Any, trace: Any, border: Border) -> None:
     """As if what one position knows of a line were known of all touches of it."""
     _move_on(self, touches, trace, border)
-    for kept in self._kept.values():
-        for one in kept:
-            one.known = across_parts._union(other.known for other in kept)
+    things = {thing for group in self._groups.values() for thing in group}
+    for thing in things:
+        alike = {known: group.pop(thing) for known, group in list(self._groups.items()) if thing in group}
+        group = self._groups.setdefault(across_parts._union(alike), {})
+        for one in alike.values():
+            group = across_parts._merged(group, {thing: one})
+        self._groups[across_parts._union(alike)] = group
 
 
 def _ended_at_their_spawn(self: Divider, border: Border, task: str, sent: Any, last: int | None, ended: int | None) -> None:
