@@ -71,8 +71,8 @@ from .rewrite import FINALIZER, OF_OBJECT, ON, PREFIX
 from .seen import NEVER
 from .templates import Path, field_paths
 from .things import (
-    HELD, MADE, NO_MODULE, OWNERS, Made, Owner, let_go_of, let_go_of_some, made_by, made_here, maker_now, mark_of,
-    measure_finalizers, owner_of, variable_of,
+    HELD, MADE, NO_MODULE, OWNERS, TIMES_LET_GO, Made, Owner, let_go_of, let_go_of_some, made_by, made_here, maker_now,
+    mark_of, measure_finalizers, owner_of, variable_of,
 )
 
 INDEXED: tuple[Any, ...] = (list, bytearray, array, deque)
@@ -873,10 +873,11 @@ def _take_apart(paths: tuple[tuple[int, ...], ...], site: int, element: Any) -> 
 class _Step:
     """Goes on for ever, and looks at a container before each step of a loop through it. The last look finds the end."""
 
-    __slots__ = ("_owner", "_site", "_late")
+    __slots__ = ("_owner", "_site", "_late", "_inner", "_times_let_go")
 
-    def __init__(self, owner: Owner, site: int, late: Any) -> None:
-        self._owner, self._site, self._late = owner, site, late
+    def __init__(self, owner: Owner, site: int, late: Any, inner: Iterator[Any]) -> None:
+        self._owner, self._site, self._late, self._inner = owner, site, late, inner
+        self._times_let_go = TIMES_LET_GO[0]
 
     def __iter__(self) -> _Step:
         return self
@@ -889,10 +890,17 @@ class _Step:
         seen = self._owner.seen
         if self._site not in seen or seen.stretch is not stretch_of(get_ident()):
             try:
-                saw(self._owner, self._site, self._late, True)
-                _went_on(self._owner, self._site)
+                if self._times_let_go != TIMES_LET_GO[0]:
+                    _later_step(self._inner, self._site, getrefcount(self._inner) > REFERENCES_OF_STEPS)
+                else:
+                    saw(self._owner, self._site, self._late, True)
+                    _went_on(self._owner, self._site)
             except Exception as fault:
                 lost(fault)
+
+
+REFERENCES_OF_STEPS = 3
+"""How many references there are of an iterator that a loop alone goes through: two of the steps, one of the look."""
 
 
 OWN_STEPS.update(map(id, [_Step] if quick is None else [_Step, quick.Step]))
@@ -904,7 +912,16 @@ def _steps(one: Iterable[Any], owner: Owner, site: int, kind: str) -> Iterator[A
     saw(owner, site, late, True)
     if quick is not None:
         return quick.Step(owner, site, late, one)  # type: ignore[no-any-return]
-    return map(itemgetter(1), zip(_Step(owner, site, late), one))
+    inner = iter(one)
+    return map(itemgetter(1), zip(_Step(owner, site, late, inner), inner))
+
+
+def _later_step(steps: Any, site: int, is_reached: bool) -> None:
+    """A loop goes on, and tracing has ended since it began: what it knows of the container is of then."""
+    if state.note is not None or state.witness is not None:
+        _touch_iterator(steps, site, is_reached)
+        for container, _ in behind(steps).containers:
+            _went_on(owner_of(container, ACCESSES[site].text), site)
 
 
 def _went_on(owner: Owner, site: int) -> None:
@@ -1471,7 +1488,7 @@ def _set_up() -> None:
         steps=lambda one, site, is_own: _stepping(one, site, NOBODY if is_own else ANYBODY),
         keyed=lambda one, key, site: _touch_keyed(one, key, site, ANYBODY), variable=lambda site: _touch_variable(site),
         cell=lambda one, site: _touch_cell(one, site), went_on=lambda owner, site: _went_on(owner, site),
-        iter=iter, called=called, partial=functools.partial,
+        later_step=_later_step, iter=iter, called=called, partial=functools.partial,
     )
 
 

@@ -47,7 +47,7 @@ static struct {
     PyObject *fields_of;      /* Whose fields some dictionaries have. */
     PyObject *followed;       /* Types whose objects need not be held: they may be seen to go. */
     /* What is done for the rest. */
-    PyObject *field, *whole, *nested, *method, *steps, *keyed, *variable, *cell, *went_on;
+    PyObject *field, *whole, *nested, *method, *steps, *keyed, *variable, *cell, *went_on, *later_step;
     long long begun_more;     /* How many references more the beginning of a constructor counts. */
 } given;
 
@@ -559,12 +559,16 @@ static PyObject *owners_values(PyObject *self, PyObject *ignored)
     return found;
 }
 
+/* How often all owners were let go of, as tracing ended. */
+static long long times_let_go = 0;
+
 static PyObject *owners_clear(PyObject *self, PyObject *ignored)
 {
     size_t size = table.size;
     void **ones = table.ones;
     Owner **owners = table.owners;
     memset(&table, 0, sizeof table);
+    times_let_go++;
     for (size_t slot = 0; slot < size; slot++)
         if (ones[slot] != NULL) {
             Py_CLEAR(owners[slot]->reference);
@@ -1336,14 +1340,21 @@ typedef struct {
     PyObject_HEAD
     Owner *owner;
     PyObject *site, *late, *inner;
+    long long times_let_go;
 } Step;
 
 /* The first step of another stretch: a loop goes on, which began in an earlier one. */
 static int step_on(Step *self)
 {
-    if (saw(self->owner, self->site, self->late, 1) != 0)
-        return -1;
-    PyObject *done = PyObject_CallFunctionObjArgs(given.went_on, (PyObject *)self->owner, self->site, NULL);
+    PyObject *done;
+    if (self->times_let_go != times_let_go) {  /* Tracing ended since: the owner is of then. */
+        PyObject *is_reached = Py_REFCNT(self->inner) > 1 ? Py_True : Py_False;
+        done = PyObject_CallFunctionObjArgs(given.later_step, self->inner, self->site, is_reached, NULL);
+    } else {
+        if (saw(self->owner, self->site, self->late, 1) != 0)
+            return -1;
+        done = PyObject_CallFunctionObjArgs(given.went_on, (PyObject *)self->owner, self->site, NULL);
+    }
     Py_XDECREF(done);
     return done == NULL ? -1 : 0;
 }
@@ -1385,6 +1396,7 @@ static PyObject *step_new(PyTypeObject *type, PyObject *words, PyObject *named)
     step->owner = (Owner *)Py_NewRef(owner);
     step->site = Py_NewRef(site);
     step->late = Py_NewRef(late);
+    step->times_let_go = times_let_go;
     return (PyObject *)step;
 }
 
@@ -1576,14 +1588,15 @@ static PyObject *setup(PyObject *self, PyObject *words, PyObject *named)
     static char *names[] = {
         "stretches", "state", "made", "begun", "begun_more", "never", "owner_type", "made_type", "maker",
         "begin_stretch", "share", "shorten", "saw", "note_shared", "what_of", "lost", "fields_of", "followed", "field",
-        "whole", "nested", "method", "steps", "keyed", "variable", "cell", "went_on", "iter", "called", "partial", NULL,
+        "whole", "nested", "method", "steps", "keyed", "variable", "cell", "went_on", "later_step", "iter", "called",
+        "partial", NULL,
     };
     PyObject **objects[] = {
         &given.stretches, &given.state, &given.made, &given.begun, NULL, &given.never, &given.owner_type,
         &given.made_type, &given.maker, &given.begin_stretch, &given.share, &given.shorten, &given.saw,
         &given.note_shared, &given.what_of, &given.lost, &given.fields_of, &given.followed, &given.field, &given.whole,
         &given.nested, &given.method, &given.steps, &given.keyed, &given.variable, &given.cell, &given.went_on,
-        &given.iter, &given.called, &given.partial,
+        &given.later_step, &given.iter, &given.called, &given.partial,
     };
     for (size_t place = 0; names[place] != NULL; place++) {
         PyObject *found = named == NULL ? NULL : PyDict_GetItemString(named, names[place]);

@@ -179,6 +179,8 @@ class Owner(Fields):
 OWNERS: dict[int, Owner] = {} if quick is None else quick.OWNERS
 """Of each object that is known, by its identity."""
 MADE: dict[int, Made] = {}
+TIMES_LET_GO = [0]
+"""How often all owners were let go of, as tracing ended."""
 
 _numbers = iter(range(1, 1 << 62))
 _bases = iter(range(FIRST_NUMBER_OF_OWNERS, 1 << 62, FIRST_NUMBER_OF_OWNERS))
@@ -286,6 +288,7 @@ def _forget(key: int) -> None:
 
 def let_go() -> None:
     """Holds nothing any more, at the end of tracing."""
+    TIMES_LET_GO[0] += 1
     OWNERS.clear()
     HELD.clear()
     MADE.clear()
