@@ -28,7 +28,7 @@ from .following import ChildProcess
 from .journal import Places, ProcessTold, TouchTexts, border_row, text_of
 from .journal_file import JournalFile
 from .names import ANY_PROCESS, Names, tag_of
-from .noting import enter
+from .noting import LOST, enter
 from .order_of_tasks import OrderOfTasks
 from .own_threads import IDENTS, start_thread
 from .reports import Outstanding, Reports
@@ -173,6 +173,7 @@ class Tracer:
         start_thread(self._report_all)
         start_thread(self._read_all)
         STRETCHES.clear()
+        LOST.clear()
         await_nobody()
         enter(self.main)
         if threading.active_count() > 1:
