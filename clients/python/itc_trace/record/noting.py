@@ -16,7 +16,7 @@ from typing import Any
 from ..model.conflicts import MAKING, READ, WRITE
 from ..model.frames import frame_at, place, place_of
 from ..model.lines import MARK, RESULT, SPAWN, TAKE, TOUCH, Line, Note, Section, Stretch, Token, Touched, What, state
-from ..model.loop_runs import begun_here, number_of_loop
+from ..model.loop_runs import number_of_loop, take_step
 from ..model.verdict import Cause, Unseen
 from ..model.stretches import STRETCHES, TURNS, Across, leave
 from .raised_within import is_of_program
@@ -32,6 +32,8 @@ def _task_getter() -> Callable[[Any], Any]:
 
 
 _task_of = _task_getter()
+_NO_LINE: Any = object()
+"""What stands for the line of a task of the library's own class, which takes none."""
 
 
 def are_replaced() -> bool:
@@ -95,9 +97,25 @@ def line_of_now() -> Line:
                 return line
             line = _adopt_task(task)
             if line is not None:
+                take_step(line)
                 return line
     own: Line | None = getattr(local, "line", None)
     return own if own is not None and own.tracer is state.tracer else _adopt_thread()
+
+
+def who() -> int:
+    """What tells whatever runs now from all else that runs, also in a later session."""
+    loop = _get_running_loop()
+    task = None if loop is None else _task_of(loop)
+    return get_ident() if task is None else id(task)
+
+
+def line_of_task(task: Any) -> Line | None:
+    """The line of a task of asyncio, which gets one if it was made before tracing began. None where it takes none."""
+    line: Line | None = getattr(task, "_itc_line", _NO_LINE)
+    if line is _NO_LINE:
+        return None
+    return line if state.note is None or line is not None and line.tracer is state.tracer else _adopt_task(task)
 
 
 def _adopt_task(task: Any) -> Line | None:
@@ -111,8 +129,10 @@ def _adopt_task(task: Any) -> Line | None:
         task._itc_line = line
     except Exception:
         return None
+    in_group = getattr(task, "_itc_in_group", None)
+    if in_group is not None:
+        in_group[0] = line
     _begin(line)
-    begun_here(line)
     return line
 
 

@@ -28,14 +28,14 @@ from ..model.lines import (
 )
 from ..model.lock_identity import LockIdentity
 from ..model.loop_runs import BEGINS, RUNS, LoopRun, begun_here, take_step
-from ..record.noting import current, joining, mark, starting, take, without_own_frame
+from ..record.noting import current, joining, line_of_task, mark, starting, take, without_own_frame
 from ..model.frames import frame_at, is_internal, place
 from ..model.stretches import STRETCHES, TURNS, leave
 from .base import Patches, like, name_as, named_like
 from .futures import is_settled_by_source, take_any
 from .left_behind import Outcome, begun, stays, taken
 from .locks import OnePermit, gave, is_of_condition, took
-from .queues import has_few_places, items_of, note_done, room_of, take_done
+from .queues import has_few_places, is_followed, items_of, note_done, room_of, take_done
 from .waiters import Waiters
 
 _PlainTask: Any = tasks.Task
@@ -204,8 +204,9 @@ class TracedTask(_PlainTask, metaclass=_LikePlain):  # type: ignore[misc]
 
     def cancel(self, msg: Any = None) -> bool:
         is_cancelled = bool(super().cancel(msg))
-        if is_cancelled and self._itc_line is not None:
-            _tell_cancelled(self._itc_line)
+        line = line_of_task(self) if is_cancelled else None
+        if line is not None:
+            _tell_cancelled(line)
         return is_cancelled
 
     __await__ = _awaiting(_PlainTask)
@@ -435,7 +436,8 @@ def _group_create_task(original: Any) -> Any:
         task = make(self, coro, **named)
         line = getattr(task, "_itc_line", None)
         if line is not None:
-            self.__dict__.setdefault("_itc_lines", []).append((line, getattr(task, "_itc_called", ())))
+            task._itc_in_group = [line]  # It has another one if tracing ends and begins meanwhile.
+            self.__dict__.setdefault("_itc_lines", []).append((task._itc_in_group, getattr(task, "_itc_called", ())))
         return task
 
     return create_task
@@ -451,7 +453,7 @@ def _group_leave(original: Any) -> Any:
         finally:
             note = state.note
             if note is not None:
-                for line, calls in self.__dict__.pop("_itc_lines", ()):
+                for (line,), calls in self.__dict__.pop("_itc_lines", ()):
                     if line.tracer is state.tracer:
                         note((TAKE_END, joining(line), line, *place(frame_at(1))))
                     for token in calls:
@@ -481,6 +483,7 @@ def _run_handle(original: Any) -> Any:
         thread = get_ident()
         STRETCHES.pop(thread, None)
         TURNS[thread] = next(_turns)
+        _be_in_run(thread)
         take_step(_line_of_step(self._callback))
         try:
             return original(self)
@@ -491,12 +494,21 @@ def _run_handle(original: Any) -> Any:
     return _run
 
 
+def _be_in_run(thread: int) -> None:
+    """If tracing has begun within the run of the thread's loop, the run begins here."""
+    run = RUNS.get(thread)
+    if run is None or run.token.line.tracer is not state.tracer:
+        token = mark(BEGINS)
+        if token is not None:
+            RUNS[thread] = LoopRun(token)
+
+
 def _line_of_step(callback: Any) -> Line | None:
     """The line of the task that goes on by this callback, if it is one of asyncio itself."""
     kind = type(callback)
     if kind is types.BuiltinMethodType or kind is types.MethodType or _name_of(kind) in _STEPS:
         task = callback.__self__
-        return getattr(task, "_itc_line", None) if issubclass(type(task), _PlainTask) else None
+        return line_of_task(task) if issubclass(type(task), _PlainTask) else None
     return None
 
 
@@ -505,15 +517,16 @@ def _run_forever(original: Any) -> Any:
     and they after what it does in between."""
 
     def run_forever(self: Any) -> Any:
-        token = mark(BEGINS) if state.note is not None and _running_loop() is None else None
-        if token is None:
+        if _running_loop() is not None:
             return original(self)
-        run = RUNS[get_ident()] = LoopRun(token)
+        token = mark(BEGINS)
+        if token is not None:
+            RUNS[get_ident()] = LoopRun(token)
         try:
             return original(self)
         finally:
-            RUNS.pop(get_ident(), None)
-            if state.note is not None:
+            run = RUNS.pop(get_ident(), None)
+            if run is not None and state.note is not None:
                 run.leave(current(), place(frame_at(1)))
 
     return run_forever
@@ -837,13 +850,15 @@ def _semaphore_acquire(original: Any) -> Any:
 def _semaphore_release(original: Any) -> Any:
     def release(self: Any) -> None:
         permits, permit = self.__dict__.get("_itc_permits"), self.__dict__.get("_itc_permit")
-        if permit is not None and not permit.is_held:
+        if permit is not None and permit.becomes_more(self._value):
             permits = self._itc_permits = permit.as_permits(self._value)
             del self._itc_permit
         if permits is not None:
             permits.append(mark(SEMAPHORE))
         elif permit is not None and state.note is not None:
             gave(permit)
+        elif permit is not None:
+            permit.is_released()
         original(self)
 
     return release
@@ -904,7 +919,7 @@ def _put_queues(patches: Patches) -> None:
 
 def _put_nowait(original: Any) -> Any:
     def put_nowait(self: Any, item: Any) -> Any:
-        if state.note is None:
+        if not is_followed(self):
             return original(self, item)
         if has_few_places(self) and not self.full():
             room_of(self, self.qsize()).use()
@@ -921,7 +936,7 @@ def _put_nowait(original: Any) -> Any:
 
 def _get_nowait(original: Any) -> Any:
     def get_nowait(self: Any) -> Any:
-        room = room_of(self, self.qsize()) if state.note is not None and has_few_places(self) else None
+        room = room_of(self, self.qsize()) if is_followed(self) and has_few_places(self) else None
         item = original(self)
         items = self.__dict__.get("_itc_items")
         if items is not None:

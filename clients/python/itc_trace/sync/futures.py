@@ -9,6 +9,7 @@ from __future__ import annotations
 import concurrent.futures
 import concurrent.futures._base as base
 import concurrent.futures.thread as pools
+import weakref
 from collections.abc import Callable, Iterator
 from typing import Any
 
@@ -248,8 +249,11 @@ def _item_begin(original: Any) -> Any:
         original(self, future, *words)
         self._itc_handed = getattr(local, "handed", None)
         submitting = getattr(local, "submitting", None)
-        if state.note is not None and submitting is not None:
-            _begin_job(self, future, *submitting)
+        if submitting is not None:
+            pool, name = submitting
+            self._itc_given = None if pool._max_workers == 1 else (weakref.ref(pool), name)
+            if state.note is not None:
+                _begin_job(self, future, pool, name)
 
     return __init__
 
@@ -269,19 +273,47 @@ def _begin_job(item: Any, future: Any, pool: Any, name: str) -> None:
     future._itc_line = item._itc_line = line
     item._itc_is_after_worker = getattr(pool, "_initializer", None) is not None
     starter = starting(line)
-    jobs = pool.__dict__.get("_itc_jobs") or pool.__dict__.setdefault("_itc_jobs", JobsOfPool(pool))
-    jobs.add(line, starter)
+    _jobs_of(pool).add(line, starter)
     await_at_exit(line)
     note((SPAWN, starter, line, *place(frame_at(4))))
 
 
+def _line_of_item(item: Any) -> Line | None:
+    """The task that the job is. One that was given before tracing began is a task of its own, too."""
+    line: Line | None = item.__dict__.get("_itc_line")
+    note, tracer, given = state.note, state.tracer, item.__dict__.get("_itc_given")
+    pool = None if given is None else given[0]()
+    if line is not None and line.tracer is tracer:
+        return line
+    if note is None or tracer is None or pool is None or item.__dict__.get("_itc_submitted") is not None:
+        return None
+    number = tracer.next_job()
+    if number > tracer.most_lines:
+        item._itc_job = number
+        return None
+    line = Line(tracer, given[1] + "#")
+    line.watch(item.future)
+    item.future._itc_line = item._itc_line = line
+    item._itc_is_after_worker = False
+    _jobs_of(pool).add(line, tracer.parent_of_strangers)
+    await_at_exit(line)
+    note((SPAWN, tracer.parent_of_strangers, line, None, 0))
+    return line
+
+
+def _jobs_of(pool: Any) -> JobsOfPool:
+    jobs: JobsOfPool = pool.__dict__.get("_itc_jobs") or pool.__dict__.setdefault("_itc_jobs", JobsOfPool(pool))
+    return jobs
+
+
 def _item_run(original: Any) -> Any:
     def run(self: Any, *words: Any) -> Any:
-        line = self.__dict__.get("_itc_line")
-        if line is None or line.tracer is not state.tracer:
+        line = _line_of_item(self)
+        if line is None:
             submitted = self.__dict__.get("_itc_submitted")
-            if submitted is not None:
-                worker, number = current(), self.__dict__.get("_itc_job", 0)
+            number = self.__dict__.get("_itc_job", 0)
+            if submitted is not None or number:
+                worker = current()
                 worker.job = LateJob(worker, number) if number else None
             take(submitted)
             _tell_called(self)
@@ -299,8 +331,9 @@ def _item_run(original: Any) -> Any:
             return original(self, *words)
         finally:
             del self
-            enter(before)
             note = state.note
+            if local.line is line:  # Else another session has begun, and the thread has a line there.
+                enter(before)
             if note is not None and line.tracer is state.tracer:
                 note((FINISH, line, False, False))
 

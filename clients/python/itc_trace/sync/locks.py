@@ -244,6 +244,14 @@ class OnePermit:
     def is_held(self) -> bool:
         return self._itc_holder is not None
 
+    def becomes_more(self, free: int) -> bool:
+        """Whether a release makes it more than one permit. Who acquired it while nothing was traced is not known."""
+        return not self.is_held and (state.note is not None or free > 0)
+
+    def is_released(self) -> None:
+        """While nothing is traced."""
+        self._itc_holder = None
+
 
 def is_of_condition(lock: Any, maker: FrameType | None = None) -> None:
     """The lock, where it is a traced one, guards what those look at who wait at a condition.
@@ -292,6 +300,8 @@ def gave(lock: Any) -> None:
         _remove(holder, identity)
         _become_signal(identity)
     what: LockIdentity | Signal = identity.signal or identity
+    if holder is None or holder.tracer is not state.tracer:
+        what = Signal(identity)  # It was acquired before tracing began, and what it has enclosed since is not known.
     if identity.is_crossed:
         identity.outlived = ()
     lock._itc_token = token = Token(line, what, code, instruction)

@@ -8,6 +8,7 @@ import math
 import queue
 import threading
 from collections import deque
+from collections.abc import Iterable
 from types import FunctionType
 from typing import Any
 
@@ -118,9 +119,12 @@ class Items:
     A thing that lies there several times has several.
     """
 
-    def __init__(self, is_stack: bool) -> None:
+    def __init__(self, is_stack: bool, there: Iterable[object]) -> None:
+        """What lies there already was put while nothing was traced."""
         self._tokens: dict[int, Token | deque[Token | None] | None] = {}
         self._is_stack = is_stack
+        for item in there:
+            self.add(item, None)
 
     def add(self, item: object, token: Token | None) -> None:
         number = id(item)
@@ -151,8 +155,19 @@ class Items:
 def items_of(one: Any) -> Items:
     items: Items | None = one.__dict__.get("_itc_items")
     if items is None:
-        items = one.__dict__.setdefault("_itc_items", Items(isinstance(one, _STACKS)))
+        items = one.__dict__.setdefault("_itc_items", Items(isinstance(one, _STACKS), _lying_in(one)))
     return items
+
+
+def _lying_in(one: Any) -> list[object]:
+    """What lies in a queue that keeps it as the library does. Whoever asks has the queue."""
+    kept = one.__dict__.get("queue", one.__dict__.get("_queue"))
+    return list(kept) if type(kept) in (deque, list) else []
+
+
+def is_followed(one: Any) -> bool:
+    """Whether what goes through the queue is noted, or was: what comes and goes meanwhile is no item of then."""
+    return state.note is not None or "_itc_items" in one.__dict__ or "_itc_room" in one.__dict__
 
 
 class Room:
@@ -189,7 +204,7 @@ def _put_item(one: Any, item: Any, put: Any) -> None:
     if 0 < one.maxsize <= MOST_PLACES:
         room_of(one, one._qsize()).use()
     waits = one.__dict__.get("_itc_waits")
-    if waits is not None:
+    if waits is not None and state.note is not None:
         waits.put(frame_at(2))
     items = one.__dict__.get("_itc_items") or items_of(one)
     items.add(item, mark(QUEUE, 3))
@@ -215,7 +230,7 @@ def _get_item(one: Any, get: Any) -> Any:
 
 def _put_inside(original: Any) -> Any:
     def _put(self: Any, item: Any) -> None:
-        if state.note is None or type(self)._put not in _own_steps:
+        if type(self)._put not in _own_steps or not is_followed(self):
             original(self, item)
         else:
             _put_item(self, item, original)
@@ -225,7 +240,7 @@ def _put_inside(original: Any) -> Any:
 
 def _get_inside(original: Any) -> Any:
     def _get(self: Any) -> Any:
-        if state.note is None or type(self)._get not in _own_steps:
+        if type(self)._get not in _own_steps or not is_followed(self):
             return original(self)
         return _get_item(self, original)
 
@@ -263,7 +278,7 @@ def _get_by_program(one: Any) -> Any:
 
 def _put(original: Any) -> Any:
     def put(self: Any, item: Any, block: bool = True, timeout: float | None = None) -> Any:
-        is_own = state.note is None or type(self)._put in _own_steps
+        is_own = type(self)._put in _own_steps or not is_followed(self)
         return original(self if is_own else _Seen(self), item, block, timeout)
 
     return put
@@ -275,7 +290,7 @@ def _get(original: Any) -> Any:
             waits = self.__dict__.get("_itc_waits")
             if waits is not None:
                 waits.wait(frame_at(1))
-        is_own = state.note is None or type(self)._get in _own_steps
+        is_own = type(self)._get in _own_steps or not is_followed(self)
         return original(self if is_own else _Seen(self), block, timeout)
 
     return get

@@ -10,7 +10,7 @@ import itertools
 import threading
 import weakref
 from collections import deque
-from collections.abc import Iterable, Iterator
+from collections.abc import Callable, Iterable, Iterator
 from types import FrameType, ModuleType
 from typing import Any
 
@@ -19,6 +19,7 @@ from .handed_on import HANDED, called, handed_at, watched_place
 from ..model.lines import (
     CALLED, FINISH, MARK, RESULT, SPAWN, SUBMIT, TAKE_END, WORKER, LateJob, Line, Token, What, state,
 )
+from ..model.lock_identity import LockIdentity
 from ..record import following
 from ..record.messages import Sending, incoming_at
 from ..record.noting import current, enter, joining, line_of_now, local, mark, take
@@ -135,38 +136,53 @@ class _Job:
 
     def __init__(
         self, awaited: _Awaited, part: int, line: Line | None, number: int, comes_after_initializer: bool,
+        begin: Callable[[], Line | int] | None = None,
     ) -> None:
+        """`begin` has it begun as a task of its own, or gives its number if tasks are scarce. None is for one that the
+        thread of the pool does in its own line."""
         self._awaited = awaited
         self._part = part
         self._line = line
         self._number = number
         self._comes_after_initializer = comes_after_initializer
+        self._begin = begin
         self.submitted = awaited.submitted
         self._worker: Line | None = None
 
     def run(self) -> None:
         """From here on the thread of the pool does the job."""
-        line = self._line
-        if line is None:
-            worker = current()
-            worker.job = LateJob(worker, self._number) if self._number else None
-        elif line.tracer is state.tracer:
-            ready = mark(WORKER) if self._comes_after_initializer else None
-            self._worker = getattr(local, "line", None)
-            enter(line)
-            take(ready)
+        if state.note is not None:
+            self._begin_anew()
+            line = self._line
+            if line is None:
+                worker = current()
+                worker.job = LateJob(worker, self._number) if self._number else None
+            else:
+                ready = mark(WORKER) if self._comes_after_initializer else None
+                self._worker = getattr(local, "line", None)
+                enter(line)
+                take(ready)
         local.job_of_pool = self
         take(self.submitted)
+
+    def _begin_anew(self) -> None:
+        """One that was given before tracing began is a task of its own, too."""
+        if self._begin is None or self._line is not None and self._line.tracer is state.tracer:
+            return
+        begun = self._begin()
+        self._line, self._number = (None, begun) if isinstance(begun, int) else (begun, 0)
 
     def end(self) -> None:
         local.job_of_pool = None
         line, note = self._line, state.note
-        if line is None:
+        if line is None or line.tracer is not state.tracer:
+            if line is not None and local.line is line:
+                enter(self._worker)
             self._awaited.jobs[self._part] = mark(RESULT)
             return
         enter(self._worker)
         self._awaited.jobs[self._part] = line
-        if note is not None and line.tracer is state.tracer:
+        if note is not None:
             note((FINISH, line, False, False))
 
 
@@ -202,24 +218,43 @@ class _Jobs:
                 called(words[0][0], (one,) if function is self._maps[0] else tuple(one), handed)
 
     def _begun(self, job: Any) -> _Job | None:
-        note, tracer, pool = state.note, state.tracer, self._pool()
+        tracer, pool = state.tracer, self._pool()
         result = None if pool is None else pool._cache.get(job[0])
         awaited = getattr(result, "_itc_awaited", None)
-        if note is None or tracer is None or pool is None or awaited is None:
+        if pool is None or awaited is None:
             return None
         has_initializer = getattr(pool, "_initializer", None) is not None
         if pool._processes == 1:
             return _Job(awaited, job[1], None, 0, has_initializer)
+        name, result_of = f"{self._name_of(job)}#", weakref.ref(result)
+
+        def begin_left() -> Line | int:
+            assert state.tracer is not None
+            return self._line_of(name, result_of(), (), state.tracer.parent_of_strangers)
+
+        if state.note is None or tracer is None:
+            return _Job(awaited, job[1], None, 0, False, begin_left)
+        begun = self._line_of(name, result, awaited.lent, self._parent(pool, awaited))
+        if isinstance(begun, int):
+            return _Job(awaited, job[1], None, begun, has_initializer)
+        return _Job(awaited, job[1], begun, 0, has_initializer, begin_left)
+
+    def _line_of(self, name: str, result: Any, lent: tuple[LockIdentity, ...], parent: Line) -> Line | int:
+        """The task of a job, which begins. If tasks are scarce, it is a number."""
+        note, tracer, pool = state.note, state.tracer, self._pool()
+        assert note is not None and tracer is not None
         number = tracer.next_job()
         if number > tracer.most_lines:
-            return _Job(awaited, job[1], None, number, has_initializer)
-        line = Line(tracer, f"{self._name_of(job)}#")
+            return number
+        line = Line(tracer, name)
         line.must_finish = True
-        line.lent = awaited.lent
-        line.watch(result)
-        pool.__dict__.setdefault("_itc_jobs", []).append(line)
-        note((SPAWN, self._parent(pool, awaited), line, *_place()))
-        return _Job(awaited, job[1], line, 0, has_initializer)
+        line.lent = lent
+        if result is not None:
+            line.watch(result)
+        if pool is not None:
+            pool.__dict__.setdefault("_itc_jobs", []).append(line)
+        note((SPAWN, parent, line, *_place()))
+        return line
 
     def _parent(self, pool: Any, awaited: _Awaited) -> Line:
         """The task that starts the job.

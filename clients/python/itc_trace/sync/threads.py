@@ -135,15 +135,17 @@ def _start(original: Any) -> Any:
 def _bootstrap(original: Any) -> Any:
     def bootstrap(self: threading.Thread) -> Any:
         line = self.__dict__.get("_itc_line")
-        if line is None:
-            return original(self)
-        enter(line)
-        if not isinstance(self, threading.Timer):
-            _tell_of_target(self)
+        if line is not None:
+            enter(line)
+            if not isinstance(self, threading.Timer):
+                _tell_of_target(self)
         try:
             return original(self)
         finally:
-            _note_end(line)
+            line = self.__dict__.get("_itc_line")  # It has another one if tracing has begun meanwhile.
+            if line is not None:
+                self.__dict__.pop("_itc_is_adopted", None)
+                _note_end(line)
 
     return bootstrap
 
@@ -161,14 +163,16 @@ def _join(original: Any) -> Any:
         line = self.__dict__.get("_itc_line")
         if line is None or state.note is None:
             original(self, timeout)
+        else:
+            line.waiting += 1
+            try:
+                original(self, timeout)
+            finally:
+                line.waiting -= 1
+        line = self.__dict__.get("_itc_line")  # It has another one if tracing has begun meanwhile.
+        if line is None or self is threading.main_thread():
             take(self.__dict__.get("_itc_end"))  # That is the main thread's.
-            return None
-        line.waiting += 1
-        try:
-            original(self, timeout)
-        finally:
-            line.waiting -= 1
-        if _has_seen_end(self):
+        elif state.note is not None and _has_seen_end(self):
             _note_join(self, line)
         return None
 
@@ -460,11 +464,13 @@ def _semaphore_acquire(original: Any) -> Any:
 def _semaphore_release(original: Any) -> Any:
     def release(self: Any, n: int = 1) -> Any:
         one_permit = self.__dict__.get("_itc_permit")
-        if one_permit is not None and (n != 1 or not one_permit.is_held):
+        if one_permit is not None and (n != 1 or one_permit.becomes_more(self.__dict__["_value"])):
             _have_permits(self, one_permit)
             one_permit = None
         if one_permit is not None and state.note is not None:
             gave(one_permit)
+        elif one_permit is not None:
+            one_permit.is_released()
         elif "_itc_permits" in self.__dict__:
             local.permit = mark(SEMAPHORE)
         return original(self, n)

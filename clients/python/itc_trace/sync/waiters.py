@@ -5,8 +5,8 @@ from __future__ import annotations
 from collections import deque
 from typing import Any
 
-from ..model.lines import Line, Token, state
-from ..record.noting import current
+from ..model.lines import Token, state
+from ..record.noting import current, who
 
 
 class Waiters(deque[Any]):
@@ -17,7 +17,8 @@ class Waiters(deque[Any]):
 
     def __init__(self) -> None:
         super().__init__()
-        self._mine: dict[Line, Any] = {}
+        self._mine: dict[int, Any] = {}
+        """Who waits is the same one in a later session, and has another line there."""
         self._tokens: dict[int, Token | None] = {}
 
     @classmethod
@@ -31,7 +32,8 @@ class Waiters(deque[Any]):
 
     def append(self, waiter: Any) -> None:
         if state.note is not None:
-            self._mine[current()] = waiter
+            current()
+            self._mine[who()] = waiter
         super().append(waiter)
 
     def are_notified(self, token: Token | None, count: int) -> None:
@@ -45,7 +47,9 @@ class Waiters(deque[Any]):
 
     def woken(self) -> Token | None:
         """Whoever calls waits no longer. Gives the place of the call that woke it, if there was one."""
+        waiter = self._mine.pop(who(), None)
+        token = self._tokens.pop(id(waiter), None)
         if state.note is None:
             return None
-        waiter = self._mine.pop(current(), None)
-        return self._tokens.pop(id(waiter), None)
+        current()
+        return token
