@@ -24,7 +24,7 @@ QUICK = (
     "test_rewriting.Rewriting.test_each_expression_is_visited_once", "test_later_forms", "test_threads", "test_locks", "test_thread_pools", "test_asyncio",
     "test_queues", "test_processes.Locks", "test_watch.WhatIsTouched", "test_helper.BothForms.test_they_note_the_same_inside_of_containers",
     "test_helper.BothForms.test_what_the_program_lets_go_of_leaves", "test_same_output",
-    "test_seen.Seen.test_a_fork_warns_of_the_program_s_threads_alone", "test_tracebacks",
+    "test_seen.Seen.test_a_fork_warns_of_the_program_s_threads_alone", "test_tracebacks", "test_later_sessions",
 )
 """Rewriting, hooks in both forms, threads, the loop of asyncio and processes. It takes about a minute of one processor."""
 LONGEST = 1200.0

@@ -5,7 +5,6 @@ from __future__ import annotations
 import asyncio
 import concurrent.futures
 import contextlib
-import gc
 import sys
 import threading
 import unittest
@@ -14,7 +13,7 @@ from typing import Any
 
 from itc_trace import touch
 
-from .support import WAIT, Step, TracedCase, in_turn
+from .support import WAIT, TracedCase, in_turn
 from .test_threads import write
 
 Work = Callable[[], Awaitable[Any]]
@@ -233,43 +232,6 @@ class Tasks(Asynchronous):
             write()
 
         self.ordered(main)
-
-
-class LaterSessions(TracedCase):
-    """What an earlier session of the same process leaves behind."""
-
-    def ends_none(self, goes: Callable[[], object]) -> None:
-        def scenario() -> None:
-            write()
-            goes()
-            thread = threading.Thread(target=write)
-            thread.start()
-            thread.join()
-
-        found = self.races(scenario)
-        self.assertEqual((found.races, found.unseen), ([], []))
-
-    def test_a_task_that_goes_later_ends_no_other_session(self) -> None:
-        kept: list[object] = []
-
-        async def begin() -> None:
-            kept.append(asyncio.create_task(writing()))
-            await asyncio.sleep(0)
-
-        self.races(lambda: asyncio.run(begin()))
-        self.ends_none(lambda: (kept.clear(), gc.collect()))
-
-    def test_a_job_that_ends_later_ends_no_other_session(self) -> None:
-        begun, goes_on = Step(), Step()
-        kept: list[object] = []
-
-        def job() -> None:
-            begun.done()
-            goes_on.wait()
-
-        with concurrent.futures.ThreadPoolExecutor(2) as pool:
-            self.races(lambda: (kept.append(pool.submit(job)), begun.wait()))
-            self.ends_none(lambda: (goes_on.done(), pool.shutdown()))
 
 
 class Runs(Asynchronous):
