@@ -28,6 +28,7 @@ from unittest import mock
 from itc_trace import tracing
 from itc_trace.model.stretches import STRETCHES
 from itc_trace.watch import hooks, late, stored, things
+from itc_trace.watch.process_state import CHANGED_STATE, changed_by
 from itc_trace.watch.rewrite import rewritten
 from itc_trace.watch.scopes import Scopes
 
@@ -812,6 +813,14 @@ class WhatIsTouched(unittest.TestCase):
     def test_fields_that_may_have_methods_are_found(self) -> None:
         text = b"self.put = 1\nshop.a, shop.b = 1, 2\nshop.c: int = 3\nShop(name=one.label)\nShop(take=items.pop)\nsize = items.pop()\nif self.same == 3: self.call(1)\n"
         self.assertEqual(sorted(stored.kept_by(text)), ["a", "b", "c", "put", "take"])
+
+    def test_what_the_library_keeps_is_changed_by_a_call(self) -> None:
+        called = b"chdir(x)\nos.umask  (0)\nlocale.setlocale\t(one)\n(catch_warnings())\n"
+        others = b"my_seed(1)\nsetstate = 3\nalarm\nsettrace[0](f)\ntzset_all()\nsignal"
+        things = [f"{CHANGED_STATE}{thing}" for name in ("chdir", "umask", "setlocale", "catch_warnings") for thing in changed_by(name)]
+        self.assertEqual(sorted(stored.kept_by(called + others)), sorted(things))
+        self.assertEqual(stored.kept_by(others), set())
+        self.assertEqual(sorted(stored.kept_by(b"alarm (1)")), sorted(f"{CHANGED_STATE}{thing}" for thing in changed_by("alarm")))
 
     def test_what_only_a_variable_has_is_not_touched(self) -> None:
         self.assert_touches("mine = [1]\nmine.append(2)\nmine[0] = 3\nlen(mine)")

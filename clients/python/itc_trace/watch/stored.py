@@ -165,13 +165,25 @@ def _text(name: bytes) -> str:
     return name.decode(errors="replace")
 
 
-_CHANGING_STATE = re.compile(rb"\b(" + "|".join(sorted(NAMES_OF_CHANGES)).encode() + rb")[ \t]*\(")
+_KNOWN_CHANGES = frozenset(name.encode() for name in NAMES_OF_CHANGES)
+_CHANGES = tuple(_KNOWN_CHANGES)
+_LONGEST_CHANGE = max(map(len, _CHANGES)) + 1
+"""With the letter before it, if there is one."""
+_ENDS = frozenset(name[-2:] for name in _CHANGES)
+_SPACES = frozenset((b" ", b"\t"))
 
 
 def _changed_state(text: bytes) -> set[bytes]:
-    """What the library keeps for all threads, and a source may change."""
-    names = set(_CHANGING_STATE.findall(text))
-    return {(CHANGED_STATE + thing).encode() for name in names for thing in changed_by(_text(name))}
+    """What the library keeps for all threads, and a source may change.
+
+    It calls a function for that. What stands before each of its brackets is found far sooner than the names are.
+    """
+    ends = {
+        one[-_LONGEST_CHANGE:] if one[-1:] not in _SPACES else one.rstrip(b" \t")[-_LONGEST_CHANGE:]
+        for one in text.split(b"(")[:-1]
+    }
+    names = {_NAME_BEFORE.findall(one)[0] for one in ends if one[-2:] in _ENDS and one.endswith(_CHANGES)}
+    return {(CHANGED_STATE + thing).encode() for name in names & _KNOWN_CHANGES for thing in changed_by(_text(name))}
 
 
 def kept_by(text: bytes) -> set[str]:
