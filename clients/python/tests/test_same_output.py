@@ -3,6 +3,7 @@
 from __future__ import annotations
 
 import re
+import sys
 import unittest
 from pathlib import Path
 
@@ -148,10 +149,21 @@ def of_file(name: str) -> dict[str, str]:
     return dict(zip(parts[1::2], parts[2::2]))
 
 
+def of_this_python(programs: dict[str, str]) -> dict[str, str]:
+    """Without those that are of a later Python. Their names say so, as `from 3.12`."""
+    found = {name: LATER.search(name) for name in programs}
+    return {
+        LATER.sub("", name): text for name, text in programs.items()
+        if (later := found[name]) is None or sys.version_info >= (int(later[1]), int(later[2]))
+    }
+
+
+LATER = re.compile(r" from (\d+)\.(\d+)$")
 IN_C = " in C"
 PROGRAMS = {
     **{f"expression{number}": of_expression(line) for number, line in enumerate(EXPRESSIONS.strip().splitlines())},
     **of_file("same.txt"), **of_file("forms.txt"), **of_file("kinds.txt"), **of_file("more.txt"),
+    **of_this_python(of_file("further.txt")),
 }
 
 

@@ -104,6 +104,8 @@ def like(original: Any, made: Any) -> Any:
 
 def named_like(original: Any, made: Any) -> Any:
     """Gives a function the name and the texts of another."""
+    if type(made) is FunctionType:
+        made.__annotations__ = dict(getattr(original, "__annotations__", {}))
     for name in ("__name__", "__qualname__", "__doc__", "__module__", "__text_signature__"):
         try:
             setattr(made, name, getattr(original, name))
@@ -123,3 +125,4 @@ def name_as(kind: type, name: str, module: str) -> None:
     for method in vars(kind).values():
         if type(method) is FunctionType:
             method.__qualname__ = f"{name}.{method.__name__}"
+            method.__annotations__ = {}

@@ -11,7 +11,7 @@ from collections.abc import Callable
 from types import FrameType
 from typing import Any
 
-from .base import STAND_INS, Patches
+from .base import STAND_INS, Patches, like, named_like
 
 PACKAGE = os.path.dirname(os.path.dirname(os.path.abspath(__file__))) + os.sep
 ASIDE = tuple(os.path.join(PACKAGE, folder, "") for folder in ("watch", "record", "model"))
@@ -20,6 +20,7 @@ DEEPEST = 8
 """So many frames of the library there are below one of these, at most."""
 HOOKS = f"{__package__.partition('.')[0]}.watch.quick"
 """The module of the hooks in C."""
+OWN_NAME = HOOKS.partition(".")[0]
 OF_FUNCTION = "c_"
 """The events of a function in C begin so."""
 
@@ -33,6 +34,9 @@ def put(patches: Patches) -> None:
         _put_one(patches, name, _without_frames(Profiling))
     for name in ("gettrace", "getprofile"):
         _put_one(patches, name, _as_given)
+    monitoring: Any = getattr(sys, "monitoring", None)
+    if monitoring is not None:
+        patches.replace(monitoring, "register_callback", like(monitoring.register_callback, _register(monitoring)))
 
 
 def _put_one(patches: Patches, name: str, make: Callable[[Any], Any]) -> None:
@@ -74,6 +78,28 @@ class Profiling(Follower):
             frame = frame.f_back or frame
         if is_seen and not _is_aside(frame):
             self.function(frame, event, argument)
+
+
+def _register(monitoring: Any) -> Any:
+    """Tells a tool of the program of no code of the package, and of no call of it."""
+    original, events = monitoring.register_callback, monitoring.events
+    calls = events.CALL | events.C_RETURN | events.C_RAISE
+    given: dict[tuple[int, int], Any] = {}
+
+    def register_callback(tool_id: int, event: int, func: Any, /) -> Any:
+        def follow(code: Any, *words: Any) -> Any:
+            if code.co_filename.startswith(PACKAGE) or id(code) in STAND_INS or _is_aside(sys._getframe(1)):
+                return None
+            if event & calls and str(getattr(words[1], "__module__", "")).partition(".")[0] == OWN_NAME:
+                return None
+            return func(code, *words)
+
+        before = original(tool_id, event, None if func is None else named_like(func, follow))
+        known = given.get((tool_id, event))
+        given[tool_id, event] = (func, follow)
+        return known[0] if known is not None and before is known[1] else before
+
+    return register_callback
 
 
 def _is_aside(frame: FrameType) -> bool:

@@ -117,7 +117,7 @@ def _run_timer(original: Any) -> Any:
 def _start(original: Any) -> Any:
     def start(self: threading.Thread) -> Any:
         note = state.note
-        if note is None or self.ident is not None or are_replaced():
+        if note is None or not isinstance(self, threading.Thread) or self.ident is not None or are_replaced():
             return original(self)
         line = Line(state.tracer, thread_name(self))
         line.must_finish = True
