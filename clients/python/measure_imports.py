@@ -1,7 +1,6 @@
 """Measures what an import takes: plain, watched for the first time, and watched once more.
 
-Each import runs in a process of its own, and its thread's time of the processor counts. Of several runs the least one
-is told.
+Each import runs in a process of its own, whose time of the processor counts. Of several runs the least one is told.
 
 Usage: python3 clients/python/measure_imports.py [--runs N] MODULE..
 """
@@ -18,9 +17,9 @@ from pathlib import Path
 PACKAGE = Path(__file__).resolve().parent
 IMPORT = """
 import importlib, sys, time
-began = time.thread_time()
+began = time.process_time()
 importlib.import_module(sys.argv[1])
-print("took", time.thread_time() - began)
+print("took", time.process_time() - began)
 """
 
 
