@@ -241,6 +241,86 @@ def pytest_runtest_protocol(item, nextitem):
 '''
 
 
+FIXTURES = """
+import asyncio, concurrent.futures, queue, threading
+import pytest
+pytestmark = pytest.mark.races
+
+class Shop:
+    left = 0
+    def sell(self):
+        self.left += 1
+
+@pytest.fixture(scope="session")
+def shop():
+    return Shop()
+
+@pytest.fixture(scope="session")
+def pool():
+    with concurrent.futures.ThreadPoolExecutor(2) as pool:
+        yield pool
+
+@pytest.fixture(scope="session")
+def items(shop):
+    def work():
+        while items.get() is not None:
+            shop.sell()
+            items.task_done()
+    items = queue.Queue()
+    thread = threading.Thread(target=work)
+    thread.start()
+    yield items
+    items.put(None)
+    thread.join()
+    shop.sell()
+
+@pytest.fixture(scope="session")
+def loop(shop):
+    ticks = []
+    async def tick():
+        while True:
+            ticks.append(1)
+            await asyncio.sleep(0.001)
+    async def begin():
+        return asyncio.ensure_future(tick())
+    loop = asyncio.new_event_loop()
+    task = loop.run_until_complete(begin())
+    yield loop
+    task.cancel()
+    loop.run_until_complete(asyncio.gather(task, return_exceptions=True))
+    loop.close()
+
+@pytest.mark.parametrize("number", range(3))
+def test_quiet_worker(items, shop, number):
+    items.put(1)
+    items.join()
+    shop.sell()
+
+@pytest.mark.parametrize("number", range(3))
+def test_quiet_pool(pool, shop, items, number):
+    pool.submit(shop.sell).result()
+    shop.sell()
+
+@pytest.mark.parametrize("number", range(3))
+def test_quiet_loop(loop, shop, items, number):
+    async def main():
+        shop.sell()
+        await asyncio.sleep(0.01)
+    shop.sell()
+    loop.run_until_complete(main())
+    shop.sell()
+
+def test_racing_pool(pool, shop):
+    for job in [pool.submit(shop.sell), pool.submit(shop.sell)]:
+        job.result()
+
+def test_racing_worker(items, shop):
+    items.put(1)
+    shop.sell()
+    items.join()
+"""
+"""What goes on from test to test: a thread, a pool, and a task of a loop."""
+
 PYTHON = python_with("pytest")
 NEEDS_PYTEST = needs("python3-pytest", "pytest")
 WITHOUT_CACHE = "-p", "no:cacheprovider"
@@ -430,6 +510,9 @@ class Kinds(unittest.TestCase):
 
     def test_each_kind_is_traced_with_the_cache_and_without_assertions_rewritten(self) -> None:
         self.assert_all_told(18, KINDS, "--races", "--assert=plain")
+
+    def test_what_fixtures_keep_from_test_to_test_is_traced_in_each(self) -> None:
+        self.assert_all_told(11, FIXTURES, *WITHOUT_CACHE)
 
     def test_a_mark_of_the_module_counts_for_each_kind(self) -> None:
         self.assert_all_told(18, KINDS + MARKED, *WITHOUT_CACHE)
