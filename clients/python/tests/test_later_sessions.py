@@ -19,6 +19,7 @@ from collections.abc import Callable, Coroutine
 from multiprocessing.pool import ThreadPool
 from typing import Any
 
+import itc_trace
 from itc_trace import Races
 from itc_trace.sync import put_all
 
@@ -277,6 +278,14 @@ class LaterQueues(LaterCase):
             self.whole(lambda: (items.put(2), items.join(), write(), items.put(3), items.join(), write()))
         items.put(None)
         thread.join()
+
+
+class LaterMessages(LaterCase):
+    def test_a_message_of_an_earlier_block_is_none_of_a_later_one(self) -> None:
+        names: list[Any] = []
+        self.first(lambda: names.append(itc_trace.outgoing()))
+        self.racing(lambda: in_turn(lambda: (write(), names.append(itc_trace.outgoing())), lambda: (itc_trace.incoming(names[0]), write())))
+        self.whole(lambda: in_turn(lambda: (write(), names.append(itc_trace.outgoing())), lambda: (itc_trace.incoming(names[2]), write())))
 
 
 class LaterLocks(LaterCase):

@@ -50,6 +50,8 @@ Whoever waits for an answer ends the rest.
 END_WAIT = 60.0
 GONE_COLLECTOR = "the collector is gone"
 CLOSED_CONNECTION = "the program has closed the connection to the collector"
+_outside_numbers = itertools.count(1)
+"""Of messages to other processes. One that is on its way as tracing ends is not taken for another one later."""
 _now, _monotonic = time.time, time.monotonic
 """As they are before any program is traced."""
 
@@ -97,7 +99,6 @@ class Tracer:
         self._shaking = shaking
         self._note: Callable[[Note], object] = self._note_now if shaking is None else self._note_shaken
         self._places = Places()
-        self._outside_numbers = itertools.count(1)
         self._missed: dict[str, object] = {}
         """What was not seen of the run, while tracing went on, and something of whoever told of it."""
         self._all_sent = False
@@ -308,7 +309,7 @@ class Tracer:
             waiter.answer(False)
 
     def fresh_message(self) -> str:
-        return f"{self.prefix}out_{next(self._outside_numbers)}"
+        return f"{self.prefix}out_{next(_outside_numbers)}"
 
     # The thread that reports
 
