@@ -325,6 +325,29 @@ class LaterLocks(LaterCase):
             permit.acquire()
             self.whole(lambda: in_turn(lambda: (write(), permit.release()), lambda: (permit.acquire(), write())))
 
+    def cycle(self, outer: Any, inner: Any, is_signal: bool) -> None:
+        """Two tasks acquire both in two orders. It is no deadlock if the other one releases the inner one."""
+
+        def one() -> None:
+            with outer:
+                inner.acquire()
+                if not is_signal:
+                    inner.release()
+
+        def two() -> None:
+            if is_signal:
+                inner.release()
+            with inner, outer:
+                pass
+
+        in_turn(one, two)
+
+    def test_what_a_lock_was_in_an_earlier_block_is_forgotten(self) -> None:
+        outer, inner = threading.Lock(), threading.Lock()
+        for is_signal in (True, True, False, True, False):
+            found = self.races(lambda: self.cycle(outer, inner, is_signal))
+            self.assertEqual((found.text().startswith("possible deadlock on "), found.unseen), (not is_signal, []), found.text())
+
     def test_a_lock_that_hands_over_keeps_its_possible_races(self) -> None:
         """A release of what was acquired before says nothing of the later ones."""
         lock = threading.Lock()

@@ -344,7 +344,7 @@ class State:
     `witness` is told of touches in a child process that is not traced, by thing and site.
     """
 
-    __slots__ = ("note", "tracer", "witness", "lines", "is_patched")
+    __slots__ = ("note", "tracer", "witness", "lines", "is_patched", "block")
 
     def __init__(self) -> None:
         self.note: Callable[[Note], object] | None = None
@@ -353,6 +353,8 @@ class State:
         self.lines = 0
         self.is_patched = False
         """Whether the methods of the library are those that are traced."""
+        self.block = 0
+        """How often tracing has begun in this process."""
 
 
 state = State()

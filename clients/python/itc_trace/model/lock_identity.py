@@ -43,7 +43,7 @@ class LockIdentity:
 
     __slots__ = (
         "serial", "kind", "code", "instruction", "number", "signal", "is_of_condition", "is_inside", "encloses_tasks",
-        "taken_by", "taken_at", "is_nested", "is_crossed", "outlived", "is_tried", "across", "_name", "_hint",
+        "taken_by", "taken_at", "is_nested", "is_crossed", "outlived", "is_tried", "across", "block", "_name", "_hint",
     )
 
     def __init__(self, kind: str, frame: FrameType | None) -> None:
@@ -53,22 +53,13 @@ class LockIdentity:
         self.code: CodeType | None = None
         self.instruction = 0
         self.number = 1
-        self.signal: Signal | None = None
         self.is_of_condition = False
         self.is_inside = False
         """Whether code of the library acquires it for the program, as that of a condition does."""
-        self.encloses_tasks = False
         self.taken_by: CodeType | None = None
         self.taken_at = 0
         """Where it was acquired last: the code, and the instruction in that."""
-        self.is_nested = False
-        """Whether it was acquired with another one held, or another one while it was held."""
-        self.is_crossed = False
-        """Whether it was released while one was held that was acquired later, or is such a later one."""
-        self.outlived: tuple[LockIdentity, ...] = ()
-        """The locks that its task has acquired before it, and released since."""
-        self.is_tried = False
-        """Whether somebody has acquired it without waiting for it, or not for ever."""
+        self.begin(0)
         self.across = ""
         """What several processes know it by, if they share it."""
         self._name = self._hint = ""
@@ -77,6 +68,20 @@ class LockIdentity:
             self.instruction = frame.f_lasti
             key = (code.co_filename, code.co_firstlineno, self.instruction)
             self.number = next(_numbers.setdefault(key, itertools.count(1)))
+
+    def begin(self, block: int) -> None:
+        """In a block of tracing nothing is known of what was done with the lock in an earlier one."""
+        self.block = block
+        self.signal: Signal | None = None
+        self.encloses_tasks = False
+        self.is_nested = False
+        """Whether it was acquired with another one held, or another one while it was held."""
+        self.is_crossed = False
+        """Whether it was released while one was held that was acquired later, or is such a later one."""
+        self.outlived: tuple[LockIdentity, ...] = ()
+        """The locks that its task has acquired before it, and released since."""
+        self.is_tried = False
+        """Whether somebody has acquired it without waiting for it, or not for ever."""
 
     @property
     def lock(self) -> LockIdentity | None:

@@ -59,8 +59,14 @@ class Items:
         self._identity = LockIdentity(QUEUE, maker)
         self._known: set[tuple[object, ...]] = set()
 
+    def _begin(self) -> None:
+        if self._identity.block != state.block:
+            self._identity.begin(state.block)
+            self._known.clear()
+
     def wait(self, frame: FrameType | None) -> None:
         """The current task waits for an item, for ever."""
+        self._begin()
         if self._identity.signal is None:
             line = line_of_now()
             if line.held:
@@ -68,6 +74,7 @@ class Items:
 
     def put(self, frame: FrameType | None) -> None:
         """The current task puts an item. Whoever only tries to acquire a lock does not need it."""
+        self._begin()
         if self._identity.signal is not None:
             return
         line = line_of_now()
@@ -79,6 +86,7 @@ class Items:
 
     def become_free(self) -> None:
         """No lock is needed for that the wait ends."""
+        self._begin()
         self._identity.become_signal()
         self._known.clear()
         note_signal(self._identity)

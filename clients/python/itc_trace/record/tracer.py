@@ -180,6 +180,7 @@ class Tracer:
         if threading.active_count() > 1:
             self.parent_of_strangers = Line(self, "others")
             self._note_now((SPAWN, self.main, self.parent_of_strangers, None, 0))
+        state.block += 1
         state.tracer = self
         state.note = self._note
         if self._shaking is not None:

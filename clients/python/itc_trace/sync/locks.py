@@ -279,6 +279,8 @@ def gave(lock: Any) -> None:
     stretch = STRETCHES.pop(thread, None)
     line = line_of_now()
     identity: LockIdentity = lock._itc_identity
+    if identity.block != state.block:
+        identity.begin(state.block)
     section = line.section
     if section is not None and section.is_entered_again and section.token.what is identity:
         held = line.held
@@ -378,6 +380,8 @@ def took(lock: Any, has_waited: bool = True) -> None:
     Whoever would not have waited for it, or not for ever, had a way back.
     """
     identity: LockIdentity = lock._itc_identity
+    if identity.block != state.block:
+        identity.begin(state.block)
     if not has_waited:
         identity.is_tried = True
     try:
