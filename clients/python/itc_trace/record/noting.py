@@ -104,7 +104,7 @@ def line_of_now() -> Line:
 
 
 def who() -> int:
-    """What tells whatever runs now from all else that runs, also in a later session."""
+    """What tells whatever runs now from all else that runs, also once tracing has begun anew."""
     loop = _get_running_loop()
     task = None if loop is None else _task_of(loop)
     return get_ident() if task is None else id(task)

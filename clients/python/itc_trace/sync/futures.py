@@ -332,7 +332,7 @@ def _item_run(original: Any) -> Any:
         finally:
             del self
             note = state.note
-            if local.line is line:  # Else another session has begun, and the thread has a line there.
+            if local.line is line:  # Else tracing has begun anew, and the thread has a line there.
                 enter(before)
             if note is not None and line.tracer is state.tracer:
                 note((FINISH, line, False, False))

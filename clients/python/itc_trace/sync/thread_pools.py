@@ -138,8 +138,10 @@ class _Job:
         self, awaited: _Awaited, part: int, line: Line | None, number: int, comes_after_initializer: bool,
         begin: Callable[[], Line | int] | None = None,
     ) -> None:
-        """`begin` has it begun as a task of its own, or gives its number if tasks are scarce. None is for one that the
-        thread of the pool does in its own line."""
+        """`begin` has it begun as a task of its own, or gives its number if tasks are scarce.
+
+        None is for one that the thread of the pool does in its own line.
+        """
         self._awaited = awaited
         self._part = part
         self._line = line
@@ -229,8 +231,8 @@ class _Jobs:
         name, result_of = f"{self._name_of(job)}#", weakref.ref(result)
 
         def begin_left() -> Line | int:
-            assert state.tracer is not None
-            return self._line_of(name, result_of(), (), state.tracer.parent_of_strangers)
+            tracer = state.tracer
+            return 0 if tracer is None else self._line_of(name, result_of(), (), tracer.parent_of_strangers)
 
         if state.note is None or tracer is None:
             return _Job(awaited, job[1], None, 0, False, begin_left)
@@ -240,9 +242,10 @@ class _Jobs:
         return _Job(awaited, job[1], begun, 0, has_initializer, begin_left)
 
     def _line_of(self, name: str, result: Any, lent: tuple[LockIdentity, ...], parent: Line) -> Line | int:
-        """The task of a job, which begins. If tasks are scarce, it is a number."""
+        """The task of a job, which begins. If tasks are scarce, it is a number, and 0 if tracing has ended meanwhile."""
         note, tracer, pool = state.note, state.tracer, self._pool()
-        assert note is not None and tracer is not None
+        if note is None or tracer is None:
+            return 0
         number = tracer.next_job()
         if number > tracer.most_lines:
             return number

@@ -18,7 +18,7 @@ class Waiters(deque[Any]):
     def __init__(self) -> None:
         super().__init__()
         self._mine: dict[int, Any] = {}
-        """Who waits is the same one in a later session, and has another line there."""
+        """By who waits, and not by its line: it has another one once tracing has begun anew."""
         self._tokens: dict[int, Token | None] = {}
 
     @classmethod
