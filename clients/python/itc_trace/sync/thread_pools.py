@@ -242,7 +242,7 @@ class _Jobs:
         return _Job(awaited, job[1], begun, 0, has_initializer, begin_left)
 
     def _line_of(self, name: str, result: Any, lent: tuple[LockIdentity, ...], parent: Line) -> Line | int:
-        """The task of a job, which begins. If tasks are scarce, it is a number, and 0 if tracing has ended meanwhile."""
+        """The task of a job, which begins. If tasks are scarce, it is a number, and 0 if tracing has ended."""
         note, tracer, pool = state.note, state.tracer, self._pool()
         if note is None or tracer is None:
             return 0
