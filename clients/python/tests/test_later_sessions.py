@@ -144,9 +144,11 @@ class LaterThreads(LaterCase):
                 with lock:
                     write()
 
-        for _ in range(4):
-            self.whole(scenario)
-        ends[0] = True
+        try:
+            for _ in range(4):
+                self.whole(scenario)
+        finally:
+            ends[0] = True
         self.whole(lambda: ([thread.join() for thread in threads], write()))
 
 

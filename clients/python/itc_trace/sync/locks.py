@@ -302,7 +302,8 @@ def gave(lock: Any) -> None:
         _remove(holder, identity)
         _become_signal(identity)
     what: LockIdentity | Signal = identity.signal or identity
-    if holder is None or holder.tracer is not state.tracer:
+    is_seen = holder is not None and holder.tracer is state.tracer
+    if not is_seen:
         what = Signal(identity)  # It was acquired before tracing began, and what it has enclosed since is not known.
     if identity.is_crossed:
         identity.outlived = ()
@@ -311,7 +312,7 @@ def gave(lock: Any) -> None:
     note = state.note
     if note is not None:
         note((MARK, token))
-        line.section = Section(token, stretch)
+        line.section = Section(token, stretch) if is_seen else None
 
 
 def _become_signal(identity: LockIdentity) -> None:
