@@ -129,6 +129,7 @@ class LaterThreads(LaterCase):
         self.whole(lambda: (write(), turn.done(), thread.join(), write()))
 
     def test_those_that_hold_locks_as_a_block_begins(self) -> None:
+        """What one of them did before its first release may be told as possible: nobody has seen that it held the lock."""
         lock, ends = threading.Lock(), [False]
 
         def work() -> None:
@@ -146,10 +147,12 @@ class LaterThreads(LaterCase):
 
         try:
             for _ in range(4):
-                self.whole(scenario)
+                found = self.races(scenario)
+                self.assertEqual((found.races, found.unseen), ([], []), found.text())
         finally:
             ends[0] = True
-        self.whole(lambda: ([thread.join() for thread in threads], write()))
+        found = self.races(lambda: ([thread.join() for thread in threads], write()))
+        self.assertEqual((found.races, found.unseen), ([], []), found.text())
 
 
 class LaterWaits(LaterCase):

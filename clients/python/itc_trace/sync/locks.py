@@ -303,8 +303,9 @@ def gave(lock: Any) -> None:
         _become_signal(identity)
     what: LockIdentity | Signal = identity.signal or identity
     is_seen = holder is not None and holder.tracer is state.tracer
-    if not is_seen:
-        what = Signal(identity)  # It was acquired before tracing began, and what it has enclosed since is not known.
+    if not is_seen:  # It was acquired before tracing began. Nobody knows what it has enclosed since.
+        what = Signal(identity)
+        _remove(line, identity)
     if identity.is_crossed:
         identity.outlived = ()
     lock._itc_token = token = Token(line, what, code, instruction)
@@ -313,6 +314,11 @@ def gave(lock: Any) -> None:
     if note is not None:
         note((MARK, token))
         line.section = Section(token, stretch) if is_seen else None
+
+
+def _is_unseen(what: Any) -> bool:
+    """Whether a release stands for that of a lock that was acquired before tracing began."""
+    return type(what) is Signal and what is not what.identity.signal
 
 
 def _become_signal(identity: LockIdentity) -> None:
@@ -414,7 +420,8 @@ def took(lock: Any, has_waited: bool = True) -> None:
                     line.held = (identity,)
                 return
     line = current()
-    lock._itc_holder = line
+    # Until somebody else comes after what it enclosed before, the next release is as the one before.
+    lock._itc_holder = None if token is not None and token.line is line and _is_unseen(token.what) else line
     line.held += (identity,)
     if token is not None:
         lock._itc_token = None
