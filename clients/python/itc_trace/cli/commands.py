@@ -24,14 +24,14 @@ from .output_files import check_outputs
 from .parser import Parser
 from .saying import UNWRITTEN, say, write
 from .settings import Settings, settings_here
-from .reporting import STANDARD_OUTPUT, Wanted, deliver, is_at_terminal, next_step
+from .reporting import STANDARD_OUTPUT, Wanted, deliver, list_shown, next_step
 from .run import MOST_SEED, Run, run, tell_if_untouched
 from ..session import Refused
 from ..analyse.snapshot import snapshot
 from ..report.hints import missing_sources
 from ..report.report import report_of
-from ..report.style import style_of
-from ..report.text import Shown, text
+from ..report.screen import is_terminal
+from ..report.text import Shown
 from .system import run_system
 from .system_file import read_system
 
@@ -181,20 +181,20 @@ def _explain(words: argparse.Namespace) -> int:
 def _tell(words: argparse.Namespace, found: Races, picture: str | None = None) -> int:
     report = report_of(found, words.looking, words.fail_on == "possible", picture, missing_sources(found))
     stream = sys.stderr if words.wanted.takes_output else sys.stdout
-    is_written = _tell_person(text(report, words.wanted.shown, style_of(stream)), words.wanted)
     step = next_step(report, words.wanted, words.trace if words.port is None else None, False)
-    if step and is_at_terminal(stream):
+    is_written = _tell_person(list_shown(report, words.wanted, stream, step), words.wanted)
+    if step and is_terminal(stream):
         say(step)
     tell_if_untouched(found)
     return int(report.verdict) if deliver(report, words.wanted) and is_written else UNWRITTEN
 
 
-def _tell_person(told: str, wanted: Wanted) -> bool:
+def _tell_person(words: str, wanted: Wanted) -> bool:
     """Writes the list to standard output, or to standard error if another format has that. Gives whether it did."""
     if wanted.takes_output:
-        say(told)
+        say(words)
         return True
-    return write(f"{told}\n")
+    return write(f"{words}\n")
 
 
 def _relay(words: argparse.Namespace) -> None:

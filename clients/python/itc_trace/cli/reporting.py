@@ -8,12 +8,17 @@ from typing import TextIO
 from ..record.faults import Fault
 from ..record.whole_file import replacing
 from ..report.formats import FORMATS
+from ..report.grouping import entries
 from ..report.report import Report
-from ..report.text import Shown
+from ..report.screen import screen_of
+from ..report.style import style_of
+from ..report.text import Shown, text
 from ..model.verdict import Verdict
 from .saying import say, write
 
 STANDARD_OUTPUT = "-"
+PROMPT = "$"
+"""What a shell writes behind all."""
 
 
 @dataclass
@@ -44,14 +49,22 @@ def next_step(report: Report, wanted: Wanted, export: str | None, is_run: bool) 
     if not report.findings:
         is_whole = is_run and report.verdict is Verdict.NO_RACE
         return "itc_trace: next: --runs 10 tries other schedules" if is_whole else ""
-    identity = report.findings[0].identity
+    first = report.findings[0] if wanted.shown.is_all else entries(report.findings)[0].shown
+    identity = first.identity
     if kept is None:
         return f"itc_trace: next: keep the trace by --export FILE, and type `{wanted.called} explain {identity} FILE`"
     return f"itc_trace: next: `{wanted.called} explain {identity} {kept}` tells of this race, and --picture draws it"
 
 
-def is_at_terminal(stream: TextIO | None) -> bool:
-    return stream is not None and not stream.closed and stream.isatty()
+def list_shown(report: Report, wanted: Wanted, stream: TextIO | None, next_line: str = "", ending: str = "") -> str:
+    """The list for a person who looks at a stream. On a terminal it leaves room for the prompt and for the next line.
+
+    What is to end its last line has room there, too.
+    """
+    screen = screen_of(stream)
+    if screen is not None:
+        screen = screen.without([PROMPT, *([next_line] if next_line else []), *([ending] if ending else [])])
+    return text(report, wanted.shown, style_of(stream), screen) + ending
 
 
 def deliver(report: Report, wanted: Wanted) -> bool:

@@ -31,7 +31,7 @@ from ..record.faults import WORDS_REFUSED, Fault, look
 from ..record.whole_file import replacing
 from .launch import RAISED, REFUSED
 from .output_files import check_outputs
-from .reporting import Wanted, deliver, is_at_terminal, next_step
+from .reporting import Wanted, deliver, list_shown, next_step
 from .saying import UNWRITTEN, say
 from .ticking import left_in_words, ticking
 from .statuses import OWN_STATUSES, forget_status, keep_status, own_status
@@ -41,8 +41,7 @@ from ..analyse.parts import number_of_parts, races_of_parts
 from ..analyse.progress import Bar
 from ..report.race_rows import race_rows
 from ..report.report import Report, report_of
-from ..report.style import style_of
-from ..report.text import text
+from ..report.screen import is_terminal
 from .trying import MOST_PAIRS, plan_of
 from ..analyse.races import Race, Races
 from ..analyse.seeing import races_seen
@@ -318,10 +317,9 @@ def _is_told(asked: Run, report: Report, status: int) -> bool:
 def _tell(asked: Run, report: Report, status: int) -> bool:
     """Tells what was found. Gives whether all formats that are asked for were written."""
     if _is_told(asked, report, status):
-        told = text(report, asked.wanted.shown, style_of(sys.stderr))
-        say(told + own_status(report.verdict, status))
         step = next_step(report, asked.wanted, asked.export if asked.runs == 1 else None, asked.runs == 1)
-        if step and is_at_terminal(sys.stderr):
+        say(list_shown(report, asked.wanted, sys.stderr, step, own_status(report.verdict, status)))
+        if step and is_terminal(sys.stderr):
             say(step)
     return deliver(report, asked.wanted)
 
@@ -355,7 +353,7 @@ def _run_each(asked: Run, files: contextlib.ExitStack) -> int:
             drawn.append(outcome)
         merged.add(outcome.races, outcome.status, seed, bool(tried))
         if not asked.quiet:
-            left = left_in_words(time.monotonic() - begun, number, asked.runs) if is_at_terminal(sys.stderr) else ""
+            left = left_in_words(time.monotonic() - begun, number, asked.runs) if is_terminal(sys.stderr) else ""
             say(f"itc_trace: run {number} of {asked.runs}{_by_seed(seed)}: {outcome.races.found()}{left}")
         if is_asked_to_end():
             break

@@ -36,14 +36,13 @@ from ..record.faults import Fault
 from ..record.journal import NoJournal, read_whole
 from ..record.whole_file import replacing
 from ..report.report import report_of
-from ..report.style import style_of
-from ..report.text import text
+from ..report.screen import is_terminal
 from ..session import Refused
 from .asking import Asking
 from .ending import name_of
 from .launch import REFUSED
 from .process_sources import ProcessSources
-from .reporting import Wanted, deliver, is_at_terminal, next_step
+from .reporting import Wanted, deliver, list_shown, next_step
 from .run import draw, draw_parts, environment_of_package, titled
 from .saying import UNWRITTEN, say
 from .ticking import ticking
@@ -456,9 +455,9 @@ def run_system(
         if not any(described.is_traced for described in system.processes):
             say("itc_trace: no process is traced, so no race was looked for: leave out traced = false")
         report, wanted = report_of(races, looking, fail_on_possible, picture), wanted or Wanted()
-        say(text(report, wanted.shown, style_of(sys.stderr)) + own_status(report.verdict, running.status))
         step = next_step(report, wanted, system.export, False)
-        if step and is_at_terminal(sys.stderr):
+        say(list_shown(report, wanted, sys.stderr, step, own_status(report.verdict, running.status)))
+        if step and is_terminal(sys.stderr):
             say(step)
         status = keep_status(status_file, report.verdict, running.status)
         return status if deliver(report, wanted) else UNWRITTEN

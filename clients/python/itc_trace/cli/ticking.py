@@ -8,7 +8,7 @@ from collections.abc import Callable, Iterator
 from contextlib import contextmanager
 from typing import TextIO
 
-from .reporting import is_at_terminal
+from ..report.screen import is_terminal
 from .saying import say
 
 FIRST_SECONDS = 5.0
@@ -18,7 +18,7 @@ FIRST_SECONDS = 5.0
 @contextmanager
 def ticking(stream: TextIO | None, told: Callable[[], str], first: float = FIRST_SECONDS) -> Iterator[None]:
     """Within the block a line says now and then how long it has taken, and what is told besides."""
-    if not is_at_terminal(stream):
+    if not is_terminal(stream):
         yield
         return
     is_over = threading.Event()

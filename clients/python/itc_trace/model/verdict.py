@@ -66,11 +66,11 @@ class Left(NamedTuple):
 MOST_LISTED = 3
 
 
-def listed(passed_over: Iterable[PassedOver]) -> str:
+def listed(passed_over: Iterable[PassedOver], most: int = MOST_LISTED) -> str:
     """What was not looked into, as the last line says it."""
     words = [f"{one.what} at {one.place}" for one in dict.fromkeys(passed_over)]
-    more = f" and {len(words) - MOST_LISTED} more" if len(words) > MOST_LISTED else ""
-    return f"; not looked into: {', '.join(words[:MOST_LISTED])}{more}" if words else ""
+    more = f" and {len(words) - most} more" if len(words) > most else ""
+    return f"; not looked into: {', '.join(words[:most])}{more}" if words else ""
 
 
 END_ROW = '{"end":true}\n'

@@ -3,14 +3,17 @@
 from __future__ import annotations
 
 import os
-from collections.abc import Iterator
+from collections.abc import Iterable, Iterator
 from dataclasses import dataclass
+from itertools import chain, islice
 
 from ..model.finding import Finding
 from ..model.readable import readable, uri_of
-from ..model.verdict import Verdict, reasons
+from ..model.verdict import Verdict, listed, reasons
+from .fitting import BEGIN, INDENT, cut_lines, short
 from .grouping import Entry, entries
 from .report import Report
+from .screen import Screen, columns_of
 from .style import Style
 
 MOST_WITHOUT_SUMMARY = 5
@@ -31,90 +34,154 @@ class Shown:
     how: str = "--all"
     """What is typed to see each pair."""
 
+    @property
+    def is_asked_for(self) -> bool:
+        """Whether somebody has said how much it is to be."""
+        return self.is_all or self.most is not None
 
-def text(report: Report, shown: Shown = Shown(), style: Style = Style()) -> str:
-    """Why it is incomplete, where it is, and what was found, each with a link into the picture, where there is one."""
-    return "\n".join(_lines(report, shown, style))
+
+def text(report: Report, shown: Shown = Shown(), style: Style = Style(), screen: Screen | None = None) -> str:
+    """Why it is incomplete, where it is, and what was found, each with a link into the picture, where there is one.
+
+    If it takes more rows than a screen has, its lines are cut.
+    """
+    lines = _Listing(report, shown, style).lines()
+    if screen is not None and not shown.is_asked_for and not screen.holds(lines):
+        lines = _Listing(report, shown, style, screen).lines()
+    return "\n".join(lines)
 
 
-def _lines(report: Report, shown: Shown, style: Style) -> Iterator[str]:
-    causes = entries(report.findings)
-    before = [f"itc_trace: incomplete: {readable(reasons(report.unseen))}"] if report.unseen else []
-    if len(causes) > MOST_WITHOUT_SUMMARY:
-        before.append(f"itc_trace: {readable(_summary(causes))}")
-    behind = [f"itc_trace: {readable(hint)}" for hint in report.hints]
-    if report.picture is not None and not causes:
-        behind.append(f"itc_trace: the picture is {_address(report.picture)}")
-    behind.append(f"itc_trace: {style.summary(readable(report.summary), report.verdict is Verdict.NO_RACE)}")
-    listing = _Listing(report, shown, style)
-    yield from before
-    if shown.is_all or shown.most is not None:
-        yield from listing.whole([Entry([one]) for one in report.findings] if shown.is_all else causes)
-    else:
-        yield from listing.within(MOST_LINES - len(before) - len(behind), causes)
-    yield from behind
+@dataclass(frozen=True)
+class _Room:
+    """How many lines there may be, and how many rows of a screen they may take."""
+
+    lines: int
+    screen: Screen | None
+
+    def holds(self, given: Iterable[str]) -> bool:
+        """No more lines are asked for than decide it."""
+        lines = list(islice(given, max(0, self.lines + 1)))
+        return len(lines) <= self.lines and (self.screen is None or self.screen.holds(lines))
 
 
 @dataclass(frozen=True)
 class _Listing:
-    """Writes the entries of a list."""
+    """Writes a list, and cuts its lines if it has a screen."""
 
     report: Report
     shown: Shown
     style: Style
+    screen: Screen | None = None
 
-    def whole(self, found: list[Entry]) -> Iterator[str]:
+    def lines(self) -> list[str]:
+        causes = entries(self.report.findings)
+        before, behind = list(self._before(causes)), list(self._behind(causes))
+        if self.shown.is_asked_for:
+            found = [Entry([one]) for one in self.report.findings] if self.shown.is_all else causes
+            return [*before, *self._whole(found), *behind]
+        screen = None if self.screen is None else self.screen.without([*before, *behind])
+        return [*before, *self._within(_Room(MOST_LINES - len(before) - len(behind), screen), causes), *behind]
+
+    def _before(self, causes: list[Entry]) -> Iterator[str]:
+        if self.report.unseen:
+            yield f"{BEGIN}incomplete: {readable(reasons(self.report.unseen))}"
+        if len(causes) > MOST_WITHOUT_SUMMARY:
+            yield self._summary(causes)
+
+    def _behind(self, causes: list[Entry]) -> Iterator[str]:
+        yield from (f"{BEGIN}{readable(hint)}" for hint in self.report.hints)
+        if self.report.picture is not None and not causes:
+            yield f"{BEGIN}the picture is {_address(self.report.picture)}"
+        summary, passed_over = self.report.summary, self.report.passed_over
+        if self.screen is not None:
+            summary = summary.replace(listed(passed_over), listed(passed_over, 1))
+        yield f"{BEGIN}{self.style.summary(readable(summary), self.report.verdict is Verdict.NO_RACE)}"
+
+    def _summary(self, causes: list[Entry]) -> str:
+        """What was found on which things, and how often. On a screen it takes one row, if it can."""
+        for most in range(MOST_NAMED, 0, -1):
+            line = f"{BEGIN}{readable(_counts(causes, most))}"
+            if self.screen is None or columns_of(line) <= self.screen.columns:
+                break
+        return line
+
+    def _whole(self, found: list[Entry]) -> Iterator[str]:
         """Each entry with all its lines, up to the most that are asked for."""
         most = self.shown.most
         for entry in found[:most]:
             yield from self._entry(entry)
         if most is not None and len(found) > most:
-            yield f"itc_trace: and {len(found) - most} more, which --max {most} leaves out"
+            yield f"{BEGIN}and {len(found) - most} more, which --max {most} leaves out"
 
-    def within(self, room: int, found: list[Entry]) -> Iterator[str]:
-        """The first entries with all their lines, and a line for each of the others, as far as there is room for so
-        many lines."""
-        written: list[str] = []
-        number = 0
+    def _within(self, room: _Room, found: list[Entry]) -> list[str]:
+        """The first entries with all their lines, and a line for each of the others, as far as there is room.
+
+        On a screen their lines are cut where another entry would have none.
+        """
+        if not found:
+            return []
+        lines, is_whole = self._arranged(room, found, is_cut=False)
+        return lines if is_whole or self.screen is None else self._arranged(room, found, is_cut=True)[0]
+
+    def _arranged(self, room: _Room, found: list[Entry], is_cut: bool) -> tuple[list[str], bool]:
+        """The lines, and whether each entry has room."""
+        lines_of = self._cut_entry if is_cut else self._entry
+        lines = lines_of(found[0])
+        number = 1
         while number < len(found):
-            lines = list(self._entry(found[number]))
-            left = len(found) - number - 1
-            if number > 0 and len(written) + len(lines) + left + (left > 0) > room:
+            more = [*lines, *lines_of(found[number])]
+            if not room.holds(chain(more, self._others(found[number + 1 :], 0, is_cut))):
                 break
-            written += lines
-            number += 1
-        yield from written
-        if number < len(found):
-            yield f"itc_trace: the others in a line each: {self.shown.how}"
-            yield from self._short(room - len(written) - 1, found[number:])
+            lines, number = more, number + 1
+        rest = found[number:]
+        left = max(0, len(rest) - MOST_LINES)
+        while left < len(rest) and not room.holds(chain(lines, self._others(rest, left, is_cut))):
+            left += 1
+        lines += self._others(rest, left, is_cut)
+        return lines, left == 0 and room.holds(lines)
 
-    def _short(self, room: int, found: list[Entry]) -> Iterator[str]:
-        """A line for each of so many, or for as many as leave a line that counts the others."""
-        listed = len(found) if len(found) <= room else max(0, room - 1)
-        for entry in found[:listed]:
-            yield f"    {self.style.short(entry.shown, len(entry.findings) - 1, self.report.folder)}"
-        if listed < len(found):
-            yield f"    and {len(found) - listed} more"
+    def _others(self, found: list[Entry], left: int, is_cut: bool) -> Iterator[str]:
+        """A line for each but so many of the last ones. What is left out and cut is told behind them."""
+        if found:
+            yield f"{BEGIN}the others in a line each: {self.shown.how}"
+        for entry in found[: len(found) - left]:
+            line = short(entry.shown, len(entry.findings) - 1, self.screen)
+            yield f"{INDENT}{self.style.short(line.title, line.rest, entry.shown, self.report.folder)}"
+            is_cut = is_cut or line.is_cut
+        more = f"and {left} more" if left else ""
+        if self.screen is not None and (more or is_cut):
+            told = f"cut to fit here: {self.shown.how}, --max N or explain ID has the rest"
+            yield f"{INDENT}{more}{'; ' if more else ''}{told}"
+        elif more:
+            yield f"{INDENT}{more}"
 
-    def _entry(self, entry: Entry) -> Iterator[str]:
-        title, *further = self.style.lines(entry.shown, self.report.folder)
-        yield f"itc_trace: {title}"
-        yield from (f"    {line}" for line in further)
+    def _entry(self, entry: Entry) -> list[str]:
+        return self._written(entry, entry.shown.lines(), f"{readable(entry.more)}: {self.shown.how}")
+
+    def _cut_entry(self, entry: Entry) -> list[str]:
+        screen, how = self.screen or Screen(), f": {self.shown.how}"
+        more = screen.cut_words(f"{readable(entry.more)}{how}", screen.columns - columns_of(INDENT), how)
+        return self._written(entry, cut_lines(entry.shown, screen), more)
+
+    def _written(self, entry: Entry, told: list[str], more: str) -> list[str]:
+        title, *further = self.style.lines(told, entry.shown, self.report.folder)
+        lines = [f"{BEGIN}{title}", *(f"{INDENT}{line}" for line in further)]
         if self.report.picture is not None:
-            yield f"    {link(entry.shown, self.report.picture)}"
+            lines.append(f"{INDENT}{link(entry.shown, self.report.picture)}")
         if len(entry.findings) > 1:
-            yield f"    {readable(entry.more)}: {self.shown.how}"
+            lines.append(f"{INDENT}{more}")
+        return lines
 
 
-def _summary(causes: list[Entry]) -> str:
-    """What was found on which things, and how often."""
+def _counts(causes: list[Entry], most: int) -> str:
+    """What was found on which things, of which so many are named."""
     counts: dict[str, int] = {}
     for entry in causes:
         counts[entry.owner] = counts.get(entry.owner, 0) + len(entry.findings)
     most_first = sorted(counts.items(), key=lambda one: -one[1])
-    pairs = ", ".join(f"{owner} ({count})" for owner, count in most_first[:MOST_NAMED])
-    left = sum(count for _, count in most_first[MOST_NAMED:])
-    more = f" and {len(counts) - MOST_NAMED} more ({left})" if left else ""
+    pairs = ", ".join(f"{owner} ({count})" for owner, count in most_first[:most])
+    left = sum(count for _, count in most_first[most:])
+    more = f" and {len(counts) - most} more ({left})" if left else ""
     return f"pairs by their things: {pairs}{more}"
 
 
