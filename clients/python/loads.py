@@ -4,7 +4,8 @@ Usage: python3 clients/python/loads.py [--install] [--lists FOLDER] [LOAD..]
 
 The loads are redis, postgres and mosquitto. Each starts its service in a folder of its own, at a port that is free, and ends it. Those of
 django and waitress serve themselves. With --install it installs from Debian what it wants. A row of the table tells of the lines that were
-the same, and of the verdict. With --lists each load keeps the list of its watched run, and the same run's with each pair of lines. The
+the same, and of the verdict. With --lists each load keeps the list of its watched run: with each pair of lines, as a file gets it, and as a
+usual terminal does. A row of the table has the lines of the first two, and the rows of that terminal that each of the three takes. The
 status is 1 if a line is another one.
 """
 
@@ -12,23 +13,31 @@ from __future__ import annotations
 
 import argparse
 import contextlib
+import fcntl
 import os
+import pty
 import pwd
 import shutil
 import socket
+import struct
 import subprocess
 import sys
 import tempfile
+import termios
 import time
 from collections.abc import Callable, Iterator
 from pathlib import Path
 from typing import NamedTuple
+
+from itc_trace.report.screen import Screen
 
 PACKAGE = Path(__file__).resolve().parent
 PYTHON = "/usr/bin/python3"
 HOST = "127.0.0.1"
 READY_SECONDS = 120.0
 LONGEST = float(os.environ.get("ITC_LOAD_SECONDS", "900"))
+SCREEN = Screen()
+PLAIN = {**os.environ, "PYTHONPATH": str(PACKAGE), "TERM": "dumb"}
 OWNER_OF_DATA = "postgres"
 """Postgres does not run as root."""
 
@@ -288,19 +297,44 @@ def ran(load: Load, *options: str) -> subprocess.CompletedProcess[str]:
 
 
 def keep_lists(name: str, folder: Path) -> str:
-    """Keeps the list of a watched run, and the one with each pair of lines. Gives how many lines they have, as a row."""
+    """Keeps the list of a watched run as it is in a file and on a usual terminal, and the one with each pair of lines.
+
+    Gives how many lines they have, and how many rows of the terminal they take, as a row.
+    """
     load, export = LOADS[name], folder / f"{name}.export"
     ran(load, "--watch", load.client, "--export", str(export))
-    counts = []
-    for kind, options in (("list", []), ("all", ["--all"])):
-        words = [PYTHON, "-m", "itc_trace", "races", *options, str(export)]
-        environment = {**os.environ, "PYTHONPATH": str(PACKAGE)}
-        listed = subprocess.run(words, capture_output=True, text=True, env=environment, timeout=LONGEST, check=False).stdout
-        (folder / f"{name}.{kind}").write_text(listed)
-        counts.append(len(listed.splitlines()))
-    found = listed.splitlines()[-1].removeprefix("itc_trace: ").partition(" in this run")
-    more = found[2].partition("; not")[0].partition(":")[0]
-    return f"| `{load.client}` | {found[0]}{more} | {counts[1]} | {counts[0]} |"
+    found = {"all": list_of(export, "--all"), "list": list_of(export), "screen": list_at_terminal(export)}
+    for kind, text in found.items():
+        (folder / f"{name}.{kind}").write_text(text)
+    everything, listed, shown = (text.splitlines() for text in found.values())
+    count, _, more = listed[-1].removeprefix("itc_trace: ").partition(" in this run")
+    rows = [sum(map(SCREEN.rows_of, lines)) for lines in (everything, listed, shown)]
+    told_more = more.partition("; not")[0].partition(":")[0]
+    return f"| `{load.client}` | {count}{told_more} | {len(everything)} | {len(listed)} | {' | '.join(map(str, rows))} |"
+
+
+def words_of_list(export: Path, *options: str) -> list[str]:
+    return [PYTHON, "-m", "itc_trace", "races", *options, str(export)]
+
+
+def list_of(export: Path, *options: str) -> str:
+    words = words_of_list(export, *options)
+    return subprocess.run(words, capture_output=True, text=True, env=PLAIN, timeout=LONGEST, check=False).stdout
+
+
+def list_at_terminal(export: Path) -> str:
+    """What a person sees on a terminal of the usual size."""
+    screen, terminal = pty.openpty()
+    fcntl.ioctl(terminal, termios.TIOCSWINSZ, struct.pack("HHHH", SCREEN.rows, SCREEN.columns, 0, 0))
+    running_list = subprocess.Popen(words_of_list(export), stdin=terminal, stdout=terminal, stderr=terminal, env=PLAIN)
+    os.close(terminal)
+    shown = b""
+    with contextlib.suppress(OSError):  # The other end is closed, and all was read.
+        while piece := os.read(screen, 65536):
+            shown += piece
+    os.close(screen)
+    running_list.wait(LONGEST)
+    return shown.decode().replace("\r\n", "\n")
 
 
 def told(name: str) -> tuple[str, bool]:
