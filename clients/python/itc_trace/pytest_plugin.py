@@ -32,6 +32,7 @@ from .cli.reporting import STANDARD_OUTPUT, Wanted, deliver
 from .cli.saying import say
 from .cli.settings import FILE, Settings, read_settings
 from .model.finding import named
+from .model.verdict import Cause
 from .processes.hanging import leave_without_those_left, limited, tell_closed_cycle
 from .record.collector import Collector
 from .record.faults import Fault
@@ -54,6 +55,8 @@ FILES = {
     "--races-sarif": "write it there as SARIF 2.1.0",
 }
 """The options that name a file."""
+PHASES = ("setup", "call", "teardown")
+LOST = "the process that ran the test has ended before it told what was seen"
 FOUND = "itc_trace_found"
 """The attribute of a test's report by which what was found comes from the process of a worker."""
 SHOWN = Shown(how="-v shows them at the end")
@@ -355,16 +358,23 @@ class _Summary:
 
     def __init__(self, config: pytest.Config) -> None:
         self._config = config
+        self._lost: list[str] = []
+        """The tests whose processes have ended while they ran. Which of them were traced is not known."""
 
     def pytest_runtest_logreport(self, report: pytest.TestReport) -> None:
         found = getattr(report, FOUND, None)
         if found is not None:
             self._config.stash[_met].add(report.nodeid, report_of_object(found))
+        elif report.when not in PHASES:
+            self._lost.append(report.nodeid)
 
     @pytest.hookimpl(trylast=True)  # type: ignore[misc]
     def pytest_sessionfinish(self, session: pytest.Session) -> None:
         """Writes the files that are asked for."""
         met, asked = self._config.stash[_met], self._config.stash[_asked]
+        if met.reports or asked.formats or self._config.getoption("--races"):
+            for test in self._lost:
+                met.add(test, not_traced(LOST, Cause.KILLED))
         if not met.reports:
             return
         files = {name: file for name, file in asked.formats.items() if file != STANDARD_OUTPUT}

@@ -75,6 +75,23 @@ class Summaries(unittest.TestCase):
         report = report_of_json((self.folder / "r.json").read_text())
         self.assertEqual(sorted(len(one.tests) for one in report.findings), [1, 2])
 
+    def test_a_worker_that_ends_within_a_test_leaves_the_run_incomplete(self) -> None:
+        (self.folder / "test_shop.py").write_text(f"import os\n{TESTS}def test_ends(): os._exit(0)\n")
+        ran = self.run_tests("--tb=no", "-n", "2", "-k", "quiet or ends", "--races-json", "r.json")
+        self.assertEqual(ran.returncode, 1, ran.stderr)
+        self.assertIn("itc_trace: incomplete: test_shop.py::test_ends: the process that ran the test has ended before", self.section(ran.stdout))
+        self.assertIn("\nitc_trace: no race in what was seen of 2 tests", self.section(ran.stdout))
+        self.assertEqual(report_of_json((self.folder / "r.json").read_text()).verdict, Verdict.INCOMPLETE)
+
+    def test_a_race_of_one_worker_stays_if_another_runs_the_same_test(self) -> None:
+        for racing in (["gw0"], ["gw1"], ["gw0", "gw1"]):
+            work = f"run(sell) if os.environ['PYTEST_XDIST_WORKER'] in {racing} else time.sleep(3)"
+            tests = TESTS.replace("def test_sells(): run(sell)", f"def test_sells(): {work}")
+            (self.folder / "test_shop.py").write_text(f"import os, time\n{tests}")
+            ran = self.run_tests("--tb=no", "--dist", "each", "--tx", "2*popen", "-k", "test_sells and not again")
+            self.assertEqual(ran.returncode, 1, ran.stderr)
+            self.assertIn("1 race: test_shop.py::test_sells\nitc_trace: 1 race in 1 test", self.section(ran.stdout))
+
     def test_a_baseline_is_made_by_tests_and_holds_in_each_of_them(self) -> None:
         self.assertEqual(self.run_tests("-q", "--tb=no", "--races-write-baseline", "known.json", "-k", "sells").returncode, 1)
         kept = json.loads((self.folder / "known.json").read_text())["races"]

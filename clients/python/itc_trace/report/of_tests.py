@@ -20,16 +20,20 @@ class OfTests:
     """The reports of all tests that were traced."""
 
     baseline: list[Known] = field(default_factory=list)
-    reports: dict[str, Report] = field(default_factory=dict)
-    """By the name of the test."""
+    reports: dict[str, list[Report]] = field(default_factory=dict)
+    """By the name of the test, which may run in each of several processes."""
 
     def add(self, test: str, report: Report) -> None:
-        self.reports[test] = report
+        self.reports.setdefault(test, []).append(report)
+
+    @property
+    def _all(self) -> list[tuple[str, Report]]:
+        return [(test, report) for test, reports in self.reports.items() for report in reports]
 
     @property
     def met(self) -> set[Known]:
         """All that was found and is not meant, whether it was known or not."""
-        return {one.known_as for report in self.reports.values() for one in (*report.findings, *report.known)}
+        return {one.known_as for _, report in self._all for one in (*report.findings, *report.known)}
 
     def report(self, fail_on_possible: bool) -> Report:
         """What all tests met. What several of them met stands there once, with their names."""
@@ -38,15 +42,15 @@ class OfTests:
         raced = {(one.identity, one.thing) for one in races}
         possible = [one for one in found if one.is_possible and (one.identity, one.thing) not in raced]
         unseen = [
-            Unseen(one.cause, f"{test}: {one.text}") for test, report in self.reports.items() for one in report.unseen
+            Unseen(one.cause, f"{test}: {one.text}") for test, report in self._all for one in report.unseen
         ]
-        passed_over = list(dict.fromkeys(one for report in self.reports.values() for one in report.passed_over))
+        passed_over = list(dict.fromkeys(one for _, report in self._all for one in report.passed_over))
         silenced, known = self._merged("silenced"), self._merged("known")
         return Report(
             verdict_of(len(races) + (len(possible) if fail_on_possible else 0), unseen),
             self._summary([*races, *possible], len(silenced), len(known), bool(unseen), passed_over),
             [*races, *possible], silenced, known, [one for one in self.baseline if one not in self.met], unseen,
-            passed_over, list(dict.fromkeys(hint for report in self.reports.values() for hint in report.hints)),
+            passed_over, list(dict.fromkeys(hint for _, report in self._all for hint in report.hints)),
             {"tests": len(self.reports)},
         )
 
@@ -54,7 +58,7 @@ class OfTests:
         """The findings of one list of each report, each with its tests."""
         merged: dict[Key, Finding] = {}
         tests: dict[Key, list[str]] = {}
-        for test, report in self.reports.items():
+        for test, report in self._all:
             for finding in getattr(report, name):
                 key = finding.kind, finding.identity
                 merged.setdefault(key, finding)
@@ -77,8 +81,9 @@ class OfTests:
 
     def by_test(self) -> Iterator[str]:
         """How many races each test met, a line for each that met some."""
-        for test, report in self.reports.items():
-            kinds = Counter(finding.told_kind for finding in report.findings)
+        for test, reports in self.reports.items():
+            places = {(one.told_kind, one.identity, _places(one)): one for report in reports for one in report.findings}
+            kinds = Counter(finding.told_kind for finding in places.values())
             if kinds:
                 told = ", ".join(f"{count} {kind}{'' if count == 1 else 's'}" for kind, count in kinds.items())
                 yield f"{told}: {test}"
@@ -87,11 +92,15 @@ class OfTests:
 def short(findings: Iterable[Finding]) -> Iterator[str]:
     """A line for each finding."""
     for finding in findings:
-        places = " and ".join(dict.fromkeys(side.place for side in finding.sides))
+        places = " and ".join(_places(finding))
         tests = "1 test" if len(finding.tests) == 1 else f"{len(finding.tests)} tests"
         yield readable(f"{finding.told_kind} on {finding.thing} at {places}, in {tests}; id {finding.identity}")
 
 
-def not_traced(why: str) -> Report:
-    """Of a test that was not traced."""
-    return Report(Verdict.INCOMPLETE, why, unseen=[Unseen(Cause.TRACER, why)])
+def _places(finding: Finding) -> tuple[str, ...]:
+    return tuple(dict.fromkeys(side.place for side in finding.sides))
+
+
+def not_traced(why: str, cause: Cause = Cause.TRACER) -> Report:
+    """Of a test that was not traced, or not to its end."""
+    return Report(Verdict.INCOMPLETE, why, unseen=[Unseen(cause, why)])
