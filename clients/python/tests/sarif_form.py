@@ -10,6 +10,8 @@ LEVELS = ("none", "note", "warning", "error")
 COLUMN_KINDS = ("utf16CodeUnits", "unicodeCodePoints")
 LINK = re.compile(r"\]\(([^)]*)\)")
 """The end of a link from a message to a place, behind the text of the link."""
+WHOLE_LINK = re.compile(r"\[((?:[^\[\]\\]|\\[\[\]\\])*)\]\(\d+\)")
+"""A link, in whose text a bracket and a backslash stand behind a backslash."""
 NEEDED: dict[str, tuple[dict[str, type], tuple[str, ...]]] = {
     "log": ({"version": str, "runs": list, "$schema": str}, ("version", "runs")),
     "run": (
@@ -77,6 +79,7 @@ def _log(told: Any) -> Iterator[str]:
             yield from _object("invocation", invocation)
             for one in invocation.get("toolExecutionNotifications", []):
                 yield from _object("notification", one)
+                yield from _message(one["message"])
                 yield from _level(one)
         for base in run["originalUriBaseIds"].values():
             yield from _object("base", base)
@@ -103,7 +106,7 @@ def _level(told: Any) -> Iterator[str]:
 
 def _result(result: Any, run: Any) -> Iterator[str]:
     yield from _object("result", result)
-    yield from _object("message", result["message"])
+    yield from _message(result["message"])
     yield from _level(result)
     if run["tool"]["driver"]["rules"][result["ruleIndex"]]["id"] != result["ruleId"]:
         yield "the index is of another rule"
@@ -130,6 +133,16 @@ def _result(result: Any, run: Any) -> Iterator[str]:
     yield from (f"the message names place {number}" for number in _named(result["message"]["text"]) if number not in numbers)
 
 
+def _message(told: Any) -> Iterator[str]:
+    yield from _object("message", told)
+    if re.search(r"[\0-\x08\x0a-\x1f\x7f-\x9f\u200e\u200f\u2028-\u202e]", told["text"]):
+        yield "a message has what steers a terminal"
+    if re.search(r"[{}]", told["text"].replace("{{", "").replace("}}", "")):
+        yield "a message has a brace that something is put into"
+    if len(WHOLE_LINK.findall(told["text"])) != len(LINK.findall(told["text"])):
+        yield "the text of a link has a bracket"
+
+
 def _named(message: str) -> Iterator[int]:
     for number in LINK.findall(message):
         yield int(number) if number.isdecimal() else -1
@@ -137,7 +150,7 @@ def _named(message: str) -> Iterator[int]:
 
 def _location(place: Any, run: Any) -> Iterator[str]:
     yield from _object("location", place)
-    yield from _object("message", place["message"])
+    yield from _message(place["message"])
     for one in place.get("logicalLocations", []):
         yield from _object("logicalLocation", one)
     physical = place.get("physicalLocation")

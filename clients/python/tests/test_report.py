@@ -101,6 +101,9 @@ class Formats(unittest.TestCase):
             "base": lambda log: place(log)["artifactLocation"].update(uriBaseId="HERE"), "whole": lambda log: place(log)["artifactLocation"].pop("uriBaseId"),
             "no slash": lambda log: log["runs"][0]["originalUriBaseIds"]["SRCROOT"].update(uri="file:///work"),
             "place": lambda log: result(log)["message"].update(text="[a](7)"), "link": lambda log: result(log)["message"].update(text="x['a](b)']"),
+            "brace": lambda log: result(log)["message"].update(text="x{0}"), "bell": lambda log: result(log)["message"].update(text="\a"),
+            "bracket": lambda log: result(log)["message"].update(text="[a[0]](1)"),
+            "note": lambda log: log["runs"][0]["invocations"][0]["toolExecutionNotifications"][0]["message"].update(text="\x1b[1m"),
             "ids": lambda log: result(log)["relatedLocations"][0].update(id=0), "fingerprint": lambda log: result(log).update(partialFingerprints={"a": "b"}),
             "twice": lambda log: result(log)["relatedLocations"].append(dict(result(log)["relatedLocations"][0])),
         }
@@ -112,6 +115,19 @@ class Formats(unittest.TestCase):
                     self.assertNotEqual(faults(log), [])
                 except KeyError:
                     pass  # It is not even there to be looked at.
+
+    def test_brackets_and_braces_of_names_are_told_as_they_are(self) -> None:
+        lock = Finding("deadlock", "locks[0] and locks['{1}']", tuple(
+            FoundSide(kind, "shop.py", line, "work", task, line) for line, (kind, task) in
+            enumerate((("holds locks[0]", "one"), ("wants locks['{1}']", "one"), ("holds a\\b", "two"), ("wants c", "two")), 1)
+        ), "each waits for {lock} of the other")
+        log = json.loads(sarif(Report(Verdict.RACES, "1 deadlock in this run", [lock], folder="/work")))
+        self.assertEqual(faults(log), [])
+        self.assertEqual(
+            log["runs"][0]["results"][0]["message"]["text"],
+            "deadlock on locks[0] and locks['{{1}}']: holds locks[0] by one, and [wants locks\\['{{1}}'\\] by one](1), "
+            f"[holds a\\\\b by two](2), [wants c by two](3): each waits for {{{{lock}}}} of the other (id {lock.identity})",
+        )
 
     def test_what_a_key_has_is_no_link(self) -> None:
         report = stored()
@@ -170,7 +186,8 @@ class Names(unittest.TestCase):
     def report(self, file: str) -> Report:
         sides = tuple(FoundSide("write", file, line, "sell", task, line, is_write=True, begin=line, text=("x = 1",))
                       for line, task in ((4, "sell_1"), (5, "sell_2")))
-        finding = Finding("race", "stock", sides, "nothing orders them", made=f"a dict made at {file}:2")
+        why = f"ordered in this run only by lock ({file}:9)"
+        finding = Finding("race", "stock", sides, why, made=f"a dict made at {file}:2")
         return Report(
             Verdict.RACES, f"1 race in this run; not looked into: exec at {file}:3", [finding], unseen=[Unseen(Cause.MODULE, f"{file} was not watched")],
             hints=[f"the socket at {file}:7 gives no order"], folder="/work", picture=f"/work/{file}.html",
@@ -200,6 +217,8 @@ class Names(unittest.TestCase):
                 self.assertEqual(os.fsdecode(unquote_to_bytes(uri)), file)
                 self.assertEqual(len(written["github"].split("\n")), 3)
                 self.assertRegex(written["github"], r"\A::error file=[^:,]+,line=4,title=[^:,]+::race on stock")
+                self.assertNotRegex(written["github"], r"[\0-\x08\x0b-\x1f\x7f-\x9f]")
+                self.assertIn(f"::incomplete: {readable(file).replace('%', '%25')} was not watched\n", written["github"])
 
     def test_a_line_by_which_it_is_meant_fits(self) -> None:
         for file in HOSTILE:
@@ -316,6 +335,23 @@ class Commands(unittest.TestCase):
                 ran = self.run_here("run", *words, "shop.py")
                 self.assertEqual((ran.returncode, ran.stderr), (2, f"itc_trace: {said}\n"))
         self.assertEqual((self.folder / "shop.py").read_text(), SELLING)
+
+    def test_no_name_steers_the_terminal_of_who_is_told_of_it(self) -> None:
+        name = "e\033[31m.py"
+        (self.folder / name).write_text(f"exec('1')\n{SELLING}")
+        (self.folder / "set.toml").write_text('[tool.itc_trace]\n"be\\u001b[31mn" = 1\n')
+        for words, status in (
+            (["run", "--runs", "2", "--no-shake", name], 66), (["run", "--export", "g", "--write-baseline", "b\033[1m", name], 66),
+            (["explain", "0000", "g"], 2), (["races", "--json", "no\033[1m/x", "g"], 2), (["races", "--benign", "no\033[1m", "g"], 2),
+            (["races", "no\033[1m"], 2), (["ra\033[1mces"], 2), (["races", "g", "--al\033[1ml"], 2), (["races", "g"], 2),
+        ):
+            if words == ["races", "g"]:
+                (self.folder / "set.toml").rename(self.folder / "pyproject.toml")
+            with self.subTest(words):
+                ran = self.run_here(*words)
+                self.assertEqual(ran.returncode, status, ran.stderr)
+                self.assertNotIn("\033", ran.stdout + ran.stderr)
+                self.assertIn("1 race" if status == 66 else "itc_trace: ", ran.stderr)
 
     def test_no_race_is_told_in_each_format_too(self) -> None:
         (self.folder / "shop.py").write_text("print('sold')\n")

@@ -12,6 +12,7 @@ import sys
 
 from ..analyse.baseline import read_baseline, write_baseline
 from ..analyse.benign import Looking, read_patterns
+from ..model.readable import readable
 from ..record.collector import HOST, NoCollector
 from ..record.faults import WORDS_REFUSED, Fault, in_words, look, look_for_collector
 from ..record.journal import NoJournal
@@ -264,10 +265,11 @@ def _is_baseline_written(file: str, looking: Looking) -> bool:
     try:
         write_baseline(file, looking.met)
     except OSError as fault:
-        say(f"itc_trace: {file} cannot be written: {fault.strerror}")
+        say(f"itc_trace: {readable(file)} cannot be written: {fault.strerror}")
         return False
     count = len(looking.met)
-    say(f"itc_trace: {file} has {count} race{'' if count == 1 else 's'}: --baseline {file} fails on others only")
+    name = readable(file)
+    say(f"itc_trace: {name} has {count} race{'' if count == 1 else 's'}: --baseline {name} fails on others only")
     return True
 
 

@@ -7,6 +7,7 @@ import json
 import os
 
 from ..analyse.benign import Looking, read_patterns
+from ..model.readable import readable
 from ..record.faults import Fault
 from ..report.as_json import NoReport, report_of_json
 from ..report.explaining import NoFinding, benign_line, explained, finding_by, is_meant
@@ -65,10 +66,10 @@ def _of_json(kept: KeptTrace) -> Report:
 
 def _add_line(file: str, line: str, is_there: bool) -> None:
     if is_there:
-        say(f"itc_trace: {file} has the race already: --benign {file} silences it")
+        say(readable(f"itc_trace: {file} has the race already: --benign {file} silences it"))
         return
     with open(file, "a+", encoding="utf-8") as written:
         written.seek(0)
         before = written.read()
         written.write(f"{'' if not before or before.endswith(chr(10)) else chr(10)}{line}\n")
-    say(f"itc_trace: {file} has a line more: --benign {file} silences the race")
+    say(readable(f"itc_trace: {file} has a line more: --benign {file} silences the race"))

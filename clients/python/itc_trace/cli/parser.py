@@ -9,6 +9,7 @@ import sys
 from collections.abc import Sequence
 from typing import Any, NoReturn
 
+from ..model.readable import readable
 from ..record.faults import WORDS_REFUSED
 from .saying import UNWRITTEN, say, write
 
@@ -71,7 +72,7 @@ class Parser(argparse.ArgumentParser):
             sys.exit(UNWRITTEN)
 
     def refuse(self, why: str) -> NoReturn:
-        say(f"itc_trace: {why}: see `{self.prog} --help`")
+        say(f"itc_trace: {readable(why)}: see `{self.prog} --help`")
         sys.exit(WORDS_REFUSED)
 
     def parse_all(self, words: Sequence[str]) -> argparse.Namespace:

@@ -5,6 +5,7 @@ from __future__ import annotations
 from dataclasses import dataclass, field
 from typing import TextIO
 
+from ..model.readable import readable
 from ..record.faults import Fault
 from ..record.whole_file import replacing
 from ..report.formats import FORMATS
@@ -80,6 +81,6 @@ def _write(text: str, file: str) -> bool:
         with replacing(file) as new, open(new, "wb") as written:
             written.write(told)
     except OSError as fault:
-        say(f"itc_trace: {file} cannot be written: {fault.strerror}")
+        say(f"itc_trace: {readable(file)} cannot be written: {fault.strerror}")
         return False
     return True

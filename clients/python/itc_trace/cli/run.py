@@ -49,6 +49,7 @@ from ..session import Refused
 from ..analyse.snapshot import snapshot
 from ..sync.meeting import Plan
 from ..model.finding import runs_in_words
+from ..model.readable import readable
 from ..model.verdict import BREAKS_OFF, REMOVED, Cause, PassedOver, Unseen, Verdict
 from ..watch import excluding
 
@@ -137,7 +138,7 @@ def run(asked: Run) -> int:
         with ends_by_signals():
             return _run_once(asked, asked.seed) if asked.runs == 1 else _run_often(asked)
     except Ended as ended:
-        say(f"itc_trace: incomplete: {ended}")
+        say(f"itc_trace: incomplete: {readable(str(ended))}")
         return keep_status(asked.status_file, Verdict.INCOMPLETE, None)
 
 
@@ -354,7 +355,8 @@ def _run_each(asked: Run, files: contextlib.ExitStack) -> int:
         merged.add(outcome.races, outcome.status, seed, bool(tried))
         if not asked.quiet:
             left = left_in_words(time.monotonic() - begun, number, asked.runs) if is_terminal(sys.stderr) else ""
-            say(f"itc_trace: run {number} of {asked.runs}{_by_seed(seed)}: {outcome.races.found()}{left}")
+            told = f"run {number} of {asked.runs}{_by_seed(seed)}: {outcome.races.found()}{left}"
+            say(f"itc_trace: {readable(told)}")
         if is_asked_to_end():
             break
     if asked.is_confirmed:

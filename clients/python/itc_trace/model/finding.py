@@ -238,8 +238,8 @@ class Finding:
 
     def lines(self) -> list[str]:
         """In words for a person. All but the first are to be indented."""
-        seen = [str(self.seen)] if self.seen else []
-        return [self.title, *self.told_sides, self.told_order, *seen, *([self.told_tests] if self.tests else [])]
+        seen, tests = [str(self.seen)] if self.seen else [], [readable(self.told_tests)] if self.tests else []
+        return [self.title, *self.told_sides, self.told_order, *seen, *tests]
 
 
 def _events(sides: tuple[FoundSide, ...]) -> str:

@@ -10,6 +10,7 @@ import threading
 from collections.abc import Iterator
 
 from .collector import HOST
+from ..model.readable import readable
 from ..session import LONGEST_ANSWER, Refused, Session
 
 WORDS_REFUSED = 2
@@ -125,5 +126,5 @@ def _tell(what: str) -> None:
 def in_words(fault: Exception) -> str:
     """What a fault says to a person: of a file, which one, and not the number of the error."""
     if isinstance(fault, OSError) and fault.strerror and not isinstance(fault, Fault):
-        return f"{fault.filename}: {fault.strerror}" if fault.filename is not None else fault.strerror
-    return str(fault)
+        return readable(f"{fault.filename}: {fault.strerror}" if fault.filename is not None else fault.strerror)
+    return readable(str(fault))

@@ -3,16 +3,20 @@
 from __future__ import annotations
 
 import os
+import re
 from collections.abc import Iterator
 from pathlib import PurePath
 
 from ..model.finding import Finding, FoundSide
+from ..model.readable import readable
 from ..model.verdict import Verdict, reasons
 from .report import Report
 
 
 REPOSITORY = "GITHUB_WORKSPACE"
 """The variable of the environment by which a workflow names the folder of its repository."""
+CONTROLS = re.compile("[\0-\x08\x0b\x0c\x0e-\x1f\x7f-\x9f]")
+"""All but a tab and what ends a line, which a command has a word for."""
 
 
 def github(report: Report) -> str:
@@ -25,7 +29,7 @@ def _lines(report: Report, root: str) -> Iterator[str]:
         yield _annotation(finding, report.folder, root)
     if report.unseen:
         level = "error" if report.verdict is Verdict.INCOMPLETE else "warning"
-        yield f"::{level} title=itc-trace::{_data(f'incomplete: {reasons(report.unseen)}')}"
+        yield f"::{level} title=itc-trace::{_data(readable(f'incomplete: {reasons(report.unseen)}'))}"
 
 
 def _annotation(finding: Finding, folder: str, root: str) -> str:
@@ -52,4 +56,6 @@ def _data(text: str) -> str:
 
 
 def _property(text: str) -> str:
-    return _data(text).replace(":", "%3A").replace(",", "%2C")
+    """What steers a terminal is told as Python writes it, as no name of a repository has it."""
+    shown = CONTROLS.sub(lambda found: readable(found[0]), text)
+    return _data(shown).replace(":", "%3A").replace(",", "%2C")

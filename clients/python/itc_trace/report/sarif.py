@@ -4,11 +4,12 @@ from __future__ import annotations
 
 import json
 import os
+import re
 from pathlib import PurePath
 from typing import Any
 
 from ..model.finding import Finding, FoundSide
-from ..model.readable import uri_of
+from ..model.readable import readable, uri_of
 from ..model.verdict import Verdict
 from .report import Report
 
@@ -63,7 +64,7 @@ def _id(kind: str) -> str:
 
 def _invocation(report: Report) -> dict[str, Any]:
     """Whether the run was seen whole. What was not is told as the tool's own notification."""
-    told = [{"level": "error", "message": {"text": one.text}} for one in report.unseen]
+    told = [{"level": "error", "message": {"text": _text(one.text)}} for one in report.unseen]
     is_whole = report.verdict is not Verdict.INCOMPLETE and not report.unseen
     return {"executionSuccessful": is_whole, **({"toolExecutionNotifications": told} if told else {})}
 
@@ -72,9 +73,10 @@ def _result(finding: Finding, report: Report, kinds: list[str], suppressed: str 
     """The first side that writes is the place of the result, and the others are related to it."""
     sides = sorted(finding.sides, key=lambda side: not side.is_write)
     related = [_location(side, report, number) for number, side in enumerate(sides[1:], 1)]
-    others = ", ".join(f"[{side.kind} by {side.task}]({number})" for number, side in enumerate(sides[1:], 1))
-    first = _without_links(f"{finding.title}: {sides[0].kind} by {sides[0].task}")
-    told = f"{first}, and {others}: {_without_links(finding.why)} (id {finding.identity})"
+    others = ", ".join(
+        f"[{_link_text(_told(side))}]({number})" for number, side in enumerate(sides[1:], 1)
+    )
+    told = f"{_text(f'{finding.title}: {_told(sides[0])}')}, and {others}: {_text(finding.why)} (id {finding.identity})"
     return {
         "ruleId": _id(finding.kind), "ruleIndex": kinds.index(finding.kind),
         "level": "warning" if finding.is_possible else "error", "message": {"text": told},
@@ -85,13 +87,27 @@ def _result(finding: Finding, report: Report, kinds: list[str], suppressed: str 
     }
 
 
-def _without_links(text: str) -> str:
-    """The text, in which a key of the program as `](7)` leads to no place."""
-    return text.replace("](", "] (")
+def _told(side: FoundSide) -> str:
+    return f"{side.kind} by {side.task}"
+
+
+def _text(text: str) -> str:
+    """The text as it stands in a message. A key of the program as `](7)` leads to no place."""
+    return _plain(text).replace("](", "] (")
+
+
+def _link_text(text: str) -> str:
+    """The text as it stands in the brackets of a link."""
+    return re.sub(r"[\[\]\\]", r"\\\g<0>", _plain(text))
+
+
+def _plain(text: str) -> str:
+    """The text without what steers a terminal. A brace stands twice, as a single one begins what is put in later."""
+    return readable(text).replace("{", "{{").replace("}", "}}")
 
 
 def _location(side: FoundSide, report: Report, number: int | None = None) -> dict[str, Any]:
-    told: dict[str, Any] = {"message": {"text": f"{side.kind} by {side.task}"}}
+    told: dict[str, Any] = {"message": {"text": _text(_told(side))}}
     if number is not None:
         told["id"] = number
     if side.file:
