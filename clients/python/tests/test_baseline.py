@@ -98,10 +98,19 @@ class Baselines(unittest.TestCase):
         file = self.folder / "known.json"
         for text, told in (("", "is no baseline"), ("[" * 100_000, "is no baseline"), ("[]", "is no baseline"), ("{}", "is no baseline"), ('{"version":1,"races":[{}]}', "is no baseline"),
                            ('{"version":2,"races":[]}', "is a baseline of version 2, and not of 1"),
+                           ('{"version":2,"kept":"otherwise"}', "is a baseline of version 2, and not of 1"),
+                           ('{"version":"1","races":[]}', "is no baseline"), ('{"version":true,"races":[]}', "is no baseline"),
+                           ('{"version":1,"races":{}}', "is no baseline"), ('{"version":1,"races":[{"thing":["x"],"sides":[]}]}', "is no baseline"),
+                           ('{"version":1,"races":[{"thing":"x","sides":{}}]}', "is no baseline"), ('{"version":1,"races":[7]}', "is no baseline"),
+                           ('{"version":1,"races":[{"thing":"x","sides":["write"]}]}', "is no baseline"),
+                           ('{"version":1,"races":[{"thing":"x","sides":[{"kind":"a","function":"f","source":[3]}]}]}', "is no baseline"),
                            ('{"version":1,"races":[{"thing":"x","sides":[{"kind":"write"}]}]}', "is no baseline")):
             file.write_text(text)
             with self.subTest(text), self.assertRaisesRegex(Fault, told):
                 read_baseline(str(file))
+        for name, told in (("no.json", "No such file or directory: --write-baseline no.json makes it"), (".", "Is a directory$")):
+            with self.subTest(name), self.assertRaisesRegex(Fault, told):
+                read_baseline(name)
 
 
 if __name__ == "__main__":

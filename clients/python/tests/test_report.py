@@ -9,7 +9,7 @@ import subprocess
 import sys
 import tempfile
 import unittest
-from collections.abc import Callable
+from collections.abc import Callable, Iterator
 from dataclasses import replace
 from pathlib import Path
 from typing import Any
@@ -170,10 +170,40 @@ class Formats(unittest.TestCase):
             with self.subTest(one[:60]), self.assertRaises(NoReport):
                 report_of_json(one)
 
+    def test_no_value_of_another_type_gets_as_far_as_a_story(self) -> None:
+        whole, refused = json.loads(json_text(stored())), 0
+        for place in places_of(whole):
+            for value in (7, 1.5, "x", None, True, [], {}, [7], [[]]):
+                try:
+                    report = report_of_json(json.dumps(with_value(whole, place, value)))
+                except NoReport:
+                    refused += 1
+                    continue
+                for finding in report.all_findings:
+                    explained(finding, report)
+                    benign_line(finding)
+        self.assertGreater(refused, 1000)
+
     def test_links_lead_to_both_touches(self) -> None:
         first, second = stored().findings[:2]
         self.assertEqual(link(first, "/a b.html"), "file:///a%20b.html#event=3&other=9")
         self.assertEqual(link(second, "/x.html"), "file:///x.html#part=3&event=40")
+
+
+def places_of(told: Any, before: tuple[Any, ...] = ()) -> Iterator[tuple[Any, ...]]:
+    """Each place within a value of JSON."""
+    if before:
+        yield before
+    for key in told if isinstance(told, dict) else range(len(told)) if isinstance(told, list) else ():
+        yield from places_of(told[key], (*before, key))
+
+
+def with_value(told: Any, place: tuple[Any, ...], value: object) -> Any:
+    """The same with another value at a place."""
+    key, *rest = place
+    changed = told.copy()
+    changed[key] = with_value(told[key], tuple(rest), value) if rest else value
+    return changed
 
 
 HOSTILE = ("new\nline.py", "rtl\u202egpj.py", "esc\033[31m.py", "bell\a.py", "caf\udce9.py", "a b.py", "per%cent,colon:.py", "quo\"te'.py")

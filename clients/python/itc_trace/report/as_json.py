@@ -6,6 +6,7 @@ import json
 from collections.abc import Iterable
 from typing import Any
 
+from ..model.form import has_form
 from ..model.finding import Finding, FoundSide, Known, KnownSide, Seen, Step, Story
 from ..model.verdict import Cause, PassedOver, Unseen, Verdict
 from .report import Report
@@ -74,16 +75,19 @@ def _side_as_object(side: FoundSide) -> dict[str, Any]:
 def report_of_json(text: str) -> Report:
     """The report that was written so."""
     try:
-        return report_of_object(json.loads(text))
+        report = report_of_object(json.loads(text))
     except (ValueError, TypeError, KeyError, AttributeError, RecursionError) as fault:
         raise NoReport("it is no report of --json") from fault
+    if not has_form(report, Report):
+        raise NoReport("it is no report of --json")
+    return report
 
 
 def report_of_object(told: dict[str, Any]) -> Report:
     if told["version"] != VERSION:
         raise NoReport(f"it is a report of version {told['version']}, and not of {VERSION}")
     found, silenced, known = (
-        [finding_of_object(one) for one in told[name]] for name in ("findings", "silenced", "known")
+        [finding_of_object(one) for one in _list(told[name])] for name in ("findings", "silenced", "known")
     )
     gone = [Known(one["thing"], tuple(KnownSide(**side) for side in one["sides"])) for one in told["gone"]]
     return Report(
@@ -92,6 +96,12 @@ def report_of_object(told: dict[str, Any]) -> Report:
         [PassedOver(**one) for one in told["passed_over"]], told["hints"], told["counts"], told["picture"],
         told["folder"],
     )
+
+
+def _list(told: Any) -> list[Any]:
+    if not isinstance(told, list):
+        raise TypeError(f"{told!r} is no list")
+    return told
 
 
 def finding_of_object(told: dict[str, Any]) -> Finding:
