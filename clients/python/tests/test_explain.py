@@ -20,7 +20,7 @@ from itc_trace.model.sources import Sources
 from itc_trace.model.verdict import Verdict
 from itc_trace.record.journal import Row
 from itc_trace.report.as_json import finding_of_object, report_of_json
-from itc_trace.report.explaining import benign_line, explained
+from itc_trace.report.explaining import NoFinding, benign_line, explained, finding_by
 from itc_trace.report.report import Report
 
 from .support import PACKAGE
@@ -194,6 +194,40 @@ class InParts(unittest.TestCase):
         told = explained(Finding(RACE, "stock", sides, "nothing orders them", story=self.story()), Report(Verdict.RACES, ""))
         for line in ("after   event 6: end", "before  event 7: wait at shop.py:8", "after   event 3 of part 3: end"):
             self.assertIn(f"    {line}\n", told)
+
+
+class Prefixes(unittest.TestCase):
+    """An identity may be cut short, as long as it is that of one finding."""
+
+    def setUp(self) -> None:
+        findings = [Finding(RACE, f"stock[{number}]", (), "nothing orders them") for number in range(2000)]
+        groups: dict[str, list[Finding]] = {}
+        for finding in findings:
+            groups.setdefault(finding.identity[:4], []).append(finding)
+        self.pair = next(group for group in groups.values() if len(group) == 2)
+        self.alone = next(group[0] for group in groups.values() if len(group) == 1)
+        self.report = Report(Verdict.RACES, "2000 races in this run", findings)
+
+    def test_a_prefix_of_one_finding_is_enough_in_letters_of_any_size(self) -> None:
+        for prefix in (self.alone.identity[:4], self.alone.identity[:4].upper(), self.alone.identity):
+            self.assertIs(finding_by(prefix, self.report, "g"), self.alone)
+        one, other = self.pair
+        self.assertIs(finding_by(one.identity[:11], self.report, "g"), one)
+        self.assertIs(finding_by(other.identity, self.report, "g"), other)
+
+    def test_a_prefix_of_two_names_both_and_no_other(self) -> None:
+        one, other = self.pair
+        told = f"2 races of g have ids that begin with {one.identity[:4]}: {one.identity} ({one.thing}), {other.identity} ({other.thing})"
+        with self.assertRaises(NoFinding) as fault:
+            finding_by(one.identity[:4], self.report, "g")
+        self.assertEqual(str(fault.exception), told)
+
+    def test_few_of_many_identities_are_listed(self) -> None:
+        for identity, told in (("", "nothing is too short for an id: g has "), ("0000000000000", "g has no race 0000000000000: its ids are ")):
+            with self.assertRaises(NoFinding) as fault:
+                finding_by(identity, self.report, "g")
+            self.assertTrue(str(fault.exception).startswith(told), fault.exception)
+            self.assertTrue(str(fault.exception).endswith(" (stock[9]) and 1990 more"), fault.exception)
 
 
 class Twins(unittest.TestCase):

@@ -13,6 +13,8 @@ from .report import Report
 from .text import link
 
 LEAST_DIGITS = 4
+MOST_LISTED = 10
+"""So many findings are named where one was not found."""
 ANY = "*"
 
 
@@ -23,17 +25,24 @@ class NoFinding(Exception):
 def finding_by(identity: str, report: Report, where: str) -> Finding:
     """The finding of an identity, which may be cut short."""
     known = report.ids
-    found = [one for name, one in known.items() if name.startswith(identity)]
+    found = {name: one for name, one in known.items() if name.startswith(identity.lower())}
     if len(identity) >= LEAST_DIGITS and len(found) == 1:
-        return found[0]
+        return next(iter(found.values()))
     if not known:
         seen = f" in what was seen: {reasons(report.unseen)}" if report.unseen else ""
         raise NoFinding(f"{where} has no race{seen}")
-    listed = ", ".join(f"{name} ({one.thing})" for name, one in known.items())
     if len(identity) < LEAST_DIGITS:
-        raise NoFinding(f"{identity or 'nothing'} is too short for an id: {where} has {listed}")
-    problem = f"several races have ids that begin with {identity}" if found else f"{where} has no race {identity}"
-    raise NoFinding(f"{problem}: its ids are {listed}")
+        raise NoFinding(f"{identity or 'nothing'} is too short for an id: {where} has {_listed(found or known)}")
+    if found:
+        raise NoFinding(f"{len(found)} races of {where} have ids that begin with {identity}: {_listed(found)}")
+    raise NoFinding(f"{where} has no race {identity}: its ids are {_listed(known)}")
+
+
+def _listed(findings: dict[str, Finding]) -> str:
+    """Findings with their identities, as far as a person reads them."""
+    told = [f"{name} ({one.thing})" for name, one in findings.items()]
+    more = f" and {len(told) - MOST_LISTED} more" if len(told) > MOST_LISTED else ""
+    return f"{', '.join(told[:MOST_LISTED])}{more}"
 
 
 def explained(finding: Finding, report: Report) -> str:
