@@ -116,8 +116,8 @@ def _add_report(parser: Parser) -> None:
     _add_file(parser, "--sarif", "write it there as SARIF 2.1.0; - is standard output")
     parser.add_argument("--github", action="store_true", help="write it to standard output as annotations of GitHub")
     showing = parser.add_mutually_exclusive_group()
-    showing.add_argument("--all", action="store_true", help="list each pair of lines, and not one of each cause")
-    showing.add_argument("--max", type=_most, metavar="N", help="list N entries at most")
+    showing.add_argument("--all", action="store_true", help="list each pair of lines whole, and not one of each cause")
+    showing.add_argument("--max", type=_most, metavar="N", help="list N entries at most, each whole")
 
 
 def _add_run(parser: Parser) -> None:
