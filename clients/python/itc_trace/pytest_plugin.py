@@ -11,6 +11,7 @@ from __future__ import annotations
 import argparse
 import ast
 import contextlib
+import json
 import math
 import os
 import signal
@@ -58,7 +59,10 @@ FILES = {
 PHASES = ("setup", "call", "teardown")
 LOST = "the process that ran the test has ended before it told what was seen"
 FOUND = "itc_trace_found"
-"""The attribute of a test's report by which what was found comes from the process of a worker."""
+"""The attribute of a test's report by which what was found comes from the process of a worker.
+
+It is JSON in ASCII, as a name of a file may be no text in UTF-8.
+"""
 SHOWN = Shown(how="-v shows them at the end")
 TENANTS = tuple(f"test{number}" for number in range(16))
 
@@ -344,7 +348,7 @@ def pytest_runtest_makereport(item: pytest.Item, call: pytest.CallInfo[None]) ->
     traced, shown = item.stash.get(_traced, None), item.stash.get(_report, None)
     found = "itc_trace: the test was not traced" if traced is None else traced.found
     if traced is not None and traced.report is not None:
-        setattr(report, FOUND, as_object(traced.report))
+        setattr(report, FOUND, json.dumps(as_object(traced.report)))
     if found is not None and shown is not None and not _is_skipped(shown):
         _tell(report if shown in _logged else shown, found)
 
@@ -364,7 +368,7 @@ class _Summary:
     def pytest_runtest_logreport(self, report: pytest.TestReport) -> None:
         found = getattr(report, FOUND, None)
         if found is not None:
-            self._config.stash[_met].add(report.nodeid, report_of_object(found))
+            self._config.stash[_met].add(report.nodeid, report_of_object(json.loads(found)))
         elif report.when not in PHASES:
             self._lost.append(report.nodeid)
 

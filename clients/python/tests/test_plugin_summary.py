@@ -92,6 +92,22 @@ class Summaries(unittest.TestCase):
             self.assertEqual(ran.returncode, 1, ran.stderr)
             self.assertIn("1 race: test_shop.py::test_sells\nitc_trace: 1 race in 1 test", self.section(ran.stdout))
 
+    def test_a_name_that_is_no_text_comes_from_a_worker(self) -> None:
+        try:
+            Path(os.fsdecode(os.fsencode(self.folder) + b"/lib\xe9")).mkdir()
+        except OSError as fault:
+            self.skipTest(str(fault))
+        head, _, rest = TESTS.partition("def run")
+        Path(self.folder, "lib\udce9", "shop.py").write_text(head)
+        found = "import sys, threading\nsys.path.insert(0, 'lib\\udce9')\nfrom shop import sell, count\n"
+        (self.folder / "test_shop.py").write_text(f"{found}def run{rest}")
+        for words in ((), ("-n", "2")):
+            ran = self.run_tests("--tb=no", "--races-json", "r.json", *words)
+            self.assertEqual(ran.returncode, 1, ran.stdout)
+            self.assertIn("itc_trace: 2 races in 4 tests", self.section(ran.stdout))
+            report = report_of_json((self.folder / "r.json").read_text())
+            self.assertEqual({side.file for one in report.findings for side in one.sides}, {f"{self.folder}/lib\udce9/shop.py"})
+
     def test_a_baseline_is_made_by_tests_and_holds_in_each_of_them(self) -> None:
         self.assertEqual(self.run_tests("-q", "--tb=no", "--races-write-baseline", "known.json", "-k", "sells").returncode, 1)
         kept = json.loads((self.folder / "known.json").read_text())["races"]
