@@ -6,6 +6,8 @@ import base64
 import gzip
 import json
 import re
+import subprocess
+import sys
 import tempfile
 import unittest
 from pathlib import Path
@@ -15,6 +17,7 @@ from itc_trace import Verdict
 
 from .support import PACKAGE, run_python, run_traced
 from .test_files import CLEAN, RACING
+from .test_format_page import OF_OTHER_RUNS
 
 TILL = """
 import itc_trace
@@ -141,6 +144,30 @@ class Pictures(unittest.TestCase):
         run_python("-m", "itc_trace", "races", "--picture", str(self.page), str(self.export), str(journal))
         _, race = carried(self.page, "carriedRaces")
         self.assertEqual([(side["begin"], side["text"]) for side in race["sides"]], [(0, [])] * 2)
+
+    def test_a_program_that_leaves_a_lock_has_its_page(self) -> None:
+        ran = run_traced("--picture", str(self.page), self.program(f"{RACING}lock.acquire()\n"))
+        self.assertIn("itc_trace: left at the end: lock (", ran.stderr)
+        self.assert_has_the_race(ran.stderr)
+
+    def test_the_page_is_made_whatever_a_journal_says_of_the_whole(self) -> None:
+        """Such as what one task alone has touched, or a cycle that has closed."""
+        run_traced("--export", str(self.export), self.program(CLEAN))
+        rows = [line for line in Path(f"{self.export}.journal").read_text().splitlines(True) if line.startswith('{"event"')]
+        journal = self.folder / "told"
+        for line in {*OF_OTHER_RUNS.values(), '{"left":"lock that is never released","place":"shop.py:7"}', '{"child":"a","begun":"shop"}'}:
+            with self.subTest(line):
+                journal.write_text("".join([*rows, f"{line}\n", '{"end":true}\n']))
+                with open(self.export, "rb") as export, open(self.page, "wb") as page:
+                    command = [sys.executable, str(PACKAGE.parent.parent / "picture"), "--labels", str(journal)]
+                    drawn = subprocess.run(command, stdin=export, stdout=page, stderr=subprocess.PIPE, text=True, check=False)
+                self.assertEqual((drawn.returncode, drawn.stderr), (0, ""))
+                self.assertEqual(carried(self.page, "labels")[-1], {"end": True})
+        journal.write_text("".join([*rows, '{"later":1}\n']))
+        with open(self.export, "rb") as export:
+            refused = subprocess.run(command, stdin=export, capture_output=True, text=True, check=False)
+        self.assertEqual((refused.returncode, refused.stdout), (2, ""))
+        self.assertIn(f"line {len(rows) + 1} is no line of a journal", refused.stderr)
 
     def test_a_system_tells_of_each_process_that_it_ended(self) -> None:
         (self.folder / "till.py").write_text(TILL)
