@@ -8,6 +8,7 @@ from __future__ import annotations
 
 import asyncio
 import contextlib
+import multiprocessing
 import queue
 import threading
 from collections.abc import Callable, Iterator
@@ -389,6 +390,38 @@ def semaphore_and_lock() -> Steps:
     return [forth, back]
 
 
+def semaphores_of_processes() -> Steps:
+    one, other = multiprocessing.Semaphore(1), multiprocessing.BoundedSemaphore()
+
+    def forth() -> None:
+        with one:  # told
+            with other:  # told
+                pass
+
+    def back() -> None:
+        with other:  # told
+            one.acquire()  # told
+            one.release()
+
+    return [forth, back]
+
+
+def permit_of_processes_and_lock() -> Steps:
+    permit, lock = multiprocessing.Semaphore(), threading.Lock()
+
+    def forth() -> None:
+        if permit.acquire(timeout=100):  # told
+            with lock:  # told
+                pass
+            permit.release()
+
+    def back() -> None:
+        with lock, permit:  # told
+            pass
+
+    return [forth, forth, back]
+
+
 def stacks() -> Steps:
     one, other = threading.Lock(), threading.Lock()
 
@@ -757,7 +790,8 @@ def queue_and_late_lock() -> Steps:
 TOLD = [
     two_locks, two_rlocks, lock_and_rlock, by_calls, three_tasks, four_tasks, three_locks_of_two_tasks, second_of_two,
     within_functions, many_times, of_objects, lock_and_condition, two_conditions, wait_with_a_lock,
-    wait_with_an_inner_lock, asyncio_wait_with_an_inner_lock, semaphores, semaphore_and_lock, stacks, exit_stacks, asyncio_exit_stacks, timeouts_that_are_over, crossed,
+    wait_with_an_inner_lock, asyncio_wait_with_an_inner_lock, semaphores, semaphore_and_lock,
+    semaphores_of_processes, permit_of_processes_and_lock, stacks, exit_stacks, asyncio_exit_stacks, timeouts_that_are_over, crossed,
     gate_that_is_let_go, hand_over_hand_from_both_ends, jobs, job_and_thread, timers, asyncio_locks, asyncio_conditions, asyncio_semaphores,
     loops_of_two_threads, tried_first, queue_and_lock, queue_and_lock_in_turns, queue_and_two_locks,
     queue_of_a_condition, queue_and_gate, queue_and_late_lock, five_locks_by_index, rlocks_that_are_acquired_again,
@@ -1181,6 +1215,82 @@ def more_permits_than_one() -> Steps:
     return [forth, back, one.release]
 
 
+def permits_of_processes() -> Steps:
+    one, other = multiprocessing.Semaphore(2), multiprocessing.Semaphore(1)
+
+    def forth() -> None:
+        with one, other:
+            pass
+
+    def back() -> None:
+        with other, one:
+            pass
+
+    return [forth, back]
+
+
+def more_permits_of_processes_than_one() -> Steps:
+    one, other = multiprocessing.Semaphore(1), multiprocessing.Lock()
+
+    def forth() -> None:
+        with one, other:
+            pass
+
+    def back() -> None:
+        with other, one:
+            pass
+
+    return [forth, back, one.release]
+
+
+def tried_permit_of_processes() -> Steps:
+    one, other = multiprocessing.Semaphore(1), multiprocessing.Lock()
+
+    def forth() -> None:
+        with one, other:
+            pass
+
+    def back() -> None:
+        with other:
+            for words in ((False,), (True, 100)):
+                if one.acquire(*words):
+                    one.release()
+
+    return [forth, back]
+
+
+def gate_that_is_a_permit_of_processes() -> Steps:
+    door, one, other = multiprocessing.BoundedSemaphore(1), multiprocessing.Lock(), threading.Lock()
+
+    def forth() -> None:
+        with door, one, other:
+            pass
+
+    def back() -> None:
+        with door, other, one:
+            pass
+
+    return [forth, back]
+
+
+def permit_that_another_task_gives() -> Steps:
+    """It is a signal: whoever acquires it comes after who gave it."""
+    ready, one, other = multiprocessing.Semaphore(1), threading.Lock(), threading.Lock()
+    ready.acquire()
+
+    def forth() -> None:
+        with one, other:
+            pass
+        ready.release()
+
+    def back() -> None:
+        ready.acquire()
+        with other, one:
+            pass
+
+    return [forth, back]
+
+
 def locks_that_are_no_more() -> Steps:
     """Others are at the same lines."""
     def work(is_turned: bool) -> None:
@@ -1373,4 +1483,6 @@ CLEAN = [
     read_write_lock_of_two, timeouts_of_asyncio, permits, asyncio_gate, asyncio_in_turn, one_loop, queue_with_an_item, queue_put_without_the_lock, queue_taken_in_time,
     queue_put_under_a_tried_lock, queue_told_under_the_lock, queue_of_one_task, queue_of_other_locks,
     rlocks_in_one_order, more_permits_than_one, locks_that_are_no_more,
+    permits_of_processes, more_permits_of_processes_than_one, tried_permit_of_processes,
+    gate_that_is_a_permit_of_processes, permit_that_another_task_gives,
 ]

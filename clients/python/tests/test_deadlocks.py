@@ -83,6 +83,34 @@ if __name__ == "__main__":
         process.join()
 """
 
+GIVEN = """
+import multiprocessing, time
+def forth(ready, one, other):
+    with one, other:
+        pass
+    ready.release()
+def back(ready, one, other):
+    ready.acquire()
+    with other, one:
+        pass
+if __name__ == "__main__":
+    context = multiprocessing.get_context("fork")
+    ready, *locks = [context.Lock() for _ in range(3)]
+    ready.acquire()
+    processes = [context.Process(target=work, args=[ready, *locks]) for work in (forth, back)]
+    for process in processes:
+        process.start()
+    for process in processes:
+        process.join()
+"""
+"""What another process has acquired, a process releases: whoever acquires it then comes after that."""
+
+GATE = PROCESSES.replace("(one, other)", "(door, one, other)").replace("range(2)", "range(3)").replace(
+    "with one:  # told\n        with other:  #", "with door, one, other:  #").replace(
+    "with other:  # told\n        with one:  #", "with door, other, one:  #")
+MAKE = "context.Lock()"
+PERMITS = ("context.Semaphore(1)", "context.BoundedSemaphore()")
+
 IN_LOOPS = PROCESSES.replace("multiprocessing, time", "asyncio, multiprocessing, time").replace("def ", "async def ").replace(
     "if __name__", """def child(work, *locks):
     asyncio.run(work(*locks))
@@ -105,9 +133,35 @@ class Processes(ProgramCase):
         self.assertEqual(status, Verdict.RACES, told)
         self.assertEqual(told.count("  # told\n"), 4, told)
 
-    def test_processes_one_after_another_are_in_order(self) -> None:
-        status, told = self.told("process.join()")
+    def test_semaphores_of_one_permit_are_locks_however_processes_start(self) -> None:
+        for make, method in zip((*PERMITS, *PERMITS, "context.RLock()"), ("fork", "fork", "spawn", "forkserver", "spawn")):
+            with self.subTest(make, method=method):
+                status, told = self.told("pass", PROCESSES.replace(MAKE, make).replace("fork", method))
+                self.assertEqual(status, Verdict.RACES, told)
+                self.assertEqual(told.count("  # told\n"), 4, told)
+
+    def test_more_permits_than_one_keep_nobody_out(self) -> None:
+        status, told = self.told("pass", PROCESSES.replace(MAKE, "context.Semaphore(2)"))
         self.assertEqual((status, told.count("deadlock")), (0, 0), told)
+
+    def test_what_another_process_releases_is_an_order(self) -> None:
+        for make in (MAKE, *PERMITS):
+            with self.subTest(make):
+                status, told = self.told("", GIVEN.replace(MAKE, make))
+                self.assertEqual((status, told.count("deadlock")), (0, 0), told)
+
+    def test_one_that_all_hold_is_a_gate(self) -> None:
+        self.assertEqual(GATE.count("with door"), 2)
+        for make in (MAKE, *PERMITS):
+            with self.subTest(make):
+                status, told = self.told("pass", GATE.replace(MAKE, make))
+                self.assertEqual((status, told.count("deadlock")), (0, 0), told)
+
+    def test_processes_one_after_another_are_in_order(self) -> None:
+        for make in (MAKE, *PERMITS):
+            with self.subTest(make):
+                status, told = self.told("process.join()", PROCESSES.replace(MAKE, make))
+                self.assertEqual((status, told.count("deadlock")), (0, 0), told)
 
 
 class Readers(unittest.TestCase):

@@ -33,7 +33,7 @@ OF_THE_LIBRARY = {
     "sync.locks": "_is_owned",
     "sync.pipes": "_sem _semlock _unfinished_tasks",
     "sync.process_signals": "_cond _flag _lock _make_methods _semlock",
-    "sync.processes": "_count _is_mine _make_methods _registry",
+    "sync.processes": "_count _is_mine _is_zero _make_methods _registry",
     "sync.queues": "_lock _qsize",
     "sync.starts": "_popen _start_method",
     "sync.thread_pools": "_cache _cond _event _inqueue _items _outqueue _processes _quick_get _quick_put",

@@ -22,7 +22,7 @@ from ..model.sources import Sources
 from ..record.journal import DeadlockTold, Row
 from ..session import Refused
 from .bit_matrix import transposed
-from .lock_waits import Found, Pattern, Place
+from .lock_waits import ACROSS, Found, Pattern, Place, number_of
 from .queue_waits import waits_in
 from .trace import Events, Trace, lock_events
 from .without_locks import WithoutLocks
@@ -242,12 +242,14 @@ def before_without(trace: Trace, locks: set[int]) -> list[Events]:
     return before
 
 
-def locks_of(rows: Iterable[Row], trace: Trace) -> set[int]:
+def locks_of(rows: Iterable[Row], trace: Trace, signals: frozenset[str]) -> set[int]:
     """The hand-over of all locks, also of those at whose conditions others wait, and of those that processes share.
 
-    Of the latter only the receipt tells.
+    Of the latter only the receipt tells, and that is of a process which does not know what is a signal to others.
     """
-    told = {row.event for row in rows if row.lock is not None or row.guard is not None}
+    across = {lock for lock in map(number_of, signals) if lock.startswith(ACROSS)}
+    handed_over = ((row.event, row.lock or row.guard) for row in rows)
+    told = {event for event, lock in handed_over if lock is not None and number_of(lock) not in across}
     received = {trace[number].name for number in told if trace[number].kind == "recv"}
     return lock_events(trace, told) | {
         event.number for event in trace.events if event.kind in ("send", "recv") and event.name in received
@@ -269,7 +271,7 @@ class _Concurrent:
 
 def find_deadlocks(rows: list[Row], signals: frozenset[str], trace: Trace) -> list[Deadlock]:
     """The possible deadlocks of one trace. Each is confirmed by a collector that has the trace without locks."""
-    locks = locks_of(rows, trace)
+    locks = locks_of(rows, trace, signals)
     before = before_without(trace, locks)
     found = waits_in(rows, signals, trace, locks, before)
     events = 0

@@ -55,7 +55,7 @@ class DeadlocksOfParts:
     def look_at(self, rows: list[Row], trace: Trace) -> None:
         """The next part, before its acquisitions are compared."""
         self._rows = list(_pairs(rows, self._signals))
-        self._order = _WithoutLocks(before_without(trace, locks_of(rows, trace)))
+        self._order = _WithoutLocks(before_without(trace, locks_of(rows, trace, self._signals)))
         for pattern in waits_of(rows, self._signals):
             self._met[pattern].add(rows[0].part)
         for queue, locks in needed_of(rows).items():

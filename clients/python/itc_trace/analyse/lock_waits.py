@@ -10,6 +10,10 @@ from ..record.journal import Row
 from .trace import Events
 
 
+ACROSS = "#across"
+"""So begins what locks are known by that processes share."""
+
+
 class Place(NamedTuple):
     """A line of the program."""
 

@@ -235,7 +235,8 @@ def _described(inner: list[FrameType], name: str, line: Line | None, place: str,
 def _traced_lock(one: Any) -> Any:
     """What is known of the lock that this one is, or by which a semaphore or a lock of processes is followed."""
     own = getattr(one, "__dict__", {})
-    for lock in (one, own.get("_itc_permit"), own.get(OF_PROCESSES)):
+    of_processes = own.get(OF_PROCESSES)
+    for lock in (one, own.get("_itc_permit"), of_processes, getattr(of_processes, "one", None)):
         if isinstance(getattr(lock, "_itc_identity", None), LockIdentity):
             return lock
     return None

@@ -39,9 +39,12 @@ def note_nested(held: tuple[LockIdentity, ...], has_waited: bool) -> None:
 
 
 def note_signal(lock: LockIdentity) -> None:
-    """The lock is a signal, as was found out: its acquisitions are none that keep somebody out."""
+    """The lock is a signal, as was found out: its acquisitions are none that keep somebody out.
+
+    Of one that processes share, others may have acquired it with locks held.
+    """
     tracer = state.tracer
-    if lock.is_nested and tracer is not None:
+    if (lock.is_nested or lock.across) and tracer is not None:
         tracer.tell_signal(lock)
 
 

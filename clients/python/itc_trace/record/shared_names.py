@@ -11,6 +11,7 @@ import mmap
 import os
 import tempfile
 from collections.abc import Callable, Iterator
+from typing import NamedTuple
 from zlib import crc32
 
 from . import own_files
@@ -73,12 +74,12 @@ class SharedNames:
                 if not self._depth:
                     fcntl.lockf(self._file, fcntl.LOCK_UN)
 
-    def begin_count(self, key: str, first: int) -> Counted | None:
+    def begin_count(self, key: str, first: int, is_lock: bool = False) -> Counted | None:
         """Counts what is taken and given under this key, of which there are so many at first. None without room."""
         slot = self.slot_of(key)
         if slot is None:
             return None
-        self.put(slot, f"0 0 {first}")
+        self.put(slot, f"0 0 {first} {int(is_lock)}")
         return Counted(self, key, slot)
 
     def find_count(self, key: str) -> Counted | None:
@@ -105,6 +106,17 @@ class SharedNames:
             os.unlink(self.path)
 
 
+class Taken(NamedTuple):
+    """A permit that was taken."""
+
+    number: int
+    """The number of the release that gave it. It is less than 0 for those of the beginning."""
+    name: str
+    """The name of that release."""
+    is_only: bool
+    """Whether no other permit is out now."""
+
+
 class Counted:
     """How many permits were taken and given, how many there were at first, and the names of who gave the last ones."""
 
@@ -114,16 +126,19 @@ class Counted:
     def __init__(self, names: SharedNames, key: str, slot: int) -> None:
         self._names = names
         self._key = key
-        self._slot = slot
+        self.slot = slot
 
-    def take(self) -> tuple[int, str]:
-        """Counts a permit that is taken: the number of the release that gave it, and the name of that.
+    @property
+    def is_lock(self) -> bool:
+        """Whether whoever began to count takes it for a lock."""
+        return self._names.name_at(self.slot).endswith(" 1")
 
-        The number is less than 0 for those of the beginning.
-        """
+    def take(self) -> Taken:
+        """Counts a permit that is taken."""
         with self._names.alone():
-            taken, _, first = self._add(1, 0)
-            return taken - first, self.name_of(taken - first) if taken >= first else ""
+            taken, given, first = self._add(1, 0)
+            name = self.name_of(taken - first) if taken >= first else ""
+            return Taken(taken - first, name, taken == given)
 
     def give(self, name: str, release: Callable[[], object]) -> int:
         """Releases a permit by this name, and gives the number of the release. Meanwhile nobody else counts."""
@@ -155,9 +170,9 @@ class Counted:
     def _add(self, taken: int, given: int) -> tuple[int, int, int]:
         """Adds to the counts, and gives those before. Whoever comes again within has counted, too."""
         while True:
-            text = self._names.name_at(self._slot)
+            text = self._names.name_at(self.slot)
             before = tuple(map(int, text.split()))
-            after = f"{before[0] + taken} {before[1] + given} {before[2]}"
-            if self._names.name_at(self._slot) == text:
-                self._names.put(self._slot, after)
+            after = f"{before[0] + taken} {before[1] + given} {before[2]} {before[3]}"
+            if self._names.name_at(self.slot) == text:
+                self._names.put(self.slot, after)
                 return before[0], before[1], before[2]

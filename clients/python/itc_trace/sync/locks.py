@@ -237,7 +237,7 @@ class OnePermit:
 
     def as_permits(self, free: int) -> deque[Token | None]:
         """It is about to have more than one permit, and has so many free ones: it is no lock."""
-        _become_signal(self._itc_identity)
+        became_signal(self._itc_identity)
         return deque([self._itc_token] * free)
 
     @property
@@ -300,7 +300,7 @@ def gave(lock: Any) -> None:
             _outlived(line, identity)
     elif holder is not None and holder.tracer is state.tracer:
         _remove(holder, identity)
-        _become_signal(identity)
+        became_signal(identity)
     what: LockIdentity | Signal = identity.signal or identity
     is_seen = holder is not None and holder.tracer is state.tracer
     if not is_seen:  # It was acquired before tracing began. Nobody knows what it has enclosed since.
@@ -321,7 +321,7 @@ def _is_unseen(what: Any) -> bool:
     return type(what) is Signal and what is not what.identity.signal
 
 
-def _become_signal(identity: LockIdentity) -> None:
+def became_signal(identity: LockIdentity) -> None:
     """The lock hands over more than what it encloses. Whoever looks for cycles of locks passes it over."""
     if identity.signal is None:
         identity.become_signal()

@@ -6,7 +6,7 @@ import contextlib
 import threading
 from collections import deque
 from collections.abc import Iterator
-from types import ModuleType
+from types import FrameType, ModuleType
 from typing import Any
 
 from ..record import following
@@ -16,9 +16,9 @@ from ..record.noting import mark, take
 from ..model.frames import frame_at, is_internal
 from .base import Patches
 from .later import once_imported
-from .locks import gave, took
+from .locks import became_signal, gave, took
 from .shared_locks import has_taken, is_giving, slot_of
-from .shared_permits import SharedPermits
+from .shared_permits import KIND, PermitAsLock, SharedPermits
 
 _MAKERS = (
     "multiprocessing.context", "multiprocessing.synchronize", "multiprocessing.sharedctypes",
@@ -91,6 +91,9 @@ class _Lock:
 
     def is_released(self) -> None:
         if state.note is not None and self._is_outermost():
+            holder = self._itc_holder
+            if (holder is None or holder.tracer is not state.tracer) and self._semlock._is_zero():
+                became_signal(self._itc_identity)  # It was acquired by another process.
             gave(self)
             is_giving(self._slot)
 
@@ -101,19 +104,23 @@ class _Lock:
 class _Semaphore:
     """The permits of a semaphore, as those of `threading`."""
 
-    def __init__(self, semlock: Any, value: int) -> None:
+    def __init__(self, semlock: Any, value: int, maker: FrameType | None) -> None:
         self._semlock = semlock
         self._permits: deque[Token | None] = deque([None] * value)
+        self.one = PermitAsLock(KIND, maker) if value == 1 and maker is not None else None
 
     def acquire(self, block: bool = True, timeout: float | None = None) -> bool:
         is_acquired = bool(self._semlock.acquire(block, timeout))
         if is_acquired:
-            self.was_acquired()
+            self.was_acquired(block and timeout is None)
         return is_acquired
 
-    def was_acquired(self) -> None:
-        if self._permits:
-            take(self._permits.popleft())
+    def was_acquired(self, has_waited: bool = True) -> None:
+        token = self._permits.popleft() if self._permits else None
+        if self.one is None:
+            take(token)
+        elif state.note is not None:
+            self.one.hold(token, has_waited, is_only=not self.one.is_held)
 
     def release(self) -> None:
         self.is_released()
@@ -124,7 +131,7 @@ class _Semaphore:
             raise
 
     def is_released(self) -> None:
-        self._permits.append(mark(SEMAPHORE))
+        self._permits.append(mark(SEMAPHORE) if self.one is None else self.one.let_go())
 
 
 def _begin(original: Any) -> Any:
@@ -139,7 +146,7 @@ def _begin(original: Any) -> Any:
         if name in LOCKS:
             _trace(self, _Lock(self._semlock, name, frame))
         else:
-            trace_permits(self, value)
+            trace_permits(self, value, frame)
 
     return __init__
 
@@ -148,9 +155,13 @@ def _trace(lock: Any, traced: _Lock | _Semaphore | SharedPermits) -> None:
     lock._itc_traced, lock.acquire, lock.release = traced, traced.acquire, traced.release
 
 
-def trace_permits(lock: Any, count: int) -> None:
-    """From here on the permits of this semaphore give order, between processes too if these are traced."""
-    _trace(lock, SharedPermits.made(lock._semlock, count) or _Semaphore(lock._semlock, count))
+def trace_permits(lock: Any, count: int, maker: FrameType | None = None) -> None:
+    """From here on the permits of this semaphore give order, between processes too if these are traced.
+
+    Of one that the program makes, which has a maker, one permit is a lock as well.
+    """
+    permits = SharedPermits.made(lock._semlock, count, maker)
+    _trace(lock, permits or _Semaphore(lock._semlock, count, maker))
 
 
 def _set_state(original: Any) -> Any:

@@ -2,39 +2,89 @@
 
 The permits of a semaphore are handed on first in, first out, those of the beginning first: an acquire comes after the
 one release whose permit it takes. How many were taken and given is counted where all processes see it, and so are the
-messages of those who gave one.
+messages of those who gave one. A semaphore of one permit is a lock as well, as long as whoever acquired it releases it.
 """
 
 from __future__ import annotations
 
+from types import FrameType
 from typing import Any
 
 from ..model.lines import SEMAPHORE, Token, state
+from ..model.lock_identity import LockIdentity
 from ..record import following
 from ..record.messages import Sending, incoming_at
 from ..record.noting import line_of_now, mark, take
 from ..record.shared_names import Counted
+from .locks import OnePermit, became_signal, gave, took
 from .shared_locks import key_of
 
+KIND = "multiprocessing.Semaphore"
 MOST_PARTIES = Counted.most // 2
 """Those who meet a second time may come before all have left the first one."""
+
+
+class PermitAsLock(OnePermit):
+    """The one permit of a semaphore of processes, as a lock that a task of this process may hold.
+
+    Who has given the permit that somebody takes is counted beside it.
+    """
+
+    __slots__ = ()
+
+    @property
+    def handed_over(self) -> LockIdentity | None:
+        """The lock that another process hands over by its release, if it is one."""
+        return None if self._itc_identity.signal is not None else self._itc_identity
+
+    def hold(self, token: Token | None, has_waited: bool, is_only: bool) -> None:
+        """The current task has acquired it, behind the place of the token. It is no lock if more permits are out."""
+        if not is_only:
+            became_signal(self._itc_identity)
+        if self._itc_identity.signal is None:
+            self._itc_token = token
+            took(self, has_waited)
+        else:
+            take(token)
+
+    def let_go(self) -> Token | None:
+        """The current task is about to release it. Gives the token of its place.
+
+        Whoever has not acquired it gives a permit to another task, also to one of another process.
+        """
+        holder = self._itc_holder
+        if state.note is None:
+            return None
+        if holder is None or holder.tracer is not state.tracer:
+            became_signal(self._itc_identity)
+            return mark(SEMAPHORE)
+        gave(self)
+        token, self._itc_token = self._itc_token, None
+        return token
 
 
 class SharedPermits:
     """The permits of one semaphore, as this process uses it."""
 
-    def __init__(self, semlock: Any, counted: Counted) -> None:
+    def __init__(self, semlock: Any, counted: Counted, frame: FrameType | None = None) -> None:
         self._semlock = semlock
         self._counted = counted
         self._given: dict[int, Token | None] = {}
         """Where a task of this process gave a permit, by the number of its release."""
+        self.one: PermitAsLock | None = None
+        if counted.is_lock:
+            self.one = PermitAsLock(KIND, frame)
+            self.one._itc_identity.across = f"across{counted.slot}"
 
     @staticmethod
-    def made(semlock: Any, count: int) -> SharedPermits | None:
-        """Those of a semaphore that is made here. None if processes share nothing."""
-        names = following.shared_names()
-        counted = None if names is None else names.begin_count(key_of(semlock.name), count)
-        return None if counted is None else SharedPermits(semlock, counted)
+    def made(semlock: Any, count: int, maker: FrameType | None) -> SharedPermits | None:
+        """Those of a semaphore that is made here. None if processes share nothing.
+
+        One permit of a program's own semaphore, which knows its maker, is a lock.
+        """
+        names, is_lock = following.shared_names(), count == 1 and maker is not None
+        counted = None if names is None else names.begin_count(key_of(semlock.name), count, is_lock)
+        return None if counted is None else SharedPermits(semlock, counted, maker)
 
     @staticmethod
     def given(semlock: Any) -> SharedPermits | None:
@@ -46,21 +96,25 @@ class SharedPermits:
     def acquire(self, block: bool = True, timeout: float | None = None) -> bool:
         is_acquired = bool(self._semlock.acquire(block, timeout))
         if is_acquired:
-            self.was_acquired()
+            self.was_acquired(block and timeout is None)
         return is_acquired
 
-    def was_acquired(self) -> None:
-        number, name = self._counted.take()
-        if number < 0 or state.note is None:
+    def was_acquired(self, has_waited: bool = True) -> None:
+        number, name, is_only = self._counted.take()
+        if state.note is None:
             return
-        if number in self._given:
-            take(self._given.pop(number))
-        elif name:
-            incoming_at(name, following.frame_of_start(1))
+        token = self._given.pop(number, None)
+        if token is None and name:
+            lock = None if self.one is None else self.one.handed_over
+            incoming_at(name, following.frame_of_start(1), lock=lock)
+        if self.one is None:
+            take(token)
+        else:
+            self.one.hold(token, has_waited, is_only)
 
     def release(self) -> None:
         name = _name()
-        token = mark(SEMAPHORE)
+        token = mark(SEMAPHORE) if self.one is None else self.one.let_go()
         number = self._counted.give(name, self._semlock.release)
         if token is not None:
             self._given[number] = token
