@@ -20,8 +20,10 @@ from pathlib import Path
 from typing import Any
 
 from itc_trace import Verdict, tracing
-from itc_trace.model.lines import state
-from itc_trace.processes.waits import Since, cycle_of, waits
+from itc_trace.model.lines import Line, state
+from itc_trace.model.lock_identity import LockIdentity
+from itc_trace.processes import between
+from itc_trace.processes.waits import Since, Wait, cycle_of, waits
 from itc_trace.record import plain
 
 from .support import PACKAGE, PROGRAM_RUNS, ProgramCase, Step, fresh_tenant, in_turn, run_traced, wait_until
@@ -137,7 +139,7 @@ for child in children:
     child.start()
 for child in children:
     child.join()
-""", r"waits for other_lock .*\n *no task of this process holds it\n *work_\d+ holds one_lock \(.*\), acquired at .*# held"),
+""", r"waits for other_lock .*\n *work_\d+ of another process holds it, acquired at .*# held\n *work_\d+ holds one_lock \(.*# held"),
     "child process": ("""
 if not (child := os.fork()):
     time.sleep(1000)
@@ -326,6 +328,175 @@ finally:
     child.kill()
 """))
         self.assertEqual(ran.stdout, "True\n", ran.stderr)
+
+
+CROSSED = """
+import multiprocessing, time
+def work(first, second):
+    with first:  # holds
+        time.sleep(1)
+        with second:  # wants
+            pass
+if __name__ == "__main__":
+    context = multiprocessing.get_context("fork")
+    one_lock = context.Lock()
+    other_lock = context.Lock()
+    children = [context.Process(target=work, args=order) for order in ((one_lock, other_lock), (other_lock, one_lock))]
+    for child in children:
+        child.start()
+    for child in children:
+        child.join()
+"""
+PARENT = """
+import multiprocessing
+def work(lock):
+    with lock:  # wants
+        pass
+if __name__ == "__main__":
+    context = multiprocessing.get_context("fork")
+    shared_lock = context.BoundedSemaphore(1)
+    with shared_lock:  # holds
+        child = context.Process(target=work, args=(shared_lock,))
+        child.start()
+        child.join()  # wants
+"""
+BY_THREADS = """
+import multiprocessing, threading, time
+def work(inner, first, second):
+    def other():
+        with second:  # holds
+            time.sleep(1)
+            with inner:  # wants
+                pass
+    with inner:  # holds
+        threading.Thread(target=other).start()
+        time.sleep(1)
+        with first:  # wants
+            pass
+context = multiprocessing.get_context("fork")
+one_lock, other_lock = context.Lock(), context.RLock()
+for locks in ((one_lock, other_lock), (other_lock, one_lock)):
+    context.Process(target=work, args=(threading.Lock(), *locks)).start()
+"""
+NOT_CLOSED = {
+    "one order": """
+def work(number, one, other):
+    for _ in range(2):
+        with one:
+            time.sleep(1.3)
+            with other:
+                pass
+""",
+    "a way back": """
+def work(number, one, other):
+    first, second = (one, other) if number else (other, one)
+    with first:
+        time.sleep(0.5)
+        if second.acquire(timeout=3):
+            second.release()
+""",
+    "one that is let go": """
+def work(number, one, other):
+    if number:
+        with one:
+            time.sleep(2)
+        with other:
+            pass
+    else:
+        with other:
+            time.sleep(0.5)
+            with one:
+                pass
+""",
+}
+
+
+class Between(ProgramCase):
+    """Cycles that tasks of several processes have closed."""
+
+    def assert_told(self, text: str, holds: int, wants: int) -> str:
+        ran = run_traced("--watch-nothing", "--timeout", "8", self.program(text))
+        self.assertEqual(ran.returncode, Verdict.RACES, ran.stderr)
+        self.assertIn("itc_trace: tasks of several processes wait for each other, ", ran.stderr)
+        listed = ran.stderr[ran.stderr.index("itc_trace: deadlock on "):]
+        self.assertEqual((listed.count("# holds\n"), listed.count("# wants\n")), (holds, wants), ran.stderr)
+        self.assertIn("; 1 deadlock: ", listed)
+        return ran.stderr
+
+    def test_two_children_that_hold_what_the_other_one_wants(self) -> None:
+        for make in ("Lock()", "Semaphore(1)"):
+            with self.subTest(make):
+                told = self.assert_told(CROSSED.replace("Lock()", make), 2, 2)
+                self.assertRegex(told, r"a cycle: (work_1 waits for work_2, work_2|work_2 waits for work_1, work_1) waits")
+                self.assertRegex(told, r"work_1 holds (semaphore )?one_lock .*# holds\n *work_1 wants (semaphore )?other_lock .*# wants")
+
+    def test_a_parent_that_waits_for_the_end_of_who_wants_its_lock(self) -> None:
+        told = self.assert_told(PARENT, 1, 2)
+        self.assertRegex(told, "a cycle: (root waits for work_1, work_1|work_1 waits for root, root) waits")
+
+    def test_threads_of_two_processes_also_as_nobody_joins_these(self) -> None:
+        self.assert_told(BY_THREADS, 4, 4)
+
+    def test_what_goes_on_is_none(self) -> None:
+        begin = "import multiprocessing, time\n"
+        end = """
+context = multiprocessing.get_context("fork")
+locks = [context.Lock() for _ in range(2)]
+children = [context.Process(target=work, args=(number, *locks)) for number in range(2)]
+for child in children:
+    child.start()
+for child in children:
+    child.join()
+"""
+        for name, work in NOT_CLOSED.items():
+            with self.subTest(name):
+                ran = run_traced("--watch-nothing", "--timeout", "100", self.program(begin + work + end))
+                self.assertEqual(ran.returncode, 0, ran.stderr)
+                self.assertNotRegex(ran.stderr, "deadlock|wait for each other")
+
+
+class Told(unittest.TestCase):
+    """What processes tell is one cycle only if all of it holds at one time."""
+
+    @staticmethod
+    def told(begin: float, until: float, task: str, holds: str, wants: str, signals: list[str]) -> between.Told:
+        at = ("shop.py", 1, "work")
+        held = {holds: between.Holding(holds, at, "shop.py:1")}
+        waiting = between.Waiting(task, f"{task} waits", wants, at, across=wants, holds=held)
+        return between.Told(begin, until, signals, [waiting])
+
+    def test_times_signals_and_holders_decide(self) -> None:
+        def cycle(begin: float = 2.0, holds: str = "y", signals: tuple[str, ...] = (), more: str = "") -> list[str]:
+            told = [self.told(1.0, 3.0, "a", "x", "y", []), self.told(begin, begin + 2, "b", holds, "x", [*signals])]
+            told += [self.told(2.0, 3.0, "c", more, "z", [])] if more else []
+            return sorted(one.task for one in between.cycle_between(told))
+
+        self.assertEqual(cycle(), ["a", "b"])
+        self.assertEqual(cycle(more="w"), ["a", "b"])
+        self.assertEqual(cycle(begin=3.5), [], "the first one may have gone on before the second one waited")
+        self.assertEqual(cycle(holds="z"), [])
+        self.assertEqual(cycle(signals=("y",)), [], "somebody else may release it")
+        self.assertEqual(cycle(more="y"), [], "one of both does not hold it any more")
+
+    def test_what_was_acquired_meanwhile_is_told_no_longer(self) -> None:
+        with tempfile.TemporaryDirectory() as folder:
+            asked, lock, own = os.path.join(folder, "asked"), LockIdentity("Lock", None), between.Own()
+            lock.across, line = "across64", Line(None, "work")
+            wait = Wait("work", "waits for lock", "shop.py:1", line=line, lock=lock, lasts=True)
+            own.look_at([wait])
+            own.write(asked)
+            first, = between.told_by_all(asked)
+            own.write(asked)
+            again, = between.told_by_all(asked)
+            self.assertGreater(again.until, first.until)
+            self.assertEqual((again.begin, again.waits), (first.begin, first.waits))
+            lock.times += 1
+            own.write(asked)
+            self.assertEqual(between.told_by_all(asked), [])
+            wait.lasts = False
+            own.look_at([wait])
+            own.write(asked)
+            self.assertEqual(between.told_by_all(asked), [])
 
 
 class Ended(ProgramCase):

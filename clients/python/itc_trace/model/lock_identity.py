@@ -43,7 +43,8 @@ class LockIdentity:
 
     __slots__ = (
         "serial", "kind", "code", "instruction", "number", "signal", "is_of_condition", "is_inside", "encloses_tasks",
-        "taken_by", "taken_at", "is_nested", "is_crossed", "outlived", "is_tried", "across", "block", "_name", "_hint",
+        "taken_by", "taken_at", "is_nested", "is_crossed", "outlived", "is_tried", "across", "times", "block", "_name",
+        "_hint",
     )
 
     def __init__(self, kind: str, frame: FrameType | None) -> None:
@@ -62,6 +63,8 @@ class LockIdentity:
         self.begin(0)
         self.across = ""
         """What several processes know it by, if they share it."""
+        self.times = 0
+        """How often this process has acquired it, if processes share it."""
         self._name = self._hint = ""
         if frame is not None:
             code = self.code = frame.f_code

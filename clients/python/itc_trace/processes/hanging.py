@@ -17,13 +17,12 @@ import threading
 import time
 from collections.abc import Callable, Iterator
 from io import FileIO
-from types import CodeType, FrameType
+from types import FrameType
 
-from ..model.file_names import name_of_file
-from ..model.frames import line_of
 from ..model.lines import state
-from ..record import own_files, plain
+from ..record import following, own_files, plain
 from ..record.own_threads import start_thread
+from .between import Own, cycle_between, find_holders, key_of_cycle, lines_of_cycle, row_of_cycle, three, told_by_all
 from .waits import WAITS, Since, Wait, cycle_of, name_of, waits
 
 LOOK = 0.1
@@ -66,6 +65,9 @@ class Hanging:
         self._begun = time.monotonic()
         self._size = 0
         """So long the file was as it was answered last."""
+        self._own = Own()
+        self._between: set[frozenset[tuple[str, str]]] = set()
+        """The cycles between processes that were told."""
 
     def begin(self) -> None:
         if not _handled:
@@ -107,6 +109,8 @@ class Hanging:
                     self._size = os.stat(self._asked).st_size
                 if self._may_be_stuck(begun):
                     self._look_whether_stuck()
+                if following.has_others():
+                    self._look_between()
             except GONE_ON:
                 continue
 
@@ -117,14 +121,18 @@ class Hanging:
         """
         now = time.monotonic()
         stuck = frozenset((thread, since) for thread, since in begun.items() if now - since > self._patience)
-        if len(stuck) < min(2, len(begun)) or stuck == self._stuck:
+        least = 1 if following.has_others() else min(2, len(begun))
+        if len(stuck) < least or stuck == self._stuck:
             return False
         self._stuck = stuck
         return True
 
     def _answer(self) -> None:
         found = waits(self._since)
+        find_holders(found, self._asked)
         _say(lines_of(found, f"{time.monotonic() - self._begun:.1f} s after its beginning {self._title()} has"))
+        if following.has_others():
+            self._look_between(again=True)
         self._note_answer()
         self._keep(cycle_of(found))
 
@@ -135,6 +143,7 @@ class Hanging:
     def _look_whether_stuck(self) -> None:
         """Tells of tasks that wait for each other, or of which none can go on."""
         found = waits(self._since)
+        self._own.look_at(found)
         cycle = cycle_of(found)
         are_stuck = bool(found) and all(one.is_endless for one in found) and not _handles_signals()
         if not cycle and not are_stuck or state.tracer is None:
@@ -148,6 +157,20 @@ class Hanging:
             _say(lines_of(found, f"some{self._within()} wait for each other of"))
         if self._keep(cycle) and self._break_off is not None:
             self._break_off()
+
+    def _look_between(self, again: bool = False) -> None:
+        """Tells of tasks that wait for each other, of which some are those of child processes.
+
+        `again` tells what was told before.
+        """
+        self._own.write(self._asked)
+        cycle = cycle_between(told_by_all(self._asked))
+        key = key_of_cycle(cycle)
+        if cycle and (again or key not in self._between):
+            _say(list(lines_of_cycle(cycle)))
+        if cycle and key not in self._between:
+            self._between.add(key)
+            self._write(row_of_cycle(cycle))
 
     def _keep(self, cycle: list[Wait]) -> bool:
         """Writes a cycle to the journal, if it still is one. Gives whether it is."""
@@ -182,6 +205,10 @@ class HangingChild(Hanging):
 
     def _note_answer(self) -> None:
         """The command waits for the program's own process."""
+
+    def _look_between(self, again: bool = False) -> None:
+        """The program's own process is told."""
+        self._own.write(self._asked)
 
     def _title(self) -> str:
         return f"process {self._name()}"
@@ -298,16 +325,10 @@ def deadlock_row(cycle: list[Wait]) -> str:
         held = before.lock
         steps.append({
             "task": one.task, "holds": f"the end of {one.task}" if held is None else held.name,
-            "held_at": [None, 0, ""] if held is None else _three(held.taken_by, held.taken_at),
-            "wants": one.what.removeprefix(WAITS) if one.lock is None else one.lock.name, "wanted_at": _three(*one.at),
+            "held_at": (None, 0, "") if held is None else three(held.taken_by, held.taken_at),
+            "wants": one.what.removeprefix(WAITS) if one.lock is None else one.lock.name, "wanted_at": three(*one.at),
         })
     return json.dumps({"deadlock": steps}, separators=(",", ":")) + "\n"
-
-
-def _three(code: CodeType | None, instruction: int) -> list[object]:
-    if code is None:
-        return [None, 0, ""]
-    return [name_of_file(code.co_filename), line_of(code, instruction), code.co_qualname]
 
 
 def _say(lines: list[str]) -> None:

@@ -71,6 +71,12 @@ class Wait:
     is_endless: bool = True
     """Whether nothing but another task of this process can end it."""
     at: tuple[CodeType | None, int] = (None, 0)
+    lasts: bool = False
+    """Whether it has no limit of time. Another process may end it."""
+    process: str = ""
+    """The task that a process is whose end is waited for."""
+    elsewhere: str = ""
+    """Who of another process holds the lock, in words for a person."""
 
     def told(self, now: float) -> Iterator[str]:
         since = f" for {now - self.since:.1f} s" if self.since and now - self.since >= SHORT else ""
@@ -78,10 +84,10 @@ class Wait:
         if self.lock is not None and self.on is not None:
             yield f"    {name_of(self.on)} holds it, acquired at {self.held}"
         elif self.lock is not None:
-            yield "    no task of this process holds it"
+            yield f"    {self.elsewhere or 'no task of this process holds it'}"
         for lock in () if self.line is None else self.line.held:
             if lock.across:
-                yield f"    {self.task} holds {lock.name}, acquired at {_place_of(lock.taken_by, lock.taken_at)}"
+                yield f"    {self.task} holds {lock.name}, acquired at {place_text(lock.taken_by, lock.taken_at)}"
 
 
 class Since:
@@ -212,14 +218,17 @@ def _described(inner: list[FrameType], name: str, line: Line | None, place: str,
         what = _what(one, frame.f_code.co_name)
         if what:
             wait = Wait(name, f"{WAITS}{what}", place, begun, line, is_endless=not is_bounded and _is_within(one))
+            wait.lasts = not is_bounded
             lock = _traced_lock(one)
             if lock is not None:
                 identity: LockIdentity = lock._itc_identity
                 wait.is_endless = wait.is_endless and not identity.across
                 wait.lock, wait.on = identity, _holder_of(lock)
-                wait.held = _place_of(identity.taken_by, identity.taken_at)
+                wait.held = place_text(identity.taken_by, identity.taken_at)
             elif isinstance(one, threading.Thread):
                 wait.on = one.__dict__.get("_itc_line")
+            elif frame.f_code.co_name == "join" and isinstance(ended := getattr(one, "_itc_line", None), Line):
+                wait.process = name_of(ended)
             elif type(one).__name__ == IMPORT_LOCK and one.owner is not None:
                 wait.on = _name_of_thread(one.owner)[1]
             return wait
@@ -382,10 +391,10 @@ def name_of(line: Line) -> str:
 
 
 def _place(frame: FrameType | None) -> str:
-    return "?" if frame is None else _place_of(frame.f_code, frame.f_lasti)
+    return "?" if frame is None else place_text(frame.f_code, frame.f_lasti)
 
 
-def _place_of(code: CodeType | None, instruction: int) -> str:
+def place_text(code: CodeType | None, instruction: int) -> str:
     if code is None:
         return "?"
     number = line_of(code, instruction)

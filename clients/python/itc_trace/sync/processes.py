@@ -82,6 +82,7 @@ class _Lock:
 
     def was_acquired(self, has_waited: bool = True) -> None:
         if state.note is not None and self._is_outermost():
+            self._itc_identity.times += 1
             has_taken(self._slot, self._itc_identity)
             took(self, has_waited)
 

@@ -39,6 +39,7 @@ class PermitAsLock(OnePermit):
 
     def hold(self, token: Token | None, has_waited: bool, is_only: bool) -> None:
         """The current task has acquired it, behind the place of the token. It is no lock if more permits are out."""
+        self._itc_identity.times += 1
         if not is_only:
             became_signal(self._itc_identity)
         if self._itc_identity.signal is None:
