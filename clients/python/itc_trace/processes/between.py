@@ -18,6 +18,7 @@ import time
 from collections.abc import Iterable, Iterator
 from dataclasses import asdict, dataclass, field
 from types import CodeType
+from typing import Any
 
 from ..model.file_names import name_of_file
 from ..model.frames import line_of
@@ -76,11 +77,12 @@ class Told:
     @staticmethod
     def read(text: str) -> Told:
         begin, until, signals, waits = json.loads(text)
-        return Told(begin, until, signals, [_waiting(**one) for one in waits])
+        return Told(begin, until, signals, [_waiting(one) for one in waits])
 
 
-def _waiting(holds: dict[str, dict[str, object]], **named: object) -> Waiting:
-    return Waiting(**named, holds={across: Holding(**one) for across, one in holds.items()})  # type: ignore[arg-type]
+def _waiting(told: dict[str, Any]) -> Waiting:
+    holds = {across: Holding(**held) for across, held in told.pop("holds").items()}
+    return Waiting(**told, holds=holds)
 
 
 class Own:
