@@ -31,6 +31,7 @@ struct Thread {
     held: RefCell<Vec<HeldLock>>,
     /// The locks that are held, each with one that was acquired before it and released since.
     outlived: RefCell<Vec<(u64, u64)>>,
+    has_outlived: Cell<bool>,
     /// The last place of another task that its task has come after, and by what.
     taken: RefCell<(Weak<Place>, Kind)>,
     /// Where it has released the lock that it has acquired last, if it does nothing else but to release it again.
@@ -44,6 +45,7 @@ impl Thread {
             noted: Cell::new(None),
             held: RefCell::new(Vec::new()),
             outlived: RefCell::new(Vec::new()),
+            has_outlived: Cell::new(false),
             taken: RefCell::new((Weak::new(), Kind::Meant)),
             own: Cell::new(None),
         }
@@ -335,7 +337,11 @@ pub(crate) fn release_lock(tracer: &Tracer, lock: LockName, is_guard: &AtomicBoo
 /// The same for the time of a wait. Then it acquires the lock again for what it has held all along, so none outlives it.
 pub(crate) fn lend_lock(tracer: &Tracer, lock: LockName, is_guard: &AtomicBool, site: Site) -> Option<Release> {
     let lent = release_lock(tracer, lock, is_guard, site);
-    let _ = THREAD.try_with(|thread| thread.outlived.borrow_mut().retain(|(_, released)| *released != lock.number));
+    let _ = THREAD.try_with(|thread| {
+        let mut outlived = thread.outlived.borrow_mut();
+        outlived.retain(|(_, released)| *released != lock.number);
+        thread.has_outlived.set(!outlived.is_empty());
+    });
     lent
 }
 
@@ -365,22 +371,25 @@ impl Thread {
     #[inline]
     fn let_go(&self, lock: u64) -> bool {
         let mut held = self.held.borrow_mut();
+        if self.has_outlived.get() || !held.last().is_some_and(|last| last.lock.number == lock) {
+            return self.let_go_of(&mut held, lock);
+        }
+        held.pop();
+        false
+    }
+
+    /// The same where it is not the last lock that the thread holds, or where some have outlived others.
+    #[cold]
+    fn let_go_of(&self, held: &mut Vec<HeldLock>, lock: u64) -> bool {
         let mut outlived = self.outlived.borrow_mut();
-        if !outlived.is_empty() {
-            outlived.retain(|(later, _)| *later != lock);
+        outlived.retain(|(later, _)| *later != lock);
+        let place = held.iter().rposition(|other| other.lock.number == lock);
+        if let Some(place) = place {
+            held.remove(place);
+            outlived.extend(held[place..].iter().map(|later| (later.lock.number, lock)));
         }
-        if held.last().is_some_and(|last| last.lock.number == lock) {
-            held.pop();
-            return false;
-        }
-        match held.iter().rposition(|other| other.lock.number == lock) {
-            Some(place) => {
-                held.remove(place);
-                outlived.extend(held[place..].iter().map(|later| (later.lock.number, lock)));
-                place < held.len()
-            }
-            None => false,
-        }
+        self.has_outlived.set(!outlived.is_empty());
+        place.is_some_and(|place| place < held.len())
     }
 
     /// The lock that is held last, behind those that it was waited for with.

@@ -578,10 +578,12 @@ impl State {
         for (event, rows) in self.lines[task].grow(task) {
             self.add_rows(event, rows);
         }
-        let kind = if touch.writes { "write" } else { "read" };
-        let named = if touch.is_across { thing.to_string() } else { format!("{thing} of {}", self.process) };
-        let row = Row::new(&self.lines[task].name, kind, site, format!("{kind} {thing}"));
-        self.add(task, thing, touch, Row { thing: Some(named), held: held.to_vec(), function, ..row });
+        self.add(task, thing, touch, |state| {
+            let kind = if touch.writes { "write" } else { "read" };
+            let named = if touch.is_across { thing.to_string() } else { format!("{thing} of {}", state.process) };
+            let row = Row::new(&state.lines[task].name, kind, site, format!("{kind} {thing}"));
+            Row { thing: Some(named), held: held.to_vec(), function, ..row }
+        });
     }
 
     /// A lock was waited for with others held. Where these were acquired is a part of what is told once.
@@ -596,21 +598,24 @@ impl State {
         let held: Vec<LockName> = others.iter().map(|one| one.lock).collect();
         let places: Vec<usize> = others.iter().map(|one| one.at.map_or(0, |at| at as *const _ as usize)).collect();
         let thing = format!("{} {places:?}", wanted.lock.number);
-        let row = Row::new(&self.lines[task].name, "local", wanted.at, format!("acquire {}", wanted.lock.told()));
-        self.add(task, &thing, &Touch::new(false, false, wanted.at, &held), Row { held, function, acquired: locks, ..row });
+        let (at, label, touch) = (wanted.at, format!("acquire {}", wanted.lock.told()), Touch::new(false, false, wanted.at, &held));
+        self.add(task, &thing, &touch, |state| {
+            Row { held, function, acquired: locks, ..Row::new(&state.lines[task].name, "local", at, label) }
+        });
     }
 
-    /// Adds what a task has done to its last segment, if it has not done the same there.
-    fn add(&mut self, task: Task, thing: &str, touch: &Touch, row: Row) {
+    /// Adds what a task has done to its last segment, if it has not done the same there. Only then the row is made.
+    fn add(&mut self, task: Task, thing: &str, touch: &Touch, row: impl FnOnce(&State) -> Row) {
         let segment = self.lines[task].last();
         let is_first = segment.is_empty();
         if segment.adds(thing, touch) {
             if is_first {
                 segment.time = journal::now();
             }
-            match segment.event {
+            let (event, row) = (segment.event, row(self));
+            match event {
                 Some(event) => self.add_rows(event, vec![row]),
-                None => segment.rows.push(row),
+                None => self.lines[task].last().rows.push(row),
             }
         }
         self.advance(task);
