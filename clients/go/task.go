@@ -37,6 +37,7 @@ type task struct {
 	// lastSent is the last event, if that has sent a message.
 	lastSent *message
 	held     *holding
+	waits    map[wait]*wait
 	end      *token
 	joinedBy *task
 	isEnded  atomic.Bool
@@ -115,7 +116,12 @@ type touch struct {
 	// held has the names of the locks that the task holds, each behind a line feed.
 	held             string
 	writes, isAcross bool
-	// wants is the lock that the task has waited for while it held others. places and shared tell more of those.
+	// wait is of a lock that the task has waited for while it held others. Each is there once in its task.
+	wait *wait
+}
+
+// wait is a lock that is waited for, and places and shared tell more of those that are held.
+type wait struct {
 	wants, places, shared string
 }
 
@@ -283,8 +289,21 @@ func (of *task) acquires(wanted *lock, at *site, isShared bool) {
 		for one := held; one.count > 0; one = one.below {
 			one.lock.isNested.Store(true)
 		}
-		of.add(touch{site: at, held: held.text, wants: wanted.name, places: held.places, shared: held.sharedWith(isShared)})
+		one := of.waiting(wait{wanted.name, held.places, held.sharedWith(isShared)})
+		of.add(touch{site: at, held: held.text, wait: one})
 	}
+}
+
+// waiting is the same wait, as it is known by where it stands: the touches of a task are compared at each turn.
+func (of *task) waiting(one wait) *wait {
+	if known := of.waits[one]; known != nil {
+		return known
+	}
+	if of.waits == nil || len(of.waits) >= mostTouches {
+		of.waits = map[wait]*wait{}
+	}
+	of.waits[one] = &one
+	return &one
 }
 
 // add notes what the task has done, with its mutex held.

@@ -788,11 +788,11 @@ func (t *tracer) writeTouches() {
 const partBits = 32
 
 func (t *tracer) rowOf(all *touches, told touch, event int64) row {
-	if told.wants != "" {
+	if wait := told.wait; wait != nil {
 		return t.timed(all, row{
 			event: int(event & (1<<partBits - 1)), part: int(event >> partBits), task: all.task.name, kind: "local", site: told.site,
-			label: "acquire " + told.wants[strings.Index(told.wants, " ")+1:], held: told.held, wants: told.wants, places: told.places,
-			shared: told.shared,
+			label: "acquire " + wait.wants[strings.Index(wait.wants, " ")+1:], held: told.held, wants: wait.wants, places: wait.places,
+			shared: wait.shared,
 		})
 	}
 	kind, named := "read", told.thing
