@@ -279,7 +279,9 @@ func (of *task) touch(one touch) {
 	of.mutex.Lock()
 	defer of.mutex.Unlock()
 	one.held = of.held.text
-	of.add(one)
+	if now := of.sincePlace; now == nil || now.last != one { // Asked here first, it costs no copy.
+		of.add(one)
+	}
 }
 
 // acquires notes that the task has waited for a lock, if it holds others. The mutex of the task is held.
