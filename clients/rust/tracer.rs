@@ -599,8 +599,11 @@ impl State {
         let places: Vec<usize> = others.iter().map(|one| one.at.map_or(0, |at| at as *const _ as usize)).collect();
         let thing = format!("{} {places:?}", wanted.lock.number);
         let (at, label, touch) = (wanted.at, format!("acquire {}", wanted.lock.told()), Touch::new(false, false, wanted.at, &held));
-        self.add(task, &thing, &touch, |state| {
-            Row { held, function, acquired: locks, ..Row::new(&state.lines[task].name, "local", at, label) }
+        self.add(task, &thing, &touch, |state| Row {
+            held,
+            function,
+            acquired: locks,
+            ..Row::new(&state.lines[task].name, "local", at, label)
         });
     }
 
