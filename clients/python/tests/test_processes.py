@@ -663,7 +663,11 @@ def racing(pool, single):
     for one in (*same, submitted, first, *more):
         one.get()
     for one in (pool, single):
-        one.terminate()
+        if method == "fork":
+            one.terminate()
+        else:  # A worker that is ended as it begins is not traced, and that is told.
+            one.close()
+            one.join()
 
 method, how = sys.argv[1:]
 if __name__ == "__main__":
