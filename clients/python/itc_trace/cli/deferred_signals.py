@@ -12,16 +12,13 @@ import sys
 import threading
 import time
 from _thread import get_ident
-from collections.abc import Callable
-from types import CodeType, FrameType
+from types import FrameType
 from typing import Any
 
 from ..record import plain
 from ..record.noting import without_own_frame
 from ..record.own_threads import start_thread
 from ..record.raised_within import is_of_library
-from ..watch import hooks
-from ..watch.helper import quick
 
 _FOLDER = os.path.dirname(os.path.dirname(os.path.abspath(__file__)))
 _PARTS = (("model", ""), ("record", ""), ("watch", ""), ("cli", "traced_process.py"))
@@ -39,22 +36,18 @@ FINALIZER = "__del__"
 _send = getattr(signal, "pthread_kill", None)
 _handler_of = signal.getsignal
 _trace_of, _set_trace = sys.gettrace, sys.settrace
-_main = threading.main_thread().ident
-"""The number of the main thread. A function of the program that follows it would see a call of the library."""
 _lock = plain.RLock()
 """Held while a signal is sent once more, so that no other handler is set meanwhile."""
 _late: dict[int, Deferred] = {}
 """The handlers that may have to be called for what has come."""
 _looked_at: list[FrameType] = []
 """The frame of the program in which the handlers are called as soon as it goes on."""
-_called_behind: list[tuple[int, CodeType]] = []
-"""That frame, if they are called behind its next hook."""
 
 
 def _in_child() -> None:
-    """The thread that held the lock is not in this process, and the one that forked it is the main thread."""
-    global _lock, _main
-    _lock, _main = plain.RLock(), get_ident()
+    """The thread that held the lock is not in this process."""
+    global _lock
+    _lock = plain.RLock()
 
 
 if hasattr(os, "register_at_fork"):
@@ -121,12 +114,13 @@ class Deferred:
             plain.sleep(delay)
             delay = min(2 * delay, LONGEST_DELAY)
             with _lock:
-                if not self._waiting or _main is None or _send is None or _handler_of(number) is not self:
+                main = threading.main_thread().ident
+                if not self._waiting or main is None or _send is None or _handler_of(number) is not self:
                     self._has_thread = False
                     return
                 self._tries += 1
                 self._is_sent = True
-                _send(_main, number)
+                _send(main, number)
 
     def takes_one(self) -> bool:
         """Whether there is one more for which the handler is to be called now."""
@@ -165,45 +159,11 @@ def _of_program(frame: FrameType | None) -> FrameType | None:
 
 
 def _look_at(frame: FrameType | None) -> None:
-    """Has the handlers called when this frame goes on, or the program calls another function.
-
-    If the program follows its threads by a function of its own, that one stays: hooks that take long look by
-    themselves.
-    """
+    """Has the handlers called when this frame goes on, or the program calls another function."""
     if frame is not None and _trace_of() is None:
         _looked_at[:] = [frame]
         frame.f_trace = _goes_on
         _set_trace(_is_called)
-    elif frame is not None and quick is None and frame.f_code.co_name != FINALIZER:
-        _called_behind[:] = [_place_of(frame)]
-        hooks.call_behind(_behind)
-
-
-def _place_of(frame: FrameType) -> tuple[int, CodeType]:
-    """What the frame is known by. It is not kept, nor what it refers to."""
-    return id(frame), frame.f_code
-
-
-def _behind(hook: Callable[..., Any]) -> Callable[..., Any]:
-    """The hook, behind which the handlers are called if it is one of the frame that was interrupted.
-
-    In another frame the function may run by which the program follows its threads.
-    """
-
-    def call(*words: Any) -> Any:
-        told = hook(*words)
-        frame = sys._getframe(1)
-        if _place_of(frame) in _called_behind:
-            _called_behind.clear()
-            hooks.put_back()
-            try:
-                catch_up(frame)
-            except BaseException as fault:
-                without_own_frame(fault)
-                raise
-        return told
-
-    return call
 
 
 def _is_called(frame: FrameType, event: str, value: Any) -> None:
@@ -229,7 +189,7 @@ def _goes_on(frame: FrameType, _: str, __: Any) -> None:
 
 def catch_up(frame: FrameType | None) -> None:
     """The handlers are called for what has come: the program goes on, changes what signals do, or ends."""
-    if not _late or get_ident() != _main:
+    if not _late or get_ident() != threading.main_thread().ident:
         return
     try:
         for number, one in list(_late.items()):

@@ -1585,26 +1585,6 @@ def put(is_on: bool) -> None:
     setattr(builtins, ON, is_on)
 
 
-OFTEN = (
-    "at_variable", "at_cell", "after_letting_go", "before_attribute", "before_attribute_local",
-    "before_called_attribute", "before_called_attribute_local", "before_whole", "before_whole_local", "before_element",
-    "before_element_local", "before_key", "before_key_local", "before_method", "before_method_local", "after_value",
-    "after_value_local", "after_call", "before_loop", "before_loop_local",
-)
-"""Hooks that most lines have, and that look at no frame."""
-
-
-def call_behind(make: Callable[[Callable[..., Any]], Callable[..., Any]]) -> None:
-    """Has what is made of these hooks called in their places, until they are put back."""
-    for name in OFTEN:
-        setattr(builtins, PREFIX + name, make((HOOKS if are_put() else QUIET)[name]))
-
-
-def put_back() -> None:
-    for name in OFTEN:
-        setattr(builtins, PREFIX + name, (HOOKS if are_put() else QUIET)[name])
-
-
 def put_for_the_end() -> None:
     """Puts hooks that do nothing into the copy by which the interpreter replaces all builtins before it lets go of the
     modules.
