@@ -11,7 +11,7 @@ from asyncio.events import _get_running_loop
 from collections.abc import Callable, Hashable
 from sys import _getframe
 from types import CodeType, FrameType
-from typing import Any
+from typing import Any, NamedTuple
 
 from ..model.conflicts import MAKING, READ, WRITE
 from ..model.frames import frame_at, place, place_of
@@ -36,16 +36,44 @@ _NO_LINE: Any = object()
 """What stands for the line of a task of the library's own class, which takes none."""
 
 
+class Replacing(NamedTuple):
+    """A library that runs tasks of its own in a thread, and may put them in the place of threads."""
+
+    library: str
+    line: Callable[[], Line | None]
+    """Gives the line of the task that runs now and has none yet. None if that is the thread itself."""
+    who: Callable[[], int | None]
+    """What tells the task that runs now from all others. None in a thread without such tasks."""
+
+
+REPLACING: list[Replacing] = []
+"""The libraries of this kind that are followed."""
+
+
+def has_tasks() -> bool:
+    """Whether this thread has tasks of such a library."""
+    return any(one.who() is not None for one in REPLACING)
+
+
 def are_replaced() -> bool:
+    """Whether another library has put tasks of its own in the place of threads, and these are not followed."""
+    return are_in_place() and _library() not in {one.library for one in REPLACING}
+
+
+def are_in_place() -> bool:
     """Whether another library has put tasks of its own in the place of threads, as gevent does."""
     return getattr(threading.get_ident, "__module__", "_thread") != "_thread"
+
+
+def _library() -> str:
+    return str(getattr(threading.get_ident, "__module__", "another library")).partition(".")[0]
 
 
 def not_followed() -> list[Unseen]:
     """What is not seen of tasks in the place of threads, all of which run in one."""
     if not are_replaced():
         return []
-    library = str(getattr(threading.get_ident, "__module__", "another library")).partition(".")[0]
+    library = _library()
     return [
         Unseen(
             Cause.MODULE,
@@ -107,7 +135,10 @@ def who() -> int:
     """What tells whatever runs now from all else that runs, also once tracing has begun anew."""
     loop = _get_running_loop()
     task = None if loop is None else _task_of(loop)
-    return get_ident() if task is None else id(task)
+    if task is not None:
+        return id(task)
+    own = next((found for found in (one.who() for one in REPLACING) if found is not None), None)
+    return get_ident() if own is None else own
 
 
 def line_of_task(task: Any) -> Line | None:
@@ -137,6 +168,10 @@ def _adopt_task(task: Any) -> Line | None:
 
 
 def _adopt_thread() -> Line:
+    for one in REPLACING:
+        own = one.line()
+        if own is not None:
+            return own
     thread = threading._active.get(_thread.get_ident())  # type: ignore[attr-defined]
     line = Line(state.tracer, "thread#" if thread is None else thread_name(thread))
     enter(line)

@@ -28,7 +28,7 @@ from .following import ChildProcess
 from .journal import Places, ProcessTold, TouchTexts, border_row, text_of
 from .journal_file import JournalFile
 from .names import ANY_PROCESS, Names, tag_of
-from .noting import LOST, enter
+from .noting import LOST, enter, has_tasks
 from .order_of_tasks import OrderOfTasks
 from .own_threads import IDENTS, start_thread
 from .reports import Outstanding, Reports
@@ -177,7 +177,7 @@ class Tracer:
         LOST.clear()
         await_nobody()
         enter(self.main)
-        if threading.active_count() > 1:
+        if threading.active_count() > 1 or has_tasks():
             self.parent_of_strangers = Line(self, "others")
             self._note_now((SPAWN, self.main, self.parent_of_strangers, None, 0))
         state.block += 1

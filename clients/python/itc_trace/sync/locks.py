@@ -11,7 +11,6 @@ import functools
 import linecache
 import re
 import sys
-import threading
 from _thread import get_ident
 from collections import deque
 from sys import _getframe
@@ -198,11 +197,7 @@ def allocate_lock() -> Any:
     return _allocate() if is_internal(frame) else traced_lock(frame)
 
 
-def new_rlock(*words: Any, **named: Any) -> Any:
-    """What `threading` makes. A library that puts tasks in the place of threads has it make locks of its own."""
-    if vars(threading)["_CRLock"] is None:
-        return vars(threading)["_PyRLock"](*words, **named)
-    frame = frame_at(1)
+def new_c_rlock(frame: FrameType | None, *words: Any, **named: Any) -> Any:
     return _PlainRLock(*words, **named) if is_internal(frame) else traced_rlock(frame, TracedRLock, *words, **named)
 
 

@@ -11,15 +11,16 @@ from typing import Any
 
 from .handed_on import called, handed_at
 from ..model.lines import BARRIER, EVENT, FINISH, JOIN, NOTIFY, SEMAPHORE, SPAWN, Line, state
-from ..record.noting import are_replaced, enter, joining, local, mark, starting, take, thread_name
+from ..record.noting import are_in_place, are_replaced, enter, joining, local, mark, starting, take, thread_name
 from ..model.frames import frame_at, is_internal, line_of, place
 from ..model.lock_identity import Asking
 from .base import Patches, like
 from .left_behind import ended, started
 from ..record.awaited import await_at_exit
 from .locks import (
-    IS_CALLED, OnePermit, TracedLock, TracedRLock, allocate_lock, gave, is_of_condition, new_rlock, took, traced_rlock,
+    IS_CALLED, OnePermit, TracedLock, TracedRLock, allocate_lock, gave, is_of_condition, took,
 )
+from .python_rlocks import known_lock, new_rlock, rlock_of_condition
 from .waiters import Waiters
 
 _PLAIN_LOCK: Any = _thread.LockType
@@ -95,6 +96,8 @@ def _begin_timer(original: Any) -> Any:
         # Another library may have put an event of its own in its place.
         if type(self.finished) is threading.Event and hasattr(self.finished, "_itc_is_silent"):
             _be_of_the_program(self.finished)
+        elif hasattr(self.finished, "_itc_is_quiet"):
+            self.finished._itc_is_quiet = False
 
     return __init__
 
@@ -266,13 +269,18 @@ def _condition_begin(original: Any) -> Any:
         frame = frame_at(1)
         is_the_programs = not is_internal(frame)
         if lock is None:
-            lock = threading.RLock() if are_replaced() else traced_rlock(frame) if is_the_programs else _PLAIN_RLOCK()
+            lock = _lock_of_condition(frame) if is_the_programs or are_in_place() else _PLAIN_RLOCK()
         original(self, lock)
         if is_the_programs and not are_replaced():
             self._waiters = Waiters()
-            is_of_condition(lock, frame)
+            is_of_condition(known_lock(lock), frame)
 
     return __init__
+
+
+def _lock_of_condition(frame: FrameType | None) -> Any:
+    """One of the program, or of the library as another one has it made."""
+    return threading.RLock() if are_replaced() else rlock_of_condition(frame)
 
 
 def _condition_notify(original: Any) -> Any:
@@ -280,7 +288,7 @@ def _condition_notify(original: Any) -> Any:
         lock, waiters = self._lock, self._waiters
         if not waiters and type(lock) is _PLAIN_LOCK and type(self) is threading.Condition and lock.locked():
             return  # Nobody waits, and the lock is the library's own: there is nothing to do and nothing to tell.
-        is_of_condition(lock)
+        is_of_condition(known_lock(lock))
         if waiters and type(waiters) is Waiters and self._is_owned():
             waiters.are_notified(mark(NOTIFY), n)
         original(self, n)
@@ -290,7 +298,7 @@ def _condition_notify(original: Any) -> Any:
 
 def _condition_wait(original: Any) -> Any:
     def wait(self: Any, timeout: float | None = None) -> bool:
-        is_of_condition(self._lock)
+        is_of_condition(known_lock(self._lock))
         is_woken = False
         try:
             is_woken = bool(original(self, timeout))

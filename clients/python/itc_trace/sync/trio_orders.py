@@ -13,18 +13,18 @@ from types import ModuleType
 from typing import Any
 
 from ..model.frames import frame_at, is_internal
-from ..model.lines import EVENT, NOTIFY, QUEUE, ROOM, SEMAPHORE, Line, Token, What, state
+from ..model.lines import EVENT, NOTIFY, QUEUE, ROOM, Line, Token, What, state
 from ..model.lock_identity import LockIdentity
 from ..record.noting import mark, take
 from .base import Patches
 from .by_identity import ByIdentity
 from .later import once_imported
-from .locks import OnePermit, gave, is_of_condition, took
+from .locks import gave, is_of_condition, took
+from .permits import MOST_PERMITS, Permits
 from .queues import MOST_PLACES
 from .trio_tasks import Quiet, current_task, known_of, protected
 
 CLOSED = What("closed", "close channel", "see channel closed")
-MOST_PERMITS = 65536
 _set: ByIdentity[Token] = ByIdentity()
 """Where each event was set."""
 _channels: ByIdentity[Channel] = ByIdentity()
@@ -177,40 +177,6 @@ def _condition_wait(original: Any) -> Any:
 # Permits: those of a semaphore, and of a limiter. If there is one alone, it is a lock.
 
 
-class _Permits:
-    """Permits that are handed on first in, first out."""
-
-    __slots__ = ("one", "free")
-
-    def __init__(self, kind: str, count: int, frame: Any) -> None:
-        self.one = OnePermit(f"trio.{kind}", frame) if count == 1 else None
-        self.free: deque[Token | None] = deque([None] * count)
-
-    def take(self) -> None:
-        if state.note is None:
-            return
-        if self.one is not None:
-            took(self.one)
-        elif self.free:
-            take(self.free.popleft())
-
-    def give(self, free: int) -> None:
-        if state.note is None:
-            return
-        if self.one is not None and not self.one.is_held:
-            self.free, self.one = self.one.as_permits(free), None
-        if self.one is not None:
-            gave(self.one)
-        else:
-            self.free.append(mark(SEMAPHORE))
-
-    def grow(self, more: int, free: int) -> None:
-        """There are so many more permits, and of a single one so many that are free."""
-        if self.one is not None:
-            self.free, self.one = self.one.as_permits(free), None
-        self.free.extend([None] * more)
-
-
 def _put_permits(patches: Patches, names: Any, wrap_awaited: Any) -> None:
     semaphore, limiter = names["Semaphore"], names["CapacityLimiter"]
     patches.wrap(semaphore, "__init__", _begin_semaphore)
@@ -229,7 +195,7 @@ def _begin_semaphore(original: Any) -> Any:
     def __init__(self: Any, initial_value: int, *, max_value: int | None = None) -> None:
         original(self, initial_value, max_value=max_value)
         if initial_value <= MOST_PERMITS:
-            self._itc_permits = _Permits("Semaphore", initial_value, frame_at(1))
+            self._itc_permits = Permits("trio.Semaphore", initial_value, frame_at(1))
 
     return __init__
 
@@ -241,7 +207,7 @@ def _begin_limiter(original: Any) -> Any:
         original(self, total_tokens)
         frame = frame_at(1)
         if total_tokens <= MOST_PERMITS and not is_internal(frame):
-            self._itc_permits = _Permits("CapacityLimiter", int(total_tokens), frame)
+            self._itc_permits = Permits("trio.CapacityLimiter", int(total_tokens), frame)
 
     return __init__
 

@@ -16,15 +16,16 @@ from typing import Any
 
 from ..model.frames import frame_at, place
 from ..model.lines import (
-    CALL, CANCEL, FINISH, RESULT, SPAWN, SUBMIT, TAKE_END, LateJob, Line, Token, What, state,
+    CALL, CANCEL, FINISH, RESULT, SPAWN, TAKE_END, Line, Token, What, state,
 )
 from ..model.loop_runs import BEGINS, LOOPS, RUNS, LoopRun, begun_here, number_of_loop
 from ..model.stretches import TURNS, leave
 from ..record.noting import current, enter, failed, joining, local, mark, starting, take, take_at
-from .base import Patches, like, named_like
+from .base import Patches, like
 from .by_identity import ByIdentity
 from .handed_on import called, handed_at
 from .later import once_imported
+from .thread_jobs import Job, named_job
 
 WAKE = What("wake", "wake up", "woken")
 OF_RESULTS = "trio._threads"
@@ -254,77 +255,12 @@ def _deliver_cancel(original: Any) -> Any:
 # Threads
 
 
-def _named(function: Any, make: Callable[[Any], Any]) -> Any:
-    """What is made of a function, with its name. A partial stays one."""
-    if type(function) is functools.partial:
-        return functools.partial(_named(function.func, make), *function.args, **function.keywords)
-    return named_like(function, make(function))
-
-
-class _Job:
-    """A function that a thread of trio calls: a task of its own, as long as these are not scarce."""
-
-    __slots__ = ("_line", "_submitted", "_number", "_end", "_is_over", "_handed", "__weakref__")
-
-    def __init__(self, function: Any) -> None:
-        note, tracer = state.note, state.tracer
-        self._line: Line | None = None
-        self._submitted: Token | None = None
-        self._end: Token | None = None
-        self._is_over = False
-        self._handed = handed_at(function)
-        self._number = 0 if tracer is None else tracer.next_job()
-        if note is None or tracer is None:
-            return
-        if self._number > tracer.most_lines:
-            self._submitted = mark(SUBMIT)
-            return
-        line = self._line = Line(tracer, str(getattr(function, "__name__", "job")) + "#")
-        line.must_finish = True
-        line.watch(self)
-        note((SPAWN, starting(line), line, *place(frame_at(1))))
-
-    def run(self, function: Any, *args: Any, **named: Any) -> Any:
-        line, worker = self._line, getattr(local, "line", None)
-        if line is not None:
-            enter(line)
-        else:
-            own = current()
-            own.job = LateJob(own, self._number)
-            take(self._submitted)
-        called(function, args, self._handed)
-        try:
-            return function(*args, **named)
-        finally:
-            self._end_run(worker)
-
-    def _end_run(self, worker: Line | None) -> None:
-        line, note = self._line, state.note
-        self._is_over = True
-        if line is None:
-            self._end = mark(RESULT)
-            return
-        enter(worker)
-        if note is not None and line.tracer is state.tracer:
-            note((FINISH, line, False, False))
-
-    def was_awaited(self) -> None:
-        """From now on the current task comes after the job, if that is over."""
-        line, note = self._line, state.note
-        if not self._is_over:
-            return
-        if line is None:
-            take(self._end)
-        elif note is not None and line.tracer is state.tracer:
-            note((TAKE_END, joining(line), line, *place(frame_at(1))))
-
-
 def _in_thread(original: Any) -> Any:
     async def run_sync(sync_fn: Any, *args: Any, **named: Any) -> Any:
         if state.note is None or not callable(sync_fn):
             return await original(sync_fn, *args, **named)
-        job = _Job(sync_fn)
-        call = _named(sync_fn, lambda function: functools.partial(job.run, function))
+        job = Job(sync_fn)
+        call = named_job(sync_fn, lambda function: functools.partial(job.run, function))
         try:
             return await original(call, *args, **named)
         finally:
@@ -378,7 +314,7 @@ def _asking(original: Any, make: Callable[[_Call, Any], Any]) -> Any:
             return original(fn, *args, **named)
         asked = _Call()
         try:
-            return original(_named(fn, functools.partial(make, asked)), *args, **named)
+            return original(named_job(fn, functools.partial(make, asked)), *args, **named)
         finally:
             take(asked.end)
 

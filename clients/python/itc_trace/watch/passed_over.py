@@ -9,6 +9,7 @@ from collections.abc import Callable
 
 from ..model.stretches import SITES
 from ..model.verdict import PassedOver
+from ..record import noting
 from .learned import Learned
 
 BUILT_IN = frozenset(("exec", "eval", "memoryview"))
@@ -35,7 +36,7 @@ FOLLOWED_METHODS = frozenset(
 REPLACING = ("unittest.mock.patch", "mock.patch", "importlib.reload")
 """Functions that replace what others use. While there is one task nobody else does."""
 _MODULES = frozenset(("ctypes", "numpy", "pandas", "multiprocessing.shared_memory"))
-_WITH_TASKS = frozenset("greenlet gevent eventlet twisted anyio curio stackless cffi".split())
+_WITH_TASKS = frozenset("greenlet eventlet twisted anyio curio stackless cffi".split())
 """Libraries with tasks of their own, or with threads that no code of Python starts."""
 _LOADED = ("gevent", "eventlet", "curio", "stackless", "twisted.internet")
 """Those of them that another library imports for its own tasks. Others come along where nobody uses them."""
@@ -157,7 +158,10 @@ def _with_tasks(name: str) -> str:
 def of_loaded() -> list[PassedOver]:
     """The libraries with tasks of their own that are there, and that no watched module was seen to import."""
     told = {one.what for one in found}
-    names = [f"{TASKS_OF}{name.partition('.')[0]}" for name in _LOADED if name in sys.modules]
+    followed = {one.library for one in noting.REPLACING}
+    names = [
+        f"{TASKS_OF}{name.partition('.')[0]}" for name in _LOADED if name in sys.modules and name not in followed
+    ]
     return [PassedOver(name, BY_A_LIBRARY) for name in names if name not in told]
 
 
