@@ -743,11 +743,9 @@ ONE_TURN = """
 import gevent
 busy, seen = set(), {"count": 0}
 def work(number):
-    while len(busy) >= 2: gevent.sleep(0)
-    busy.add(number)
-    seen["count"] += 1
+    if len(busy) < 9: busy.add(number)
     gevent.sleep(0)
-    busy.remove(number)
+    seen["count"] += 1
 gevent.joinall([gevent.spawn(work, number) for number in range(6)])
 print(len(busy), seen)
 """
@@ -874,10 +872,19 @@ def visit(number):
 gevent.joinall([gevent.spawn(visit, number) for number in range(3)])
 print(shop.sold)
 """
-PLANTED = """
-import gevent
-def work(): pass
-gevent.spawn(work).join()
+BEFORE = """
+from gevent import monkey; monkey.patch_all()
+import threading, time, itc_trace
+stock = {"left": 2}
+def sell():
+    left = stock["left"]
+    time.sleep(0)
+    stock["left"] = left - 1
+with itc_trace.tracing() as traced:
+    threads = [threading.Thread(target=sell) for _ in range(2)]
+    for thread in threads: thread.start()
+    for thread in threads: thread.join()
+print(traced.races().verdict().name)
 """
 
 
@@ -927,6 +934,10 @@ class Gevent(ProgramCase):
     def test_two_orders_of_locks_are_a_possible_deadlock(self) -> None:
         _, told = self.run_it(DEADLOCK)
         self.assertIn("possible deadlock on ", told)
+
+    def test_a_gevent_that_was_there_before_is_told_of(self) -> None:
+        ran = run_python(self.program(BEFORE), python=python_with("gevent"))
+        self.assertEqual(ran.stdout, "INCOMPLETE\n", ran.stderr)
 
     def test_what_fails_does_so_as_ever(self) -> None:
         program, python = self.program(FAULTS), python_with("gevent")

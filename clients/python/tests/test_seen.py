@@ -255,16 +255,15 @@ class Options(ProgramCase):
 
 class Greenlets(ProgramCase):
     @needs("python3-gevent", "gevent")
-    def test_tasks_in_the_place_of_threads_run_as_ever_and_are_told_of(self) -> None:
+    def test_tasks_in_the_place_of_threads_run_as_ever_and_are_followed(self) -> None:
         python, program = python_with("gevent"), self.program(GREENLETS)
         plain = run_python(program, python=python)
         for words in ((), ("--watch-nothing",)):
             ran = run_traced(*words, program, python=python)
             self.assertEqual(ran.stdout, plain.stdout, ran.stderr)
-            self.assertEqual(ran.returncode, Verdict.INCOMPLETE, ran.stderr)
-            self.assertIn("gevent has put tasks in the place of threads", ran.stderr)
+            self.assertEqual(ran.returncode, Verdict.NO_RACE, ran.stderr)
+            self.assertNotIn("not looked into", ran.stderr)
             self.assertNotIn("race on", ran.stderr)
-            self.assertNotIn("tracing stops", ran.stderr)
 
 
 if __name__ == "__main__":

@@ -31,6 +31,9 @@ MOST_PERMITS = 65536
 
 
 def put(patches: Patches) -> None:
+    """Tasks that another library has put in the place of threads already are not followed."""
+    if are_in_place():
+        return
     for name in ("allocate_lock", "allocate"):
         patches.replace(_thread, name, like(vars(_thread)[name], _copy_of(allocate_lock)))
     patches.replace(threading, "Lock", TracedLock if IS_CALLED else _thread.allocate_lock)
