@@ -32,8 +32,9 @@ SOURCES = {"java": CLIENTS / "java/examples/Wrappers.java", "rust": CLIENTS / "r
 PRIMITIVES = {"java": CLIENTS / "java/examples/Primitives.java", "rust": CLIENTS / "rust/primitives.rs"}
 """Programs of one order each, which are run with a race and without one."""
 WEB = {"java": CLIENTS / "java/examples/WebPrograms.java", "rust": CLIENTS / "rust/web_programs.rs"}
+JOBS = CLIENTS / "java/examples/Jobs.java"
 REQUESTS = os.environ.get("ITC_REQUESTS", "4000")
-"""So many requests the long run answers."""
+"""So many requests the long run answers, and so many jobs another one does."""
 DEADLOCKS = {
     "rust": ("two_orders", "two_orders_gate", "read_orders", "read_orders_both", "tried_order", "crossed_orders", "gate_let_go",
              "hand_over_hand", "both_ends", "acquired_again", "wait_orders", "sent_orders"),
@@ -57,6 +58,8 @@ FEW = 4
 """So many are that run with a race and without one."""
 DIVIDED = ("go", "java", "rust")
 """Clients whose trace goes on in another part before it is full, where the relay divides it."""
+OF_A_PART = 16384
+"""So many events at most a part has."""
 ALONE = ("many", "filling", "contended")
 """Programs that need most of a trace for themselves."""
 MOST_SECONDS = 300
@@ -292,10 +295,19 @@ def check_names_in_full(programs: Programs) -> None:
 
 def check_requests(programs: Programs) -> None:
     """A long run is divided, seen whole, and its memory stays as it is. Requests that forget the lock race across parts."""
+    check_long(programs, "requests", WEB[programs.language])
+
+
+def check_jobs(programs: Programs) -> None:
+    """The same holds of an executor that lives long, whose jobs race if one does not wait for them."""
+    check_long(programs, "jobs", JOBS)
+
+
+def check_long(programs: Programs, name: str, source: Path) -> None:
     with tempfile.TemporaryDirectory() as folder:
-        ran = run_system(Path(folder), one=programs.words("requests", REQUESTS))
-    check(ran, RACES, marked(WEB[programs.language], "race", "requests"), set())
-    if not re.search(r"of part \d", ran.stderr):
+        ran = run_system(Path(folder), one=programs.words(name, REQUESTS))
+    check(ran, RACES, marked(source, "race", name), set())
+    if int(re.findall(r"(\d+) events", ran.stderr)[-1]) <= OF_A_PART:
         raise Wrong(f"the run was not divided\n{ran.stderr}")
 
 
@@ -461,7 +473,7 @@ def check_table() -> None:
     """The table of what is followed names each program, and no others."""
     rows = re.findall(r"^\| .* \| ([^|]*) \|$", PAGE.read_text().partition("| What is followed |")[2].partition("\n\n")[0], re.M)
     named = {name for row in rows for name in re.findall(r"`(\w+)`", row)}
-    due = {*COMMON, *(name for own in OWN.values() for name in own), "across", "sender", "receiver", "web_client", "web_server", "requests"}
+    due = {*COMMON, *(name for own in OWN.values() for name in own), "across", "sender", "receiver", "web_client", "web_server", "requests", "jobs"}
     if named != due:
         raise Wrong(f"{PAGE.name} lacks {sorted(due - named)}, and has {sorted(named - due)}, which nothing runs")
 
@@ -554,7 +566,7 @@ def main() -> int:
             checks += [
                 Check([f"{language}: {name}"], call, (programs,)) for name, call in (
                     ("other table", check_other_table), ("free locks", check_free_locks), ("service", check_service), ("child", check_child),
-                    ("names in full", check_names_in_full), ("requests", check_requests), *([("late hook", check_late_hook)] if language == "java" else []))
+                    ("names in full", check_names_in_full), ("requests", check_requests), *([("late hook", check_late_hook), ("jobs", check_jobs)] if language == "java" else []))
             ]
     return run_all("wrappers", checks)
 

@@ -61,16 +61,26 @@ final class WebPrograms {
             try (InputStream body = address.openStream()) {
                 body.readAllBytes();
             }
-            before = turn == count / 4 ? kept(FEW_LOOKS, 0) : before;
+            before = turn == count / 4 ? kept() : before;
         }
         server.stop(0);
+        keepsNoMoreThan(before);
+    }
+
+    /** How many bytes are kept, once what is on its way is reported. */
+    static long kept() throws InterruptedException {
+        return kept(FEW_LOOKS, 0);
+    }
+
+    /** Fails if much more is kept than before. */
+    static void keepsNoMoreThan(long before) throws InterruptedException {
         long after = kept(MANY_LOOKS, before + MOST_MORE);
         if (after > before + MOST_MORE) {
             throw new IllegalStateException(after + " bytes are kept, and " + before + " before");
         }
     }
 
-    /** How many bytes are kept, once what is on its way is reported. It looks so often, or until these are enough. */
+    /** The same. It looks so often, or until these are enough. */
     private static long kept(int looks, long enough) throws InterruptedException {
         long least = Long.MAX_VALUE;
         for (int look = 0; look < looks && least > enough; look++) {

@@ -1246,6 +1246,7 @@ public final class Wrappers {
             case "kid" -> Primitives.kid();
             case "stranger" -> Primitives.stranger();
             case "requests" -> WebPrograms.requests(Integer.parseInt(words[1]));
+            case "jobs" -> Jobs.run(Integer.parseInt(words[1]));
             case "web_server" -> WebPrograms.serve(Path.of(words[1]), Integer.parseInt(words[2]), words[3]);
             case "web_client" -> WebPrograms.ask(Path.of(words[1]), words[2]);
             default -> throw new IllegalArgumentException(words[0]);

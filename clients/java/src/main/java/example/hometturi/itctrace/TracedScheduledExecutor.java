@@ -22,7 +22,7 @@ final class TracedScheduledExecutor extends TracedExecutor implements ScheduledE
     }
 
     /** A job that is done later. Whoever takes its result comes after it. */
-    private record Later<V>(ScheduledFuture<V> future, Task task) implements ScheduledFuture<V> {
+    private record Later<V>(ScheduledFuture<V> future, Task task, Cancellable once) implements ScheduledFuture<V> {
         @Override
         public V get() throws InterruptedException, ExecutionException {
             return Traced.waited(future::get, this::taken);
@@ -56,7 +56,11 @@ final class TracedScheduledExecutor extends TracedExecutor implements ScheduledE
 
         @Override
         public boolean cancel(boolean mayInterrupt) {
-            return future.cancel(mayInterrupt);
+            boolean isCancelled = future.cancel(mayInterrupt);
+            if (isCancelled && once != null) {
+                once.cancelled();
+            }
+            return isCancelled;
         }
 
         @Override
@@ -78,19 +82,20 @@ final class TracedScheduledExecutor extends TracedExecutor implements ScheduledE
     @Override
     public <V> ScheduledFuture<V> schedule(Callable<V> body, long delay, TimeUnit unit) {
         Task task = newTask();
-        return new Later<>(executor.schedule(() -> run(task, body::call), delay, unit), task);
+        Cancellable once = new Cancellable(task);
+        return new Later<>(executor.schedule(() -> once.run(this, body::call), delay, unit), task, once);
     }
 
     @Override
     public ScheduledFuture<?> scheduleAtFixedRate(Runnable body, long delay, long period, TimeUnit unit) {
         Task task = repeatedTask();
-        return new Later<>(executor.scheduleAtFixedRate(() -> again(task, body), delay, period, unit), task);
+        return new Later<>(executor.scheduleAtFixedRate(() -> again(task, body), delay, period, unit), task, null);
     }
 
     @Override
     public ScheduledFuture<?> scheduleWithFixedDelay(Runnable body, long delay, long pause, TimeUnit unit) {
         Task task = repeatedTask();
-        return new Later<>(executor.scheduleWithFixedDelay(() -> again(task, body), delay, pause, unit), task);
+        return new Later<>(executor.scheduleWithFixedDelay(() -> again(task, body), delay, pause, unit), task, null);
     }
 
     private Task repeatedTask() {

@@ -492,12 +492,12 @@ final class Tracer {
     /** The task ends. If somebody may wait for it whom another one precedes, its last place tells it. */
     synchronized void end(Task task, boolean isAwaited) {
         if (!task.isEnded) {
-            task.isEnded = true;
             if (isAwaited) {
                 Noted noted = new Noted(END, Site.NONE, Row.now());
                 task.here.meant.noted = noted;
                 task.end = new Mark(task.here, noted);
             }
+            task.isEnded = true;
             leave(task);
             tell(task, "end " + task.name, Row.of(task.name, "end", Site.NONE, "end", null), Refusable.NEVER, null);
             live.remove(task);
