@@ -21,7 +21,7 @@ import sys
 import tempfile
 from pathlib import Path
 
-from wrappers import CLIENTS, Programs
+from wrappers import CLIENTS, Programs, times_of_free_lock
 
 from itc_trace import Collector, Session
 
@@ -144,15 +144,12 @@ def free_lock(language: str, folder: Path, of_whom: str) -> str:
 
     The last column is how many times that of the language the one with a trace is.
     """
-    words = ["java", "-cp", str(folder / "java"), "FreeLock"] if language == "java" else [str(folder / "rust_free_lock")]
+    words = Programs(language, folder).words_of_free_lock()
     environment = {**os.environ, "ITC_TRACE_PORT": ""}
     without = subprocess.run([*words, of_whom], env=environment, capture_output=True, text=True, check=True).stdout.split()[2]
-    with Collector() as collector:
-        environment["ITC_TRACE_PORT"] = str(collector.port)
-        told = subprocess.run([*words, of_whom], env=environment, capture_output=True, text=True, check=True).stdout.split()
-    own, with_trace = told[1:]
+    own, with_trace = times_of_free_lock(words, of_whom)
     reader = ", for a reader" if of_whom == "reader" else ""
-    return f"| {language.title()}{reader} | {own} | {without} | {with_trace} | {float(with_trace) / float(own):.1f} |"
+    return f"| {language.title()}{reader} | {own} | {without} | {with_trace} | {with_trace / own:.1f} |"
 
 
 def main() -> None:

@@ -48,6 +48,8 @@ FIRST_COME = ("monitor",)
 """Those that a lock keeps in order by luck if the giver is there before anybody waits, as on a busy machine."""
 ENDS = {"java": ("exit", "halt", "panic", "goes_on"), "rust": ("dropped", "exit", "finish", "panic", "goes_on", "abort")}
 """How a program ends right behind a race."""
+MOST_TIMES = 4
+"""So many times as long as one of the language a free lock may take."""
 FEW_EVENTS = {"rust": 60, "java": 8000}
 """In Java a lock that is no more counts up to the next collection of garbage. 6000 such locks would take 12000 events else."""
 NO_RACE, RACES, INCOMPLETE = 0, 66, 67
@@ -148,6 +150,12 @@ class Programs:
             return ["java", "-XX:TieredStopAtLevel=1", "-cp", str(self._built / "java"), "Wrappers", *words]
         return [str(self._built / f"{self.language}_wrappers"), *words]
 
+    def words_of_free_lock(self) -> list[str]:
+        """What measures a lock, built with all optimizations."""
+        if self.language == "java":
+            return ["java", "-cp", str(self._built / "java"), "FreeLock"]
+        return [str(self._built / f"{self.language}_free_lock")]
+
 
 def run_system(folder: Path, options: list[str] | None = None, **processes: list[str]) -> "subprocess.CompletedProcess[str]":
     """Runs these processes as a system, with these options."""
@@ -242,6 +250,22 @@ def check_free_locks(programs: Programs) -> None:
     events = int(re.findall(r"(\d+) events", ran.stderr)[0])
     if events > FEW_EVENTS[programs.language]:
         raise Wrong(f"{events} events\n{ran.stderr}")
+
+
+def times_of_free_lock(words: list[str], of_whom: str) -> tuple[float, float]:
+    """The nanoseconds of a turn of the language's lock, and of one that is wrapped, with a trace. Nobody else wants either."""
+    with Collector() as collector:
+        environment = {**os.environ, "ITC_TRACE_PORT": str(collector.port)}
+        ran = subprocess.run([*words, of_whom], env=environment, capture_output=True, text=True, check=True, timeout=MOST_SECONDS)
+    _, own, with_trace = ran.stdout.split()
+    return float(own), float(with_trace)
+
+
+def check_free_lock_costs(programs: Programs, of_whom: str) -> None:
+    """A lock that nobody else wants takes at most four times as long as one of the language, by the best of nine rounds of each."""
+    own, with_trace = times_of_free_lock(programs.words_of_free_lock(), of_whom)
+    if with_trace > MOST_TIMES * own:
+        raise Wrong(f"a {of_whom} takes {with_trace} ns, and untraced {own} ns")
 
 
 def check_end(programs: Programs, how: str) -> None:
@@ -563,6 +587,7 @@ def main() -> int:
                       check_primitives, (programs, names[first:first + FEW])) for first in range(0, len(names), FEW)
             ]
             checks += [Check([f"{language}: end by {how}"], check_end, (programs, how)) for how in ENDS[language]]
+            checks += [Check([f"{language}: free {of_whom}"], check_free_lock_costs, (programs, of_whom)) for of_whom in ("lock", "reader")]
             checks += [
                 Check([f"{language}: {name}"], call, (programs,)) for name, call in (
                     ("other table", check_other_table), ("free locks", check_free_locks), ("service", check_service), ("child", check_child),
