@@ -23,6 +23,8 @@ func init() {
 		"counter":          func() { counter(false) },
 		"counter_race":     func() { counter(true) },
 		"atomic_values":    atomicValues,
+		"pool":             func() { pooled(false) },
+		"pool_race":        func() { pooled(true) },
 		"map":              func() { sharedMap(false) },
 		"map_race":         func() { sharedMap(true) },
 		"signal":           func() { signalled(false) },
@@ -251,6 +253,28 @@ func sharedMap(isLate bool) {
 		if _, isThere := shared.Load("key"); isThere {
 			panic("it is still there")
 		}
+	})
+}
+
+// pooled has what the first one puts into a pool be used again by the second one. With one processor a pool loses nothing.
+func pooled(isLate bool) {
+	runtime.GOMAXPROCS(1)
+	var pool itctrace.Pool
+	if pool.Get() != nil {
+		panic("it is empty")
+	}
+	pool.New = func() any { return "new" }
+	twice(func() {
+		itctrace.Touch("buffer", true)
+		pool.Put("used")
+		if isLate {
+			itctrace.Touch("buffer", true) // race: pool_race
+		}
+	}, func() {
+		if pool.Get() != "used" || pool.Get() != "new" {
+			panic("another value")
+		}
+		itctrace.Touch("buffer", false) // race: pool_race
 	})
 }
 
