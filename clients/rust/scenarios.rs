@@ -12,6 +12,8 @@ use std::env;
 use std::panic::resume_unwind;
 use std::time::Duration;
 
+mod services;
+
 fn many(count: usize, body: impl Fn(usize) + Send + Sync + 'static) -> Vec<JoinHandle<()>> {
     let body = Arc::new(body);
     (0..count)
@@ -456,10 +458,11 @@ const PROGRAMS: [(&str, Program); 22] = [
 
 fn main() {
     let words: Vec<String> = env::args().skip(1).collect();
+    let mut programs = PROGRAMS.iter().chain(&services::PROGRAMS);
     match words.first() {
-        None => PROGRAMS.iter().for_each(|(name, _)| println!("{name}")),
+        None => programs.for_each(|(name, _)| println!("{name}")),
         Some(asked) => {
-            let (_, program) = PROGRAMS.iter().find(|(name, _)| name == asked).expect("there is no such program");
+            let (_, program) = programs.find(|(name, _)| name == asked).expect("there is no such program");
             program(words.len() > 1);
         }
     }

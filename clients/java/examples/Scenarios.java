@@ -44,15 +44,15 @@ final class Scenarios {
 
     private Scenarios() {}
 
-    private interface Program {
+    interface Program {
         void run(boolean isRaced) throws Exception;
     }
 
-    private interface Body {
+    interface Body {
         void run() throws Exception;
     }
 
-    private static TracedThread start(String name, Body body) {
+    static TracedThread start(String name, Body body) {
         return Traced.start(
                 name,
                 () -> {
@@ -64,7 +64,7 @@ final class Scenarios {
                 });
     }
 
-    private static List<TracedThread> start(int count, String name, Body body) {
+    static List<TracedThread> start(int count, String name, Body body) {
         List<TracedThread> threads = new ArrayList<>();
         for (int number = 0; number < count; number++) {
             threads.add(start(name, body));
@@ -72,7 +72,7 @@ final class Scenarios {
         return threads;
     }
 
-    private static void join(List<TracedThread> threads) throws InterruptedException {
+    static void join(List<TracedThread> threads) throws InterruptedException {
         for (TracedThread thread : threads) {
             thread.join();
         }
@@ -553,6 +553,7 @@ final class Scenarios {
         PROGRAMS.put("grandchild", Scenarios::grandchild);
         PROGRAMS.put("later", Scenarios::later);
         PROGRAMS.put("pieces", Scenarios::pieces);
+        PROGRAMS.putAll(Services.PROGRAMS);
     }
 
     /** Runs the program of this name, or gives the names of all. */
