@@ -69,18 +69,26 @@ func numberNow() uint64 {
 
 // siteAt is the line with this counter, which here has given. It is called by who has called here.
 func siteAt(counter uintptr) *site {
-	if known := placedAt(counter); known.site != nil {
-		return known.site
+	known := placedLast[counter>>1%cached].Load()
+	if known == nil || known.counter != counter {
+		known = placedAnew(counter)
 	}
-	return siteAbove()
+	if known.site == nil {
+		return siteAbove()
+	}
+	return known.site
 }
 
 func placedAt(counter uintptr) *placed {
-	known := placedLast[counter>>1%cached].Load()
-	if known == nil || known.counter != counter {
-		known = placeOf(counter)
-		placedLast[counter>>1%cached].Store(known)
+	if known := placedLast[counter>>1%cached].Load(); known != nil && known.counter == counter {
+		return known
 	}
+	return placedAnew(counter)
+}
+
+func placedAnew(counter uintptr) *placed {
+	known := placeOf(counter)
+	placedLast[counter>>1%cached].Store(known)
 	return known
 }
 
@@ -236,6 +244,14 @@ func become(goroutine uint64, made *task) {
 
 // own is the task of the goroutine that here has told of. A goroutine that nobody was seen to start is a task of its own.
 func own(goroutine uint64) *task {
+	found := whoseLast[goroutine%cached].Load()
+	if found == nil || found.goroutine != goroutine || tracing.waiting.Load() > mostWaiting || found.task.hasChild.Load() {
+		return ownAnew(goroutine)
+	}
+	return found.task
+}
+
+func ownAnew(goroutine uint64) *task {
 	if goroutine == 0 {
 		goroutine = numberOf()
 	}

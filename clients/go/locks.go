@@ -98,8 +98,7 @@ func (h *hand) release(by *task, at *site, lends bool) {
 	}
 	h.holder = nil
 	by.mutex.Lock()
-	var isLaterHeld bool
-	if by.held, isLaterHeld = by.held.without(released, lends); isLaterHeld {
+	if by.letsGo(released, lends) {
 		h.isGuard.Store(true) // One that was acquired later stays, as in a lock made of two.
 	}
 	if h.last == nil {
@@ -125,7 +124,7 @@ func (h *hand) given() *token {
 func (of *task) letGo(released *lock) {
 	of.mutex.Lock()
 	defer of.mutex.Unlock()
-	of.held, _ = of.held.without(released, false)
+	of.letsGo(released, false)
 }
 
 // Mutex is a lock whose release comes before the next time that it is acquired. Its zero value is ready.
@@ -244,8 +243,7 @@ func (m *RWMutex) hasRead(by *task, at *site) {
 	defer m.mutex.Unlock()
 	released, own := m.hand.known(at), m.readerOf(by)
 	by.mutex.Lock()
-	var isLaterHeld bool
-	if by.held, isLaterHeld = by.held.without(released, false); isLaterHeld {
+	if by.letsGo(released, false) {
 		m.hand.isGuard.Store(true)
 	}
 	made := own

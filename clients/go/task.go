@@ -211,6 +211,21 @@ func (h *holding) without(released *lock, isLent bool) (left *holding, isLaterHe
 	return left, true
 }
 
+// letsGo has the task no longer hold a lock. It tells whether it still holds one that it acquired later. The mutex of the task is held.
+func (of *task) letsGo(released *lock, isLent bool) bool {
+	if of.held.lock == released {
+		of.held = of.held.below
+		return false
+	}
+	return of.letsGoBelow(released, isLent)
+}
+
+//go:noinline
+func (of *task) letsGoBelow(released *lock, isLent bool) (isLaterHeld bool) {
+	of.held, isLaterHeld = of.held.without(released, isLent)
+	return isLaterHeld
+}
+
 // add takes over a touch. It tells whether there was none that is the same.
 func (s *touches) add(one touch) bool {
 	s.last = one
