@@ -2,10 +2,16 @@
 
 from __future__ import annotations
 
+import gc
 import os
 import tempfile
+import threading
 import unittest
 from pathlib import Path
+from unittest import mock
+
+from itc_trace.watch import holding
+from itc_trace.watch.holding import FIRST_LOOKED_AT, Held
 
 from .same import FORMS
 from .support import run_python, run_traced
@@ -80,6 +86,33 @@ class LettingGo(unittest.TestCase):
             for form, pure in FORMS.items():
                 with self.subTest(hooks=form):
                     self.assertEqual(sorted(run_traced(program, ITC_TRACE_PURE=pure).stdout.splitlines()), plain)
+
+    def test_an_object_goes_beside_the_collection_of_another_thread(self) -> None:
+        left: list[int] = []
+        held = Held(lambda key, is_gone: left.append(key))
+        one, looks, may_end = [1], threading.Event(), threading.Event()
+        key = id(one)
+        held.hold(key, one)
+        objects = [[[one]]]
+
+        def all_objects(generation: int) -> list[object]:
+            found = objects.pop() if objects else []
+            looks.set()
+            may_end.wait(20)
+            return found
+
+        def end_collecting(_: float) -> None:
+            may_end.set()
+            collecting.join()
+
+        collecting = threading.Thread(target=held.collecting, args=("start", FIRST_LOOKED_AT))
+        with mock.patch.object(gc, "get_objects", all_objects), mock.patch.object(holding, "sleep", end_collecting):
+            collecting.start()
+            looks.wait(20)
+            del one
+            held.let_go_at_once(8)
+            self.assertEqual(left, [key])
+            end_collecting(0)
 
 
 if __name__ == "__main__":

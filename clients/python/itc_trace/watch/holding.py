@@ -7,10 +7,13 @@ object might take its place in memory, and be taken for it.
 from __future__ import annotations
 
 import gc
+import os
 from collections import deque
 from collections.abc import Callable, Container, Iterator
 from itertools import compress
 from sys import getrefcount
+from threading import get_ident
+from time import sleep
 from typing import Any
 
 from .both_languages import LOOKED_THROUGH, MOST_HELD
@@ -27,6 +30,14 @@ through all of them.
 """
 DEEPEST = 8
 LAST_LOOKED_AT = 24
+SHORT_WAIT, MOST_WAITS = 0.0005, 40
+"""In seconds, how long and how often a thread waits for the collection of another one that has all objects in a list.
+There is a bound: the other thread may run a finalizer of the program that waits for this one.
+"""
+_collecting: set[int] = set()
+"""The threads whose collections of garbage may refer to any object just now."""
+if hasattr(os, "register_at_fork"):
+    os.register_at_fork(after_in_child=_collecting.clear)
 
 
 def _references_of_held() -> int:
@@ -54,6 +65,7 @@ class Held:
         self._released: dict[int, type] = {}
         """What the collector of garbage decides about just now, and of which type it is."""
         self._has_many_old = False
+        self._collections = 0
 
     def __len__(self) -> int:
         return len(self._order)
@@ -100,8 +112,13 @@ class Held:
 
     def let_go_at_once(self, most: int) -> None:
         """The same until nothing goes. What is held last is looked at first: it is most often what a function made."""
-        while self._let_go_of_last() or self.let_go_of_some(most):
-            pass
+        for _ in range(MOST_WAITS):
+            earlier, is_beside = self._collections, _is_beside_a_collection()
+            while self._let_go_of_last() or self.let_go_of_some(most):
+                pass
+            if not is_beside and earlier == self._collections:
+                return
+            sleep(SHORT_WAIT)
 
     def _let_go_of_last(self) -> bool:
         has_gone = has_gaps = False
@@ -121,6 +138,14 @@ class Held:
 
     def collecting(self, phase: str, generation: int) -> None:
         """Has a collection of garbage find what only rings of objects hold, as it would if nothing were held here."""
+        self._collections += 1
+        _collecting.add(get_ident())
+        try:
+            self._look_at_all(phase, generation)
+        finally:
+            _collecting.discard(get_ident())
+
+    def _look_at_all(self, phase: str, generation: int) -> None:
         if phase == "start":
             self.let_go_of_some(MOST_HELD if generation == OLDEST else LOOKED_THROUGH)
             if self._objects and (generation == OLDEST or generation >= FIRST_LOOKED_AT and not self._has_many_old):
@@ -153,6 +178,11 @@ class Held:
         self._order.clear()
         self._latest.clear()
         self._objects.clear()
+
+
+def _is_beside_a_collection() -> bool:
+    """Whether another thread collects garbage. What it looks at seems to be held by somebody else."""
+    return bool(_collecting) and not _collecting <= {get_ident()}
 
 
 def _of_keys(objects: list[Any], keys: Container[int]) -> Iterator[Any]:
