@@ -14,7 +14,7 @@ from pathlib import Path
 from itc_trace import Verdict
 from itc_trace.record.collector import find_program
 
-from .support import PACKAGE, PATIENT, WAIT, ProgramCase, run_traced, wait_until
+from .support import PACKAGE, PATIENT, WAIT, ProgramCase, run_python, run_traced, wait_until
 
 SELLING = """
 import sys, threading, time, itc_trace
@@ -62,6 +62,49 @@ signal.signal(signal.SIGUSR1, lambda *_: sys.exit(len(came)))
 print("ready", os.getpid(), sep="\\n", flush=True)
 while True:
     time.sleep(0.01)
+"""
+TAKEN_BY_ANOTHER = SELLING + """
+import os, signal, socket
+def take():
+    time.sleep(0.5)
+    signal.pthread_kill(threading.get_ident(), int(sys.argv[1]))
+threading.Thread(target=take, daemon=True).start()
+server = socket.create_server(("127.0.0.1", 0))
+server.settimeout(60)
+server.accept()
+"""
+WITHIN_C = SELLING + """
+import hashlib
+print("computes", flush=True)
+hashlib.pbkdf2_hmac("sha256", b"word", b"salt", 300_000_000)
+"""
+ITS_OWN_FIRST = SELLING + """
+import os, signal
+def end(number, _):
+    signal.signal(number, signal.SIG_DFL)
+    time.sleep(2)
+    print("cleaned up", flush=True)
+    sys.exit(4)
+signal.signal(signal.SIGTERM, end)
+os.kill(os.getpid(), signal.SIGTERM)
+time.sleep(1000)
+"""
+FOR_A_WHILE = SELLING + "time.sleep(90)\n"
+TAKEN_BESIDE_THE_WAIT = """
+import signal, subprocess, sys, threading, time
+from itc_trace.cli import commands
+waiting = threading.Event()
+wait = subprocess.Popen.wait
+def waits(self, timeout=None):
+    waiting.set()
+    return wait(self, timeout)
+subprocess.Popen.wait = waits
+def take():
+    waiting.wait()
+    time.sleep(3)
+    signal.pthread_kill(threading.get_ident(), signal.SIGTERM)
+threading.Thread(target=take, daemon=True).start()
+sys.exit(commands.main())
 """
 PENDING = "ShdPnd:\t0000000000000000"
 """The line of a process's status that has the signals which have not come to it yet."""
@@ -198,6 +241,33 @@ time.sleep(1000)
         status, errors = run.end(signal.SIGTERM)
         self.assertEqual(status, 0, errors)
         self.assertIn("no race in this run: 1 place", errors)
+
+    def test_a_signal_ends_a_program_at_once_whose_main_thread_does_not_see_it(self) -> None:
+        """Another thread takes it, as one that comes just before a call of the system does not interrupt that call."""
+        for number in (signal.SIGTERM, signal.SIGHUP):
+            ran = run_traced(self.program(TAKEN_BY_ANOTHER), str(int(number)))
+            self.assertEqual(ran.returncode, Verdict.RACES, ran.stderr)
+            self.assertTrue(ran.stderr.startswith(f"itc_trace: incomplete: the program was ended by {number.name}\n"), ran.stderr)
+
+    def test_a_signal_ends_a_program_whose_main_thread_is_in_c_for_long(self) -> None:
+        run = Started(self.program(WITHIN_C))
+        run.wait_for("computes")
+        begun = time.monotonic()
+        status, errors = run.end(signal.SIGTERM)
+        self.assertEqual(status, Verdict.RACES, errors)
+        self.assertTrue(errors.startswith("itc_trace: incomplete: the program was ended by SIGTERM\n"), errors)
+        self.assertLess(time.monotonic() - begun, 60)
+
+    def test_a_signal_of_a_handler_before_is_not_sent_again(self) -> None:
+        ran = run_traced(self.program(ITS_OWN_FIRST), "clean")
+        self.assertEqual((ran.returncode, ran.stdout), (4, "sold\ncleaned up\n"), ran.stderr)
+
+    def test_a_signal_that_comes_just_before_the_run_waits_ends_it(self) -> None:
+        begun = time.monotonic()
+        ran = run_python("-c", TAKEN_BESIDE_THE_WAIT, "run", self.program(FOR_A_WHILE), "clean")
+        self.assertEqual(ran.returncode, Verdict.INCOMPLETE, ran.stderr)
+        self.assertIn("incomplete: the program was ended by SIGTERM", ran.stderr)
+        self.assertLess(time.monotonic() - begun, 60)
 
     def test_a_program_that_is_killed_is_no_all_clear(self) -> None:
         for name in ("SIGKILL", "SIGABRT", "SIGSEGV"):

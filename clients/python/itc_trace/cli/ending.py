@@ -6,16 +6,20 @@ import contextlib
 import os
 import signal
 import subprocess
+import threading
 import time
 from collections.abc import Iterator
 from pathlib import Path
 from types import FrameType
 
+from ..record.own_threads import start_thread
 from .asking import Asking
 from .descendants import descendants, end_all
 from .sentinel import Sentinel
 
 LOOK_AGAIN = 0.02
+LOOK_FOR_SIGNALS = 0.2
+"""In seconds. A signal that comes just before a wait is heeded so much later."""
 BEGINNING_SECONDS = 60.0
 """So long it takes at most until the program begins, from when on its time counts."""
 GRACE_SECONDS = 5.0
@@ -99,7 +103,7 @@ class Child:
 
     def _wait(self, process: subprocess.Popen[bytes], timeout: float | None) -> int:
         if timeout is None:
-            return process.wait()
+            return _status_of(process)
         begun = time.monotonic()
         while not self._asking.has_begun and time.monotonic() - begun < BEGINNING_SECONDS:
             with contextlib.suppress(subprocess.TimeoutExpired):
@@ -149,3 +153,17 @@ class Child:
             return self._told.read_text(encoding="ascii")
         except OSError:
             return ""
+
+
+def _status_of(process: subprocess.Popen[bytes]) -> int:
+    """Waits for the end of a process. Handlers of signals are called meanwhile."""
+    ended = threading.Event()
+
+    def wait() -> None:
+        process.wait()
+        ended.set()
+
+    start_thread(wait)
+    while not ended.wait(LOOK_FOR_SIGNALS):
+        pass
+    return process.wait()

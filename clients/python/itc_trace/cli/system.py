@@ -5,6 +5,7 @@ from __future__ import annotations
 import contextlib
 import glob
 import json
+import math
 import os
 import re
 import signal
@@ -39,7 +40,7 @@ from ..report.report import report_of
 from ..report.screen import is_terminal
 from ..session import Refused
 from .asking import Asking
-from .ending import name_of
+from .ending import LOOK_FOR_SIGNALS, name_of
 from .launch import REFUSED
 from .process_sources import ProcessSources
 from .reporting import Wanted, deliver, list_shown, next_step
@@ -55,6 +56,8 @@ GRACE_SECONDS = 10.0
 SILENT_SECONDS = 5.0
 """So long this command waits without a word of what it waits for."""
 LOOK_AGAIN = 0.05
+LATE = object()
+"""Nothing has come in time."""
 PYTHON = re.compile(r"(?:pypy|python)(?:3(?:\.\d+)?)?(?:\.exe)?")
 FLAGS_WITH_A_WORD = ("-X", "-W", "--check-hash-based-pycs")
 SIGNALS = [getattr(signal, name) for name in ("SIGINT", "SIGTERM", "SIGHUP") if hasattr(signal, name)]
@@ -287,14 +290,21 @@ class Running:
 
     def _next(self, seconds: float | None = None) -> bool:
         """Waits for the next end of a process, or for a signal. Gives whether one has come in so many seconds."""
-        try:
-            ended = self._told.get(timeout=seconds)
-        except Empty:
+        ended = self._next_told(seconds)
+        if ended is LATE:
             return False
         if isinstance(ended, Process):
             ended.is_running = False
             self._tell_end(ended)
         return True
+
+    def _next_told(self, seconds: float | None) -> Any:
+        """It waits in pieces, in between which handlers of signals are called."""
+        last = math.inf if seconds is None else time.monotonic() + seconds
+        while (left := last - time.monotonic()) > 0:
+            with contextlib.suppress(Empty):
+                return self._told.get(timeout=min(left, LOOK_FOR_SIGNALS))
+        return LATE
 
     def _is_over(self) -> bool:
         """Whether nothing runs but services.

@@ -5,6 +5,7 @@ from __future__ import annotations
 import _thread
 import atexit
 import contextlib
+import importlib
 import os
 import signal
 import threading
@@ -18,6 +19,7 @@ from ..model.file_names import working_folder
 from ..model.verdict import Cause, Unseen
 from ..processes.hanging import HangingChild
 from ..record.following import ChildProcess, Ways, follow, is_beginning
+from ..record import plain
 from ..record.following import end as end_following
 from ..record.journal_file import JournalFile
 from ..record.raised_within import keep_handler
@@ -28,11 +30,13 @@ from ..sync.process_pools import take_done
 from .deferred_signals import catch_up, deferred
 from .deferred_signals import shown as as_set
 from .later_imports import hide
+from .prompt_signals import PromptSignals
 
 ANOTHER_PROGRAM = Unseen(Cause.KILLED, "tracing stopped where the process was to go on as another program")
 _set_handler, _handler_of = signal.signal, signal.getsignal
 _set_mask: Any = getattr(signal, "pthread_sigmask", None)
 _interrupt: Any = _thread.interrupt_main
+_get_ident = _thread.get_ident
 """As they are before any program is traced."""
 CHANGING = ("alarm", "setitimer", "pthread_sigmask")
 """What came before one of them has an effect before it."""
@@ -87,6 +91,9 @@ class Ending:
         self._traced = traced
         self._process = os.getpid()
         self._waiting_signal: int | None = None
+        self._is_ending = plain.allocate_lock()
+        """Acquired by who ends the process for a signal, and never released."""
+        self._prompt = PromptSignals(self._is_due, self._end_beside)
         self._masks = threading.local()
         self._show_no_handler()
         if _handler_of(signal.SIGINT) is signal.default_int_handler:
@@ -101,6 +108,7 @@ class Ending:
             os.register_at_fork(
                 before=self._hold_signals, after_in_parent=self._let_signals, after_in_child=self._in_child,
             )
+        self._prompt.begin()
 
     def begin(
         self, folders: list[str], packages: list[str] | None, names: str | None = None, asked: str | None = None,
@@ -122,11 +130,14 @@ class Ending:
             self._let_signals()
             return  # The journal of its parent has no end of it.
         self._traced, self._process, self._waiting_signal = traced, os.getpid(), None
+        self._is_ending = plain.allocate_lock()
         follow(traced, process.folders, process.packages, self._ways(), process.names, process.asked)
         may_be_asked(process, traced)
         for number in ENDING_SIGNALS:
             if _handler_of(number) == signal.SIG_DFL:
                 _set_handler(number, self._end_by)
+        self._prompt = PromptSignals(self._is_due, self._end_beside)
+        self._prompt.begin()
         self._let_signals()
 
     def _main_has_ended(self) -> None:
@@ -191,7 +202,15 @@ class Ending:
             catch_up(frame_at(1))
             keep_handler(handler)
             is_ours = handler == signal.SIG_DFL and signalnum in ENDING_SIGNALS and os.getpid() == self._process
-            return shown(_set_handler(signalnum, self._end_by if is_ours else deferred(handler)))
+            prompt = self._prompt
+            prompt.is_changing()
+            try:
+                return shown(_set_handler(signalnum, self._end_by if is_ours else deferred(handler)))
+            finally:
+                prompt.has_changed()
+
+        def set_wakeup_fd(*words: Any, **named: Any) -> int:
+            return self._prompt.set_by_program(*words, **named)
 
         def interrupt_main(signum: int = signal.SIGINT, /) -> None:
             # A signal that the program does not handle is not simulated, either.
@@ -209,6 +228,7 @@ class Ending:
             if hasattr(signal, name):
                 setattr(signal, name, catching_up(getattr(signal, name)))
         signal.signal = like(_set_handler, set_handler)
+        signal.set_wakeup_fd = like(signal.set_wakeup_fd, set_wakeup_fd)
         signal.getsignal = like(_handler_of, lambda signalnum: shown(_handler_of(signalnum)))
         _thread.interrupt_main = like(_interrupt, interrupt_main)
 
@@ -220,15 +240,19 @@ class Ending:
         _set_mask(signal.SIG_SETMASK, self._masks.before)
 
     def _in_child(self) -> None:
+        self._prompt.forget()
         for number in ENDING_SIGNALS:
             if _handler_of(number) == self._end_by:
                 _set_handler(number, signal.SIG_DFL)
         if not is_beginning():
             self._let_signals()
 
+    def _is_due(self, number: int) -> bool:
+        return _handler_of(number) == self._end_by and self._waiting_signal is None and os.getpid() == self._process
+
     def _end_by(self, number: int, _: FrameType | None) -> None:
         """Reports what was noted, before the signal ends the process as it would untraced."""
-        if self._waiting_signal is not None:
+        if not self._is_ending.acquire(False):
             return
         self._waiting_signal = number
         if _set_mask is not None:
@@ -239,11 +263,23 @@ class Ending:
             self._traced.stop()
             self._die(number)
 
+    def _end_beside(self, number: int) -> None:
+        """The same in another thread, if the main thread does not go on."""
+        self._end_by(number, None)
+
     def _die(self, number: int) -> None:
-        _set_handler(number, signal.SIG_DFL)
+        _have_own_effect(number)
         os.kill(os.getpid(), number)
         if _set_mask is not None:
             _set_mask(signal.SIG_UNBLOCK, [number])
+
+
+def _have_own_effect(number: int) -> None:
+    """From here on the signal ends the process. Python sets that in its main thread alone."""
+    if _get_ident() == threading.main_thread().ident:
+        _set_handler(number, signal.SIG_DFL)
+    else:
+        importlib.import_module("ctypes").CDLL(None).signal(number, int(signal.SIG_DFL))
 
 
 def ended_by(number: int) -> Unseen:
