@@ -31,7 +31,8 @@ WAITING = tuple(os.path.join(_FOLDER, *names) for names in (("marked", ""), ("sy
 DELAY, LONGEST_DELAY = 0.001, 0.05
 NO_TIME = 200_000
 """A thread that has computed for less than so many nanoseconds, and stands where it stood, waits there."""
-MOST_TRIES = 50
+MOST_TRIES, MOST_BESIDE_ANOTHER = 50, 1000
+"""So often a signal is sent again, and so often if a trace function of the program keeps it from being looked for."""
 FINALIZER = "__del__"
 _send = getattr(signal, "pthread_kill", None)
 _handler_of = signal.getsignal
@@ -61,7 +62,7 @@ class Deferred:
     wait may miss one.
     """
 
-    __slots__ = ("handler", "_waiting", "_process", "_stood", "_tries", "_is_sent", "_has_thread")
+    __slots__ = ("handler", "_waiting", "_process", "_stood", "_tries", "_is_sent", "_has_thread", "_is_looked_for")
 
     def __init__(self, handler: Any) -> None:
         self.handler = handler
@@ -73,6 +74,8 @@ class Deferred:
         """The number of each signal that has come, and for which the handler was not called."""
         self._process, self._tries = os.getpid(), 0
         self._is_sent = self._has_thread = False
+        self._is_looked_for = True
+        """Whether it is called as soon as the program goes on, and not only by a signal that meets the program."""
 
     def __call__(self, number: int, frame: FrameType | None) -> Any:
         if self._process != os.getpid():  # The threads of a process that was forked are not in its child.
@@ -81,7 +84,7 @@ class Deferred:
         before, self._stood = self._stood, None
         if frame is not None and _is_between(frame) and not _waits(before, frame) and self._defer(number, is_sent):
             self._stood = _standing(frame)
-            _look_at(_of_program(frame))
+            self._is_looked_for = _look_at(_of_program(frame))
             return None
         if is_sent and not self.takes_one():
             return None
@@ -92,7 +95,7 @@ class Deferred:
             raise
 
     def _defer(self, number: int, is_sent: bool) -> bool:
-        if self._tries > MOST_TRIES:
+        if self._tries > (MOST_TRIES if self._is_looked_for else MOST_BESIDE_ANOTHER):
             return False
         with _lock:
             if not is_sent:
@@ -112,7 +115,7 @@ class Deferred:
         delay = DELAY
         while True:
             plain.sleep(delay)
-            delay = min(2 * delay, LONGEST_DELAY)
+            delay = min(2 * delay, LONGEST_DELAY) if self._is_looked_for else DELAY
             with _lock:
                 main = threading.main_thread().ident
                 if not self._waiting or main is None or _send is None or _handler_of(number) is not self:
@@ -158,12 +161,17 @@ def _of_program(frame: FrameType | None) -> FrameType | None:
     return found
 
 
-def _look_at(frame: FrameType | None) -> None:
-    """Has the handlers called when this frame goes on, or the program calls another function."""
-    if frame is not None and _trace_of() is None:
-        _looked_at[:] = [frame]
-        frame.f_trace = _goes_on
-        _set_trace(_is_called)
+def _look_at(frame: FrameType | None) -> bool:
+    """Has the handlers called when this frame goes on, or the program calls another function.
+
+    Gives whether that was possible: a trace function of the program stays.
+    """
+    if frame is None or _trace_of() is not None:
+        return frame is None or _trace_of() is _is_called
+    _looked_at[:] = [frame]
+    frame.f_trace = _goes_on
+    _set_trace(_is_called)
+    return True
 
 
 def _is_called(frame: FrameType, event: str, value: Any) -> None:
