@@ -21,7 +21,7 @@ from ..record.following import ChildProcess, is_beginning
 from ..record.journal_file import JournalFile
 from ..model.lines import state
 from ..record.noting import not_followed
-from ..sync import put_all
+from ..sync import earlier, put_all
 from ..analyse.races import Races
 from ..analyse.seeing import races_seen
 from ..sync.shaking import Shaking
@@ -36,11 +36,11 @@ class Tracing:
     def __init__(
         self, port: int | None = None, tenant: str = OWN_TENANT, journal: str | os.PathLike[str] | None = None,
         process: str | None = None, host: str = HOST, shaking: Shaking | None = None, looking: Looking | None = None,
-        parts: Parts | None = None, child: ChildProcess | None = None,
+        parts: Parts | None = None, child: ChildProcess | None = None, follows: bool = False,
     ) -> None:
         """Without a port it reports where the environment says, else to a collector of its own that is started.
 
-        A journal that is not named is kept in a temporary file.
+        A journal that is not named is kept in a temporary file. `follows` says that the program may have made locks.
         """
         said = reporting() if port is None else None
         if said is not None:
@@ -52,6 +52,7 @@ class Tracing:
         self._looking = looking
         self._parts = parts
         self._child = child
+        self._follows = follows
         self.port = 0 if port is None else port
         self._has_own_collector = port is None
         self._collector: Collector | None = None
@@ -69,7 +70,7 @@ class Tracing:
         """Begins to trace. One thing at a time is traced in a process."""
         if state.tracer is not None:
             raise RuntimeError("this process is being traced already")
-        put_all()
+        put_all(self._follows)
         try:
             self._connect()
         except BaseException:
@@ -117,7 +118,10 @@ class Tracing:
             self.is_stopping = False
 
     def _tell_what_was_not_seen(self) -> None:
-        unseen: list[Unseen | PassedOver] = [*watch.unwatched(self.is_child), *watch.not_looked_into(), *not_followed()]
+        unseen: list[Unseen | PassedOver] = [
+            *watch.unwatched(self.is_child), *watch.not_looked_into(), *not_followed(), *earlier.not_followed(),
+        ]
+        earlier.block_has_ended()
         for one in unseen:
             self.tell(one)
 
@@ -215,7 +219,7 @@ def tracing(
     what is marked.
     """
     _watch(watched)
-    return Tracing(port, tenant, journal, process, host)
+    return Tracing(port, tenant, journal, process, host, follows=True)
 
 
 def _watch(watched: Sequence[str] | None) -> None:
@@ -238,7 +242,7 @@ def install(
     if port is None and not os.environ.get(PORT):
         raise Fault(f"install wants the port of a collector, or {PORT} in the environment")
     _watch(watched)
-    _installed = Tracing(port, tenant, journal, process, host).start()
+    _installed = Tracing(port, tenant, journal, process, host, follows=True).start()
     atexit.register(_installed.stop)
     return _installed
 

@@ -44,7 +44,7 @@ class LockIdentity:
     __slots__ = (
         "serial", "kind", "code", "instruction", "number", "signal", "is_of_condition", "is_inside", "encloses_tasks",
         "taken_by", "taken_at", "is_nested", "is_crossed", "outlived", "is_tried", "across", "times", "block", "_name",
-        "_hint",
+        "_hint", "_found_as", "_found_in",
     )
 
     def __init__(self, kind: str, frame: FrameType | None) -> None:
@@ -65,7 +65,7 @@ class LockIdentity:
         """What several processes know it by, if they share it."""
         self.times = 0
         """How often this process has acquired it, if processes share it."""
-        self._name = self._hint = ""
+        self._name = self._hint = self._found_as = self._found_in = ""
         if frame is not None:
             code = self.code = frame.f_code
             self.instruction = frame.f_lasti
@@ -86,6 +86,10 @@ class LockIdentity:
         self.is_tried = False
         """Whether somebody has acquired it without waiting for it, or not for ever."""
 
+    def is_found(self, variable: str, file: str) -> None:
+        """Nobody knows who made it, but where the program has it."""
+        self._found_as, self._found_in = variable, file
+
     @property
     def lock(self) -> LockIdentity | None:
         """The lock, where nothing else is meant by its hand-over."""
@@ -99,7 +103,9 @@ class LockIdentity:
     @property
     def place(self) -> str:
         """The file and line that made it."""
-        return f"{name_of_file(self.code.co_filename)}:{self.line}" if self.code is not None else "?"
+        if self.code is not None:
+            return f"{name_of_file(self.code.co_filename)}:{self.line}"
+        return self._found_in or "?"
 
     @property
     def line(self) -> int:
@@ -109,7 +115,7 @@ class LockIdentity:
     def name(self) -> str:
         """As `lock L (shop.py:12)`, or `stock_lock (shop.py:12)`. A later one of the same line has its number."""
         if not self._name:
-            variable = None if self.code is None else variable_of_result(self.code, self.instruction)
+            variable = variable_of_result(self.code, self.instruction) if self.code is not None else self._found_as
             noun = "semaphore" if self.kind.endswith("Semaphore") else "queue" if self.is_queue else "lock"
             words = [] if variable and noun in variable.lower() else [noun]
             words += [variable] if variable else []

@@ -3,8 +3,8 @@
 from __future__ import annotations
 
 from . import (
-    asynchronous, cached, callbacks, commands, descriptors, entry_queue, exits, followers, fork_warnings, futures,
-    gevent_orders, gevent_tasks, greenlets, handlers, heaps, http, importlib_bootstrap, pipes, process_pools,
+    asynchronous, cached, callbacks, commands, descriptors, earlier, entry_queue, exits, followers, fork_warnings,
+    futures, gevent_orders, gevent_tasks, greenlets, handlers, heaps, http, importlib_bootstrap, pipes, process_pools,
     process_signals, processes, queues, starts, thread_pools, threads, tracebacks, trio_orders, trio_tasks, unfollowed,
     values,
 )
@@ -19,10 +19,15 @@ _TRACED = (
 )
 
 
-def put_all() -> None:
-    """Puts all traced methods in place. They note nothing until tracing begins."""
+def put_all(follows: bool = False) -> None:
+    """Puts all traced methods in place. They note nothing until tracing begins.
+
+    What the program made before may be followed, too.
+    """
     if not state.is_patched:
         state.is_patched = True
         patches = Patches()
         for module in _TRACED:
             module.put(patches)
+        if follows:
+            earlier.follow_earlier()

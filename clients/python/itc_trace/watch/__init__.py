@@ -18,7 +18,7 @@ from ..model.verdict import PassedOver, Unseen
 from ..model.stretches import SITES
 from ..sync.base import like
 from ..sync.meeting import Meeting, Touching
-from . import handed, held_lines, hooks, leaving, named, passed_over, things
+from . import begun_code, handed, held_lines, hooks, leaving, named, passed_over, things
 from .commands import own_program
 from .finder import UNWATCHED, Finder, Selection, excluding, look_around, with_hooks
 from .loaded import Prepare, folder_of_main, rewrite_loaded
@@ -140,6 +140,7 @@ def begin() -> None:
     tracer = state.tracer
     if _finder is None or tracer is None:
         return
+    begun_code.begin()
     if tracer.parent_of_strangers is not tracer.main:
         hooks.put(True)
         return
@@ -177,7 +178,9 @@ def unwatched(is_child: bool = False) -> list[Unseen]:
         return []
     chosen = _finder.selection
     missing = [] if is_child else named.nothing_of(chosen)
-    return [*UNWATCHED, *files_without_hooks(chosen), *missing, *touches_lost(), *leaving.unseen()]
+    return [
+        *UNWATCHED, *files_without_hooks(chosen), *missing, *touches_lost(), *leaving.unseen(), *begun_code.unseen(),
+    ]
 
 
 def not_looked_into() -> list[PassedOver]:
@@ -187,7 +190,7 @@ def not_looked_into() -> list[PassedOver]:
     """
     if _finder is None:
         return []
-    all_found = [*passed_over.found, *passed_over.of_loaded()]
+    all_found = [*passed_over.found, *passed_over.of_loaded(), *begun_code.running()]
     return [one for one in all_found if hooks.are_put() or one.what.startswith(passed_over.TASKS_OF)]
 
 

@@ -28,7 +28,7 @@ HELD_BY_OTHERS = "a loop that began before the first thread"
 def begun() -> frozenset[int]:
     """The places of loops that have begun, and are not at their end. What something in C goes through is named."""
     sites: set[int] = set()
-    for frame in _frames():
+    for frame in frames():
         file, at = frame.f_code.co_filename, frame.f_lineno
         for site, first, last in LOOPS_OF.get(file, ()):
             if at is not None and first <= at <= last:
@@ -43,7 +43,7 @@ def put(sites: frozenset[int]) -> None:
     setattr(builtins, LOOPS, sites)
 
 
-def _frames() -> Iterator[FrameType]:
+def frames() -> Iterator[FrameType]:
     """All frames that run or that wait to go on."""
     for top in sys._current_frames().values():
         frame: FrameType | None = top

@@ -10,6 +10,7 @@ import warnings
 from collections.abc import Callable, Iterator
 from types import CodeType, FunctionType, ModuleType
 
+from . import begun_code
 from .decisions import WATCHED, forget_decisions
 from .depth import at_any_depth
 from .finder import FILES, Selection, tell_unwatched
@@ -36,6 +37,7 @@ def rewrite_loaded(selection: Selection, prepare: Prepare | None = None) -> None
         for one in gc.get_objects():
             if type(one) is FunctionType and one.__code__.co_filename in codes:
                 _replace(one, codes[one.__code__.co_filename])
+        begun_code.define_with_hooks(codes, mark_of, _fits)
 
 
 Mark = tuple[str, int, tuple[str, ...], tuple[int, int]]
@@ -87,9 +89,12 @@ def _all_codes(code: CodeType) -> Iterator[CodeType]:
 def _replace(function: FunctionType, codes: dict[Mark, CodeType]) -> None:
     """Gives a function its code with hooks. One that is not told apart from another is left as it is."""
     made = codes.get(mark_of(function.__code__))
-    plain = function.__code__
-    if made is not None and made.co_argcount == plain.co_argcount and made.co_varnames == plain.co_varnames:
+    if made is not None and _fits(made, function.__code__):
         function.__code__ = made
+
+
+def _fits(made: CodeType, plain: CodeType) -> bool:
+    return made.co_argcount == plain.co_argcount and made.co_varnames == plain.co_varnames
 
 
 def folder_of_main() -> str | None:
