@@ -84,9 +84,10 @@ main(threading.Lock())
 """
 """Each place has a key of its own. Two tasks may have two permits at once."""
 NOT_FOLLOWED = """
-import multiprocessing.pool, queue, threading, time
+import multiprocessing.pool, queue, sys, threading, time
 lock, held, again_held, jobs = threading.Lock(), threading.Lock(), threading.RLock(), queue.SimpleQueue()
 acquire = lock.acquire
+key, looked_at = threading.Lock(), threading.RLock(); of_keys = {key: 1}; import weakref; weak = [weakref.ref(looked_at)]
 held.acquire(); again_held.acquire()
 pool = multiprocessing.pool.ThreadPool(1)
 import itc_trace
@@ -95,9 +96,11 @@ for _ in range(2):
     print(traced.races().verdict().name, *(one.text for one in traced.races().unseen), sep="\\n")
 pool.terminate(); pool.join()
 """
+WAYS_AROUND = ("Lock lock", "Lock key", "RLock looked_at", "SimpleQueue jobs", "ThreadPool pool")
 WAITING = """
 import gc, sys, threading, time, weakref
 lock, condition, ready, table = threading.RLock(), threading.Condition(), [], {"n": 0}
+plain = threading.Lock(); of_keys, of_pairs, of_set, weak = {plain: "plain", lock: "again"}, {(1, plain): "pair", (2, lock): "again"}, frozenset([plain, lock]), weakref.WeakKeyDictionary({plain: 1})
 waits = threading.Event()
 def wait():
     with condition:
@@ -119,6 +122,7 @@ def block(traced):
         print(repr(lock)[:16])
         other = threading.Condition(lock)
         with other: print(other.wait(0.01), lock._is_owned())
+        print(of_keys[plain], of_keys[lock], of_pairs[1, plain], of_pairs[2, lock], plain in of_set, lock in of_set, weak[plain], plain == plain, plain == lock, plain == 3, plain != 3, len({plain, plain}))
         try: lock.release()
         except RuntimeError as error: print(error)
         print(lock.acquire(timeout=1), lock.acquire(False)); lock.release(); lock.release()
@@ -133,7 +137,6 @@ if "traced" in sys.argv:
     import itc_trace
     first = itc_trace.tracing()
     block_alone(first); block(itc_trace.tracing())
-    assert first.races().verdict() == 0, first.races()
 else:
     import contextlib
     block_alone(contextlib.nullcontext()); block(contextlib.nullcontext())
@@ -227,10 +230,11 @@ class Earlier(ProgramCase):
                 self.assertEqual(self.told(LOCKS, hooks), "data['two permits']\n\n")
 
     def test_what_cannot_be_followed_makes_the_run_incomplete(self) -> None:
-        made = "".join(f"what {one} orders was not seen: it was made before tracing began\n" for one in ("Lock lock", "SimpleQueue jobs", "ThreadPool pool"))
+        made = "".join(f"what {one} orders was not seen: it was made before tracing began\n" for one in WAYS_AROUND)
         held = "".join(
             f"what {one} encloses was not all seen: it was held as tracing began\n" for one in ("Lock held", "RLock again_held"))
-        self.assertEqual(self.told(NOT_FOLLOWED, "in C"), f"INCOMPLETE\n{made}{held}INCOMPLETE\n{made}")
+        told = self.told(NOT_FOLLOWED, "in C").split("INCOMPLETE\n")
+        self.assertEqual([sorted(one.splitlines()) for one in told], [[], sorted((made + held).splitlines()), sorted(made.splitlines())])
 
     def test_they_do_what_they_did(self) -> None:
         """Also for a thread that waits already, and what the frames of the program hold goes as it went."""

@@ -9,7 +9,7 @@ from typing import Any
 
 def put_item(items: tuple[Any, ...], place: int, new: object) -> bool:
     """Gives whether it did. It changes nothing if tuples do not lie in memory as is known."""
-    ctypes = _ctypes()
+    ctypes = c_types()
     if ctypes is None:
         return False
     old = items[place]
@@ -23,7 +23,8 @@ def put_item(items: tuple[Any, ...], place: int, new: object) -> bool:
 
 
 @functools.cache
-def _ctypes() -> Any:
+def c_types() -> Any:
+    """The module of that name, if there is one."""
     try:
         return importlib.import_module("ctypes")
     except ImportError:  # An interpreter that was built without it.

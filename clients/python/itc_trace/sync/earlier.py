@@ -16,7 +16,7 @@ from collections.abc import Iterator
 from contextlib import contextmanager
 from types import BuiltinMethodType
 from typing import Any, NamedTuple
-from weakref import ref
+from weakref import getweakrefcount, ref
 
 from ..model.lines import state
 from ..model.verdict import Cause, Unseen
@@ -101,6 +101,12 @@ class FollowedRLock(TracedRLock):
         self._lock._at_fork_reinit()
         self._itc_token = self._itc_holder = None
         self._depth = 0
+
+    def __eq__(self, other: object) -> Any:
+        return True if self is other or self._lock is other else NotImplemented
+
+    def __hash__(self) -> int:
+        return hash(self._lock)
 
     def __repr__(self) -> str:
         return repr(self._lock)
@@ -213,7 +219,7 @@ class _Found:
         name = self._name(lock)
         made._itc_identity.is_found(name, self._place(lock))
         are_replaced = [replace(holder, lock, made) for holder in self._of(lock)]
-        if not all(are_replaced):
+        if not all(are_replaced) or getweakrefcount(lock):
             _leave(lock, f"{kind} {name}".strip())
         elif _is_held(lock):
             what = f"{kind} {name}".strip()

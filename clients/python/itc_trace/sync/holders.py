@@ -3,7 +3,6 @@
 from __future__ import annotations
 
 import gc
-import importlib
 import os
 import sys
 from collections import deque
@@ -17,7 +16,7 @@ from typing import Any, NamedTuple
 
 from ..model.frames import INTERNAL, INTERNAL_MODULES, is_internal
 from ..record.raised_within import is_of_library
-from ..record.tuple_items import put_item
+from ..record.tuple_items import c_types, put_item
 
 _SUSPENDED: dict[type, str] = {GeneratorType: "gi_frame", CoroutineType: "cr_frame", AsyncGeneratorType: "ag_frame"}
 _NAMELESS = (list, tuple, dict, set, frozenset, deque, CellType, FrameType, FunctionType, BuiltinMethodType)
@@ -133,6 +132,8 @@ def replace(holder: Holder, old: object, new: object) -> bool:
 
 
 def _in_dict(holder: Holder, old: object, new: object) -> bool:
+    if any(key is old for key in holder.one):
+        return False
     for key in [key for key, value in holder.one.items() if value is old]:
         if isinstance(holder.owner, type):
             type.__setattr__(holder.owner, key, new)
@@ -172,13 +173,18 @@ def _in_suspended(holder: Holder, old: object, new: object) -> bool:
 
 
 def _locals_with(frame: FrameType, value: object, new: object = None) -> list[str]:
-    """The names of the variables with this value, which are given a new one if there is one."""
+    """The names of the variables with this value, which are given a new one if there is one.
+
+    No other thread goes on between the look at a copy and the time when it is written back.
+    """
+    ctypes = c_types() if IS_COPY and new is not None else None
+    if IS_COPY and new is not None and ctypes is None:
+        return []
     with _locals_of(frame) as variables:
         names = [name for name, one in variables.items() if one is value]
         for name in names if new is not None else ():
             variables[name] = new
-        if names and new is not None and IS_COPY:
-            ctypes = importlib.import_module("ctypes")
+        if names and ctypes is not None:
             ctypes.pythonapi.PyFrame_LocalsToFast(ctypes.py_object(frame), 0)
     return names
 

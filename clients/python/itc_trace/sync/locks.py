@@ -109,6 +109,13 @@ class TracedLock(metaclass=_LikeLock):
         self._lock._at_fork_reinit()
         self._itc_token = self._itc_holder = None
 
+    def __eq__(self, other: object) -> Any:
+        """It may stand before a lock that somebody has as a key."""
+        return True if self is other or self._lock is other else NotImplemented
+
+    def __hash__(self) -> int:
+        return hash(self._lock)
+
     def __reduce__(self) -> Any:
         raise TypeError("cannot pickle '_thread.lock' object")
 

@@ -12,6 +12,8 @@ from enum import Enum
 from types import BuiltinMethodType, MethodType, ModuleType
 from typing import Any
 
+from ..sync.earlier import FollowedRLock
+from ..sync.locks import TracedLock
 from . import passed_over
 from .decisions import class_with, ids_of, is_made, is_of, name_of, value_of_field, vars_of
 
@@ -27,6 +29,8 @@ LIBRARY = {
 ZONED = ("datetime", "time")
 
 
+_STANDING = (TracedLock, FollowedRLock)
+"""Locks that stand before another one, and are equal to that."""
 OBJECT = "object"
 """Stands before the identity of a key that is equal to itself alone."""
 BY_IDENTITY_OF: dict[str, tuple[Any, ...]] = {"__eq__": (object, type), "__hash__": (object, type, Enum)}
@@ -58,6 +62,8 @@ def value_of(key: Any) -> Any:
         return _value_of_method(key)
     if _is_by_identity(kind):
         return OBJECT, id(key)
+    if any([is_of(kind, one) for one in _STANDING]):
+        return OBJECT, id(key._lock)
     plain = _plain_value(key, kind)
     if plain is not UNKNOWN:
         return plain
