@@ -20,6 +20,8 @@ from weakref import getweakrefcount, ref
 
 from ..model.lines import state
 from ..model.verdict import Cause, Unseen
+from ..record import plain
+from ..record.tuple_items import c_types
 from .holders import Holder, holders_of, replace
 from .locks import TracedRLock, gave, is_of_condition, took, traced_lock, traced_rlock
 from .threads import MOST_PERMITS
@@ -32,7 +34,7 @@ _OF_BASES = frozenset("_tstate_lock _handle mutex not_empty not_full all_tasks_d
 """What classes of the library keep in objects of the program's own classes that are made of them."""
 _OF_CONDITIONS = ("acquire", "release", "_release_save", "_acquire_restore", "_is_owned")
 _POOLS = "multiprocessing.pool"
-LONG = 1000.0
+LONG = 0.5
 """In seconds: so long no other thread is let go on in between."""
 
 _left: list[tuple[ref[Any], str]] = []
@@ -129,8 +131,10 @@ def block_has_ended() -> None:
 
 def follow_earlier() -> None:
     """From here on the locks, the conditions and the semaphores of the program are traced."""
+    wanted = _wanted()
+    c_types()  # To import it lets other threads go on.
     with _alone():
-        things = [one for one in gc.get_objects() if issubclass(type(one), _wanted())]
+        things = [one for one in gc.get_objects() if issubclass(type(one), wanted)]
         if things:
             found = _Found(things)
             for one in things:
@@ -145,9 +149,10 @@ def _wanted() -> tuple[type, ...]:
 
 @contextmanager
 def _alone() -> Iterator[None]:
-    """No other thread goes on within the block."""
+    """No other thread goes on within the block. Those that wait by the interval before go on first."""
     before, is_collecting = sys.getswitchinterval(), gc.isenabled()
     sys.setswitchinterval(LONG)
+    plain.sleep(0)
     gc.disable()
     try:
         yield
