@@ -163,7 +163,7 @@ IN_C = " in C"
 PROGRAMS = {
     **{f"expression{number}": of_expression(line) for number, line in enumerate(EXPRESSIONS.strip().splitlines())},
     **of_file("same.txt"), **of_file("forms.txt"), **of_file("kinds.txt"), **of_file("more.txt"),
-    **of_this_python(of_file("further.txt")),
+    **of_this_python(of_file("further.txt")), **of_this_python(of_file("wider.txt")),
 }
 
 
