@@ -23,6 +23,7 @@ from typing import Any
 
 from ..model.file_names import name_of_file
 from ..model.frames import is_internal, line_of
+from ..model.frames_of_threads import all_of, caller_of, frames_now, locals_of
 from ..model.lines import Line, state
 from ..model.lock_identity import LockIdentity
 from ..record import own_threads
@@ -121,7 +122,7 @@ def _places() -> list[tuple[int, int, int]]:
     A frame that is held keeps what is in it behind its end. So one call makes all of it in C, and lets go of it: no
     thread of the program goes on meanwhile.
     """
-    return list(_places_once_asked())
+    return all_of(_places_once_asked())
 
 
 def _places_once_asked() -> Iterator[tuple[int, int, int]]:
@@ -137,13 +138,13 @@ def _where(frame: FrameType) -> object:
 
 def _frames() -> dict[int, FrameType]:
     """The threads that are not the package's own."""
-    return {thread: frame for thread, frame in _current_frames().items() if not _is_own(frame)}
+    return {thread: frame for thread, frame in frames_now().items() if not _is_own(frame)}
 
 
 def _is_own(frame: FrameType) -> bool:
-    outermost = frame
-    while outermost.f_back is not None:
-        outermost = outermost.f_back
+    outermost, caller = frame, caller_of(frame)
+    while caller is not None:
+        outermost, caller = caller, caller_of(caller)
     return outermost.f_globals.get("__name__") == own_threads.__name__
 
 
@@ -164,7 +165,7 @@ def _of_thread(thread: int, frame: FrameType, begun: float, now: float, since: S
     outer: FrameType | None = frame
     while outer is not None and _is_library(outer):
         inner.append(outer)
-        outer = outer.f_back
+        outer = caller_of(outer)
     loop = next((one for frame in inner if (one := _loop_of(frame)) is not None), None)
     if loop is not None:
         tasks = list(_of_loop(loop, since, now, begun))
@@ -183,8 +184,9 @@ def _of_thread(thread: int, frame: FrameType, begun: float, now: float, since: S
 
 def _interrupted(frame: FrameType) -> FrameType:
     """Where the thread was as a signal had it look what all wait for."""
-    while frame.f_back is not None and str(frame.f_globals.get("__name__")).startswith(OWN):
-        frame = frame.f_back
+    caller = caller_of(frame)
+    while caller is not None and str(frame.f_globals.get("__name__")).startswith(OWN):
+        frame, caller = caller, caller_of(caller)
     return frame
 
 
@@ -214,7 +216,7 @@ def _described(inner: list[FrameType], name: str, line: Line | None, place: str,
         if words is not None:
             is_endless = not is_bounded and words == FUTURES
             return Wait(name, f"{WAITS}{words}", place, begun, line, is_endless=is_endless)
-        one: Any = frame.f_locals.get("self")
+        one: Any = locals_of(frame).get("self")
         what = _what(one, frame.f_code.co_name)
         if what:
             wait = Wait(name, f"{WAITS}{what}", place, begun, line, is_endless=not is_bounded and _is_within(one))
@@ -267,7 +269,7 @@ def _is_within(one: object) -> bool:
 
 
 def _has_limit(frame: FrameType) -> bool:
-    given = frame.f_locals.get("timeout")
+    given = locals_of(frame).get("timeout")
     return isinstance(given, (int, float)) and not isinstance(given, bool) and given >= 0
 
 
@@ -317,7 +319,7 @@ def _of_processes(one: Any, kind: type, function: str) -> str:
 
 
 def _loop_of(frame: FrameType) -> Any:
-    return frame.f_locals.get("self") if frame.f_code.co_name == "run_forever" else None
+    return locals_of(frame).get("self") if frame.f_code.co_name == "run_forever" else None
 
 
 def _of_loop(loop: Any, since: Since, now: float, idle: float) -> Iterator[Wait]:
@@ -356,7 +358,7 @@ def _of_task(
         on = getattr(awaited, "_itc_line", None)
         called = name_of(on) if isinstance(on, Line) else awaited.get_name()
         wait = Wait(name, f"{WAITS}the end of task {called}", _place(outer), begun, line, on)
-    elif any(_what(frame.f_locals.get("self"), frame.f_code.co_name) for frame in inner):
+    elif any(_what(locals_of(frame).get("self"), frame.f_code.co_name) for frame in inner):
         wait = _described(inner, name, line, _place(outer), begun)
     elif awaited is not None:
         wait = Wait(name, "waits for a future", _place(outer), begun, line, is_endless=False)

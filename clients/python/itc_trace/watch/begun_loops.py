@@ -7,10 +7,10 @@ from __future__ import annotations
 
 import builtins
 import gc
-import sys
 from collections.abc import Iterator
 from types import AsyncGeneratorType, CoroutineType, FrameType, GeneratorType
 
+from ..model.frames_of_threads import caller_of, frames_now
 from . import passed_over
 from .places import LOOPS, LOOPS_OF, OF_OTHERS
 
@@ -45,11 +45,11 @@ def put(sites: frozenset[int]) -> None:
 
 def frames() -> Iterator[FrameType]:
     """All frames that run or that wait to go on."""
-    for top in sys._current_frames().values():
+    for top in frames_now().values():
         frame: FrameType | None = top
         while frame is not None:
             yield frame
-            frame = frame.f_back
+            frame = caller_of(frame)
     for one in gc.get_objects():
         names = SUSPENDED.get(id(type(one)))
         waiting = None if names is None or getattr(one, names[1]) else getattr(one, names[0])

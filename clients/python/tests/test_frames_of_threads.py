@@ -1,0 +1,80 @@
+"""Frames of other threads are looked at while no thread goes on: else the interpreter may write where a frame was."""
+
+from __future__ import annotations
+
+import unittest
+
+from .support import PACKAGE, ProgramCase, run_python
+
+LOOKING = """
+import gc, sys, threading
+from itc_trace.model import frames_of_threads
+look = getattr(frames_of_threads, sys.argv[1])
+kept, is_armed, hits = [], [False], []
+go, left, ready = threading.Lock(), threading.Lock(), threading.Lock()
+for lock in (go, left, ready): lock.acquire()
+def inner(depth, text):
+    ready.release()
+    go.acquire()
+    return text * depth
+def run():
+    while True:
+        inner(3, "text")
+        left.release()
+def collected(phase, info):
+    '''Garbage is collected as something is made. Meanwhile the thread leaves the frame that is looked at.'''
+    if is_armed[0] and phase == "start":
+        is_armed[0] = False
+        go.release()
+        left.acquire()
+        hits.append(1)
+thread = threading.Thread(target=run, daemon=True)
+thread.start()
+gc.callbacks.append(collected)
+gc.collect()
+gc.freeze()
+total = 0
+for turn in range(24):
+    ready.acquire()
+    frame = sys._current_frames()[thread.ident]
+    while frame.f_code.co_name != "inner": frame = frame.f_back
+    kept.extend({} for _ in range(100))  # Those that the interpreter keeps for later are used up.
+    gc.collect(0)
+    hits.clear()
+    kept.extend([{}, {}, {}, {}, {}])
+    gc.set_threshold(3 + turn % 8)
+    is_armed[0] = True
+    found = look(frame)
+    is_armed[0] = False
+    gc.set_threshold(700)
+    total += len(hits)
+    if not hits:
+        go.release()
+        left.acquire()
+    kept[:] = [found]
+print(total, gc.isenabled())
+gc.disable()
+ready.acquire()
+look(sys._current_frames()[thread.ident])
+print(gc.isenabled(), frames_of_threads.frames_now().keys() == sys._current_frames().keys())
+"""
+LOOKED = "processes/waits.py", "watch/begun_loops.py"
+"""The modules that look at frames of other threads."""
+
+
+class Frames(ProgramCase):
+    def test_no_garbage_is_collected_while_one_is_looked_at(self) -> None:
+        for look in ("locals_of", "caller_of"):
+            with self.subTest(look):
+                ran = run_python(self.program(LOOKING), look)
+                self.assertEqual((ran.returncode, ran.stdout), (0, "0 True\nFalse True\n"), ran.stderr)
+
+    def test_no_module_looks_at_them_otherwise(self) -> None:
+        for name in LOOKED:
+            source = (PACKAGE / "itc_trace" / name).read_text()
+            for word in (".f_locals", ".f_back", "sys._current_frames()"):
+                self.assertNotIn(word, source, name)
+
+
+if __name__ == "__main__":
+    unittest.main()
