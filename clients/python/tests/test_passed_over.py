@@ -70,6 +70,24 @@ table = {}
 def work():
     table[K(), 2] = 1
 """
+MACHINES = """import asyncio, sys
+stock = {"left": 15}
+class Sale:
+    def __init__(self, loop, done): self.loop, self.done = loop, done
+    def begin(self):
+        self.left = stock["left"]
+        self.loop.HOW
+    def end(self):
+        stock["left"] = self.left - 1
+        self.done.set_result(None)
+async def main():
+    loop = asyncio.get_running_loop()
+    for _ in range(2):
+        all_done = [loop.create_future() for _ in range(int(sys.argv[1]))]
+        for done in all_done: loop.call_soon(Sale(loop, done).begin)
+        await asyncio.gather(*all_done)
+asyncio.run(main())
+"""
 
 
 class PassedOverCase(ProgramCase):
@@ -120,7 +138,7 @@ class PassedOverCase(ProgramCase):
 
     def test_tasks_that_the_package_does_not_know_of_are_named_beside_one_task_too(self) -> None:
         text = "try:\n    import IMPORTED\nexcept ImportError:\n    pass\n"
-        for imported, is_told in (("greenlet", True), ("twisted.internet.defer", True), ("tornado.gen", True), ("json", False)):
+        for imported, is_told in (("greenlet", True), ("eventlet", True), ("twisted.internet.defer", True), ("tornado.gen", True), ("json", False)):
             ran = run_traced(self.program(text.replace("IMPORTED", imported)))
             self.assertEqual("not looked into: tasks of " in ran.stderr, is_told, ran.stderr)
         for imports in ("__import__('NAME')", "import importlib\nimportlib.import_module('NAME')", "exec('import NAME')"):
@@ -131,6 +149,15 @@ class PassedOverCase(ProgramCase):
                 self.assertEqual("tasks of curio at an import by a library" in ran.stderr, is_told, ran.stderr)
         ran = run_traced(self.program("import ctypes\nctypes.CFUNCTYPE(ctypes.c_int)\n"))
         self.assertIn("not looked into: tasks of CFUNCTYPE at program.py:2", ran.stderr)
+
+
+    def test_state_machines_of_callbacks_are_named_if_there_are_two_at_once(self) -> None:
+        for count, how, is_told in (
+            (2, "call_later(0.001, self.end)", True), (2, "call_soon(self.end)", True), (1, "call_later(0.001, self.end)", False),
+        ):
+            ran = run_traced(self.program(MACHINES.replace("HOW", how)), str(count))
+            self.assertEqual(ran.returncode, Verdict.NO_RACE, ran.stderr)
+            self.assertEqual("not looked into: tasks of callbacks at program.py:7" in ran.stderr, is_told, ran.stderr)
 
 
 class Rows(unittest.TestCase):

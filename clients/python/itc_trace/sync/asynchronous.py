@@ -31,6 +31,7 @@ from ..model.loop_runs import BEGINS, RUNS, LoopRun, begun_here, take_step
 from ..record.noting import current, joining, line_of_task, mark, starting, take, without_own_frame
 from ..model.frames import frame_at, is_internal, place
 from ..model.stretches import STRETCHES, TURNS, leave
+from . import chains
 from .base import Patches, like, name_as, named_like
 from .futures import is_settled_by_source, take_any
 from .left_behind import Outcome, begun, stays, taken
@@ -575,15 +576,17 @@ def _after_caller(callback: Any, args: tuple[Any, ...]) -> Any:
     future = args[0] if args and issubclass(type(args[0]), _PlainFuture) else None
     added = _added(future, callback)
 
-    given = added or token
+    given, chain = added or token, chains.asked_for(token.code, token.instruction)
 
     def call(*args: Any) -> Any:
         take(token)
         take(added)
         called(callback, args, watched_place(given.code, given.instruction))
+        before = chains.begin(chain)
         try:
             return callback(*args)
         finally:
+            chains.end(before)
             if added is not None:
                 future._itc_called.append(mark(CALLED))
 
