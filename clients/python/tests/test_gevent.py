@@ -798,6 +798,19 @@ timer.start()
 timer.join()
 stock["left"] = 0
 """
+OTHER = """
+import sys
+from importlib.machinery import SourceFileLoader
+plain = SourceFileLoader.exec_module
+def exec_module(self, module):
+    plain(self, module)
+    if module.__name__ == "gevent.lock":
+        del module.RLock
+SourceFileLoader.exec_module = exec_module
+import gevent
+from gevent import lock
+print(gevent.spawn(len, "gevents").get())
+"""
 DEADLOCK = """
 import gevent
 from gevent.lock import Semaphore
@@ -938,6 +951,12 @@ class Gevent(ProgramCase):
     def test_a_gevent_that_was_there_before_is_told_of(self) -> None:
         ran = run_python(self.program(BEFORE), python=python_with("gevent"))
         self.assertEqual(ran.stdout, "INCOMPLETE\n", ran.stderr)
+
+    def test_a_gevent_that_is_not_as_it_is_known_has_a_star(self) -> None:
+        program = self.program(OTHER)
+        ran = run_traced(program, python=python_with("gevent"))
+        self.assertEqual((ran.returncode, ran.stdout), (0, "7\n"), ran.stderr)
+        self.assertIn("not looked into: tasks of gevent at an import by a library", ran.stderr)
 
     def test_what_fails_does_so_as_ever(self) -> None:
         program, python = self.program(FAULTS), python_with("gevent")

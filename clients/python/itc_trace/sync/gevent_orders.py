@@ -12,7 +12,7 @@ from typing import Any
 from ..model.frames import frame_at, is_internal
 from ..model.lines import DONE_ITEM, EVENT, QUEUE, ROOM, SEMAPHORE, state
 from .base import Patches
-from .gevent_tasks import LIBRARY, be_named, see
+from .gevent_tasks import LIBRARY, be_named, see, with_patches
 from .greenlets import Place, come_after, gives, known_now
 from .later import once_imported
 from .permits import MOST_PERMITS, Permits
@@ -29,13 +29,7 @@ def put(patches: Patches) -> None:
         ("gevent.event", _put_events), ("gevent._semaphore", _put_semaphores), ("gevent.lock", _put_locks),
         ("gevent.queue", _put_queues),
     ):
-        once_imported(name, _with_patches(patches, make))
-
-
-def _with_patches(
-    patches: Patches, make: Callable[[Patches, ModuleType], None],
-) -> Callable[[ModuleType], None]:
-    return lambda module: make(patches, module)
+        once_imported(name, with_patches(patches, make))
 
 
 def _replace(patches: Patches, module: ModuleType, name: str, make: Callable[[Any], Any]) -> None:

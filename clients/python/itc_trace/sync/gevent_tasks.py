@@ -26,6 +26,8 @@ _loops: dict[type, type] = {}
 """The traced class of each class of loops."""
 _greenlet: list[Any] = []
 """The class of greenlets, once it is there."""
+UNKNOWN: list[str] = []
+"""The modules of a `gevent` that has not what is replaced, or not as it is replaced."""
 
 
 def put(patches: Patches) -> None:
@@ -36,13 +38,21 @@ def put(patches: Patches) -> None:
         ("gevent.hub", _put_hub), ("gevent._hub_primitives", _put_waiting), ("gevent.greenlet", _put_greenlets),
         ("gevent._imap", _put_maps), ("gevent.pool", _put_groups), ("gevent.threadpool", _put_threads),
     ):
-        once_imported(name, _with_patches(patches, make))
+        once_imported(name, with_patches(patches, make))
 
 
-def _with_patches(
+def with_patches(
     patches: Patches, make: Callable[[Patches, ModuleType], None],
 ) -> Callable[[ModuleType], None]:
-    return lambda module: make(patches, module)
+    """What puts patches in place of a module. If it is not as it is known here, the program runs on."""
+
+    def put_all(module: ModuleType) -> None:
+        try:
+            make(patches, module)
+        except (AttributeError, KeyError, TypeError):
+            UNKNOWN.append(module.__name__)
+
+    return put_all
 
 
 # The hub, and what it calls

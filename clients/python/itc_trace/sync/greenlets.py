@@ -154,8 +154,9 @@ def has_hub(hub: Any) -> None:
     thread, note = get_ident(), state.note
     _known.put(hub, Known(HUB, is_hub=True))
     LOOPS[thread] = number_of_loop(hub)
-    if thread in _bases:
+    if getattr(local, "has_hub", None) is not None:
         return
+    local.has_hub = _OfThread(thread)
     base = _bases[thread] = Base()
     if note is not None:
         line = base.begin()
@@ -163,6 +164,19 @@ def has_hub(hub: Any) -> None:
     before = _plain["settrace"](_switched)
     if before is not None and before is not _switched:
         _tracers[thread] = before
+
+
+class _OfThread:
+    """Forgets what is known of a thread with a hub as it ends. Another one may get its identity."""
+
+    __slots__ = ("_thread",)
+
+    def __init__(self, thread: int) -> None:
+        self._thread = thread
+
+    def __del__(self) -> None:
+        thread = self._thread
+        _bases.pop(thread, None), _tracers.pop(thread, None), LOOPS.pop(thread, None), TURNS.pop(thread, None)
 
 
 # Switches

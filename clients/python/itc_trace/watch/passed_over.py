@@ -10,6 +10,7 @@ from collections.abc import Callable
 from ..model.stretches import SITES
 from ..model.verdict import PassedOver
 from ..record import noting
+from ..sync import gevent_tasks
 from .learned import Learned
 
 BUILT_IN = frozenset(("exec", "eval", "memoryview"))
@@ -158,7 +159,7 @@ def _with_tasks(name: str) -> str:
 def of_loaded() -> list[PassedOver]:
     """The libraries with tasks of their own that are there, and that no watched module was seen to import."""
     told = {one.what for one in found}
-    followed = {one.library for one in noting.REPLACING}
+    followed = set() if gevent_tasks.UNKNOWN else {one.library for one in noting.REPLACING}
     names = [
         f"{TASKS_OF}{name.partition('.')[0]}" for name in _LOADED if name in sys.modules and name not in followed
     ]
