@@ -157,14 +157,16 @@ class Programs:
         return [str(self._built / f"{self.language}_free_lock")]
 
 
-def run_system(folder: Path, options: list[str] | None = None, **processes: list[str]) -> "subprocess.CompletedProcess[str]":
-    """Runs these processes as a system, with these options."""
+def run_system(
+    folder: Path, options: list[str] | None = None, *, seconds: float = MOST_SECONDS, **processes: list[str],
+) -> "subprocess.CompletedProcess[str]":
+    """Runs these processes as a system, with these options, for so many seconds at most."""
     file = folder / "system.toml"
     file.write_text("".join(f"[process.{name}]\ncommand = {json.dumps(words)}\n" for name, words in processes.items()))
     environment = {**os.environ, "PYTHONPATH": str(CLIENTS / "python")}
     return subprocess.run(
         [sys.executable, "-m", "itc_trace", "system", "--all", *(options or []), str(file)], env=environment, capture_output=True, text=True,
-        timeout=MOST_SECONDS)
+        timeout=seconds)
 
 
 def check(ran: "subprocess.CompletedProcess[str]", status: int, races: set[str], possible: set[str]) -> None:
