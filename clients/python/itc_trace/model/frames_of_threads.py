@@ -1,9 +1,9 @@
 """Frames of other threads, looked at while no thread goes on.
 
-What is asked of a frame may be made by that, as a dictionary of its variables. Up to Python 3.11 garbage is collected as
-something is made, and that may let other threads go on. If the thread of the frame leaves it then, the interpreter
-writes where the frame was, and the process may end by SIGSEGV. So garbage is collected later. Between operators, as
-opposed to calls, no thread goes on: so the program cannot see that its collector was off.
+What is asked of a frame may be made by that, as a dictionary of its variables. Up to Python 3.11 garbage is collected
+as something is made, and that may let other threads go on. If the thread of the frame leaves it then, the interpreter
+writes where the frame was, and the process may end by SIGSEGV. So garbage is collected later. Between operators no
+thread goes on, but behind calls: so the program cannot see that its collector was off.
 """
 
 from __future__ import annotations

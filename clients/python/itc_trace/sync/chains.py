@@ -1,7 +1,7 @@
 """State machines of callbacks: a callback of a loop that has another one called goes on in that one.
 
-All callbacks of a loop belong to the line of its thread. If two of these machines are under way at once, what they do to
-each other is not seen, and that is named.
+All callbacks of a loop belong to the line of its thread. If two of these machines are under way at once, what they do
+to each other is not seen, and that is named.
 """
 
 from __future__ import annotations
