@@ -10,11 +10,8 @@ from __future__ import annotations
 
 import gc
 import sys
-from collections.abc import Iterator
 from types import FrameType
-from typing import Any, TypeVar
-
-Value = TypeVar("Value")
+from typing import Any
 
 
 class _Collector:
@@ -64,16 +61,5 @@ def frames_now() -> dict[int, FrameType]:
     -_collector
     try:
         return ~_threads  # type: ignore[no-any-return]
-    finally:
-        +_collector
-
-
-def all_of(made: Iterator[Value]) -> list[Value]:
-    """What an iterator gives that is all in C, and that looks at frames."""
-    if not ~_collector:
-        return [*made]
-    -_collector
-    try:
-        return [*made]
     finally:
         +_collector

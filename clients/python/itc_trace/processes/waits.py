@@ -23,7 +23,7 @@ from typing import Any
 
 from ..model.file_names import name_of_file
 from ..model.frames import is_internal, line_of
-from ..model.frames_of_threads import all_of, caller_of, frames_now, locals_of
+from ..model.frames_of_threads import caller_of, frames_now, locals_of
 from ..model.lines import Line, state
 from ..model.lock_identity import LockIdentity
 from ..record import own_threads
@@ -122,7 +122,7 @@ def _places() -> list[tuple[int, int, int]]:
     A frame that is held keeps what is in it behind its end. So one call makes all of it in C, and lets go of it: no
     thread of the program goes on meanwhile.
     """
-    return all_of(_places_once_asked())
+    return list(_places_once_asked())
 
 
 def _places_once_asked() -> Iterator[tuple[int, int, int]]:
