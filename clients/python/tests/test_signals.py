@@ -70,7 +70,7 @@ def take():
     signal.pthread_kill(threading.get_ident(), int(sys.argv[1]))
 threading.Thread(target=take, daemon=True).start()
 server = socket.create_server(("127.0.0.1", 0))
-server.settimeout(60)
+server.settimeout(100)
 server.accept()
 """
 WITHIN_C = SELLING + """
@@ -245,7 +245,9 @@ time.sleep(1000)
     def test_a_signal_ends_a_program_at_once_whose_main_thread_does_not_see_it(self) -> None:
         """Another thread takes it, as one that comes just before a call of the system does not interrupt that call."""
         for number in (signal.SIGTERM, signal.SIGHUP):
+            begun = time.monotonic()
             ran = run_traced(self.program(TAKEN_BY_ANOTHER), str(int(number)))
+            self.assertLess(time.monotonic() - begun, 90)
             self.assertEqual(ran.returncode, Verdict.RACES, ran.stderr)
             self.assertTrue(ran.stderr.startswith(f"itc_trace: incomplete: the program was ended by {number.name}\n"), ran.stderr)
 
