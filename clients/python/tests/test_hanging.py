@@ -569,6 +569,45 @@ threading.Event().wait()
             self.assertIn("is no number of seconds", ran.stderr)
 
 
+_IN_A_LOOP = """
+import asyncio
+
+async def cross(first, second):
+    async with first:
+        async with second:
+            pass
+
+async def main():
+    one, other = asyncio.{kind}(), asyncio.{kind}()
+    await asyncio.gather(cross(one, other), cross(other, one))
+
+asyncio.run(main())
+"""
+
+CROSSED = {
+    "locks of asyncio": _IN_A_LOOP.format(kind="Lock"),
+    "permits of asyncio": _IN_A_LOOP.format(kind="Semaphore"),
+    "conditions of asyncio": _IN_A_LOOP.format(kind="Condition"),
+    "permits": """
+import threading, time
+one, other = threading.Semaphore(), threading.BoundedSemaphore(1)
+
+def cross(first, second):
+    with first:
+        second.acquire()
+        second.release()
+
+threads = [threading.Thread(target=cross, args=both) for both in ((one, other), (other, one))]
+for thread in threads:
+    thread.start()
+    time.sleep(0.3)
+for thread in threads:
+    thread.join()
+""",
+}
+"""Programs whose locks of some kind are acquired in orders that make a cycle, which does not close by itself."""
+
+
 class Confirmed(ProgramCase):
     def test_a_possible_deadlock_that_closes_ends_the_run(self) -> None:
         for _ in range(PROGRAM_RUNS):
@@ -577,6 +616,13 @@ class Confirmed(ProgramCase):
             self.assertIn("itc_trace: confirmed deadlock on one_lock and other_lock", ran.stderr)
             self.assertIn("each waits for the next one", ran.stderr)
             self.assertRegex(ran.stderr.splitlines()[-1], "no race in this run; 1 deadlock: ")
+
+    def test_each_kind_of_lock_is_tried(self) -> None:
+        for kind, program in CROSSED.items():
+            with self.subTest(kind):
+                ran = run_traced("--confirm", self.program(program))
+                self.assertEqual(ran.returncode, Verdict.RACES, ran.stderr)
+                self.assertIn("itc_trace: confirmed deadlock on ", ran.stderr)
 
     def test_steps_at_the_same_lines_close_at_once(self) -> None:
         """Each of five tasks has the next one's inner lock. Held at one step after another they would take ten seconds."""

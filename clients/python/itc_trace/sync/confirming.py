@@ -5,6 +5,9 @@ A task is held for a bounded time, and a place a few times at most. So a program
 
 from __future__ import annotations
 
+import asyncio
+import threading
+from collections.abc import Iterator
 from time import monotonic, sleep
 from typing import Any, NamedTuple
 
@@ -15,7 +18,7 @@ from ..model.lock_identity import LockIdentity
 from ..record import plain
 from ..record.noting import line_of_now
 from .base import like
-from .locks import TracedLock, TracedRLock, acquired_at, walk_always
+from .locks import OnePermit, TracedLock, TracedRLock, acquired_at, walk_always
 
 HOLD = 2.0
 """So many seconds a task is held at most."""
@@ -81,41 +84,66 @@ class Confirming:
     def begin(self) -> None:
         """From here on tasks are held."""
         walk_always()
-        for kind in (TracedLock, TracedRLock):
+        for kind in (TracedLock, TracedRLock, threading.Semaphore):
             for name in ("acquire", "__enter__"):
                 original = vars(kind)[name]
                 setattr(kind, name, like(original, self._holding(original)))
+        for of_a_loop in (asyncio.Lock, asyncio.Semaphore):
+            original = vars(of_a_loop)["acquire"]
+            setattr(of_a_loop, "acquire", like(original, self._holding_in_loop(original)))
 
     def _holding(self, original: Any) -> Any:
         def holding(lock: Any, *words: Any, **named: Any) -> Any:
-            if state.note is not None:
-                line = line_of_now()
-                if line.held:
-                    self._hold(lock, line, _here(*acquired_at(frame_at(1))))
+            for _ in self._looks(lock, frame_at(1)):
+                sleep(PAUSE)
             return original(lock, *words, **named)
 
         return holding
 
-    def _hold(self, lock: Any, line: Line, here: str) -> None:
+    def _holding_in_loop(self, original: Any) -> Any:
+        """The same of a task of a loop, which goes on with its others meanwhile."""
+        async def holding(lock: Any) -> Any:
+            for _ in self._looks(lock, frame_at(1)):
+                await asyncio.sleep(PAUSE)
+            return await original(lock)
+
+        return holding
+
+    def _looks(self, lock: Any, caller: Any) -> Iterator[None]:
+        """Goes on as long as the current task is to be held before it acquires the lock."""
+        wanted = _identity_of(lock)
+        if state.note is None or wanted is None:
+            return
+        line = line_of_now()
+        here = _here(*acquired_at(caller)) if line.held else ""
         if here not in self._wanted:
             return
         for cycle in self._cycles:
             for step in cycle.steps():
                 held_at, wanted_at = step
                 held = next((one for one in line.held if _here(one.taken_by, one.taken_at) == held_at), None)
-                if wanted_at == here and held is not None and held is not lock._itc_identity:
-                    self._hold_at(cycle, step, _Arrived(line, held, lock._itc_identity))
+                if wanted_at == here and held is not None and held is not wanted:
+                    yield from self._looks_at(cycle, step, _Arrived(line, held, wanted))
 
-    def _hold_at(self, cycle: _Cycle, step: Step, mine: _Arrived) -> None:
+    def _looks_at(self, cycle: _Cycle, step: Step, mine: _Arrived) -> Iterator[None]:
         with self._guard:
             if not cycle.add(mine, step):
                 return
         end = monotonic() + HOLD
         while not cycle.closes(mine, step) and monotonic() < end:
-            sleep(PAUSE)
+            yield
         if not cycle.closes(mine, step):  # Else it stays, for the others to see.
             with self._guard:
                 cycle.remove(mine, step)
+
+
+def _identity_of(lock: Any) -> LockIdentity | None:
+    """What tells the lock from others. A semaphore is one as long as it has one permit."""
+    one = lock.__dict__.get("_itc_permit") if isinstance(lock, (threading.Semaphore, asyncio.Semaphore)) else lock
+    if one is None or isinstance(one, OnePermit) and one._itc_identity.signal is not None:
+        return None
+    identity: LockIdentity | None = one._itc_identity
+    return identity
 
 
 def _here(code: Any, instruction: int) -> str:
