@@ -32,6 +32,9 @@ MOST_EVENTS = 30
 MOST_TIMES = 10
 """So many times as long as untraced a free lock may take, by the processor's time."""
 TURNS = "1000000"
+FEW_REQUESTS = 400
+MOST_GROWTH = 6
+"""So many times as long four times as many requests may take."""
 SYSTEMS = {
     "early_end": (INCOMPLETE, "the trace ended before the program, from "), "late_goroutine": (INCOMPLETE, "the trace ended before the program, from "),
     "ping_pong": (NO_RACE, ""), "exits": (RACES, ""), "panics": (RACES, "breaks off"), "fatal": (RACES, "breaks off"),
@@ -137,6 +140,14 @@ def check_costs(built: Path, traced: str, plain: str) -> None:
         raise Wrong(f"{traced} takes {own:.3f} s, and untraced {other:.3f} s")
 
 
+def check_handler(built: Path) -> None:
+    """Four times as many requests take at most six times as long, by the best of five runs of each, made by turns."""
+    turns = [(measured(built, "requests", str(FEW_REQUESTS))[0], measured(built, "requests", str(4 * FEW_REQUESTS))[0]) for _ in range(5)]
+    few, many = map(min, zip(*turns))
+    if many > MOST_GROWTH * few:
+        raise Wrong(f"{FEW_REQUESTS} requests take {few:.3f} s, and four times as many {many:.3f} s")
+
+
 def check_requests(built: Path) -> None:
     """A long run is divided, seen whole, and its memory stays as it is. Requests that forget the lock race across parts."""
     with tempfile.TemporaryDirectory() as folder:
@@ -180,6 +191,7 @@ def main() -> int:
         checks += [Check([f"go: {traced}"], check_costs, (built, traced, plain)) for traced, plain in COSTS]
         checks += [
             Check(["go: killed"], check_killed, (built,)), Check(["go: requests"], check_requests, (built,)),
+            Check(["go: growing requests"], check_handler, (built,)),
             Check(["go: service"], check_service, (built, "service", NO_RACE)),
             Check(["go: plain_service"], check_service, (built, "plain_service", RACES)), Check(["go: table"], check_table, ()),
         ]
