@@ -26,9 +26,8 @@ final class LockName {
         if (name == null) {
             name = Traced.lockName(made);
             String told = "lock (" + made + ")";
-            String hint = "lock" + Math.max(0, made.line()); // A class may have no lines.
-            luck = new Gives(hint, "release " + told, "acquire " + told, name, Kind.LUCK);
-            guard = new Gives(hint, "release " + told, "acquire " + told, name, Kind.GUARD);
+            luck = new Gives("lock" + made.line(), "release " + told, "acquire " + told, name, Kind.LUCK);
+            guard = new Gives("lock" + made.line(), "release " + told, "acquire " + told, name, Kind.GUARD);
         }
         return name;
     }
