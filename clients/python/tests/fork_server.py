@@ -128,11 +128,15 @@ class Waiting:
         if words[:len(words_of("itc_trace.cli.launch"))] != words_of("itc_trace.cli.launch"):
             raise ValueError(f"the command begins another process: {words}")
         self.pid = process
+        self._status: int | None = None
         with open(telling, "w", encoding="utf-8") as request:
             json.dump({"words": words, "environment": environment}, request)
 
     def wait(self) -> int:
-        return os.waitstatus_to_exitcode(os.waitpid(self.pid, 0)[1])
+        """As that of a `Popen`, it may be called again."""
+        if self._status is None:
+            self._status = os.waitstatus_to_exitcode(os.waitpid(self.pid, 0)[1])
+        return self._status
 
     def kill(self) -> None:
         os.kill(self.pid, signal.SIGKILL)
