@@ -34,7 +34,7 @@ _ITEMS, _THREAD, _FRAME, _INSTRUCTION = methodcaller("items"), itemgetter(0), it
 LIBRARY = frozenset({"multiprocessing", "subprocess", "selectors", "socket", "ssl", "contextlib"})
 """Beside what is internal: whoever waits within these was sent there by the program."""
 WAITS = "waits for "
-OWN = __name__.rpartition(".")[0]
+OWN = __name__.rpartition(".")[0], frames_now.__module__
 """The package of what looks."""
 IMPORT_LOCK = "_ModuleLock"
 OF_PROCESSES = "_itc_traced"
