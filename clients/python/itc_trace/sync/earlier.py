@@ -23,7 +23,7 @@ from ..model.verdict import Cause, Unseen
 from ..record import plain
 from ..record.tuple_items import c_types
 from .holders import Holder, holders_of, replace
-from .locks import TracedRLock, gave, is_of_condition, took, traced_lock, traced_rlock
+from .locks import TracedRLock, gave, is_of_condition, stands_for_rlock, took, traced_lock, traced_rlock
 from .threads import MOST_PERMITS
 from .waiters import Waiters
 
@@ -116,6 +116,7 @@ class FollowedRLock(TracedRLock):
 
 FollowedRLock.__name__ = FollowedRLock.__qualname__ = "RLock"
 FollowedRLock.__module__ = "_thread"
+stands_for_rlock(FollowedRLock)
 
 
 def not_followed() -> list[Unseen]:

@@ -45,11 +45,19 @@ class _LikeLock(type):
         return isinstance(instance, _PlainLock)
 
 
+_RLOCKS: set[type] = set()
+"""The types that stand for that of the library."""
+
+
+def stands_for_rlock(kind: type) -> None:
+    _RLOCKS.add(kind)
+
+
 class _LikeRLock(type):
     """The same of locks that their owner may acquire again, but for classes of the program."""
 
     def __instancecheck__(cls, instance: object) -> bool:
-        return isinstance(instance, _PlainRLock) if cls is TracedRLock else type.__instancecheck__(cls, instance)
+        return isinstance(instance, _PlainRLock) if cls in _RLOCKS else type.__instancecheck__(cls, instance)
 
 
 class TracedLock(metaclass=_LikeLock):
@@ -190,6 +198,9 @@ class TracedRLock(_PlainRLock, metaclass=_LikeRLock):  # type: ignore[misc]
         raise TypeError(
             f"cannot pickle '{'_thread.' if type(self) is TracedRLock else ''}{type(self).__name__}' object"
         )
+
+
+stands_for_rlock(TracedRLock)
 
 
 for _kind in (_LikeLock, _LikeRLock):
