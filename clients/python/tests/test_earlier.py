@@ -262,9 +262,10 @@ class Earlier(ProgramCase):
                     ["count['m'] count['n']", "code that ran already at program.py:5", "code that ran already at program.py:13"],
                 )
 
-    @unittest.skipIf(sys.version_info < (3, 12), "generic functions are of Python 3.12")
-    def test_generic_functions_and_classes(self) -> None:
-        self.assertEqual(self.told(GENERIC, "in C"), "count['m'] count['n']\n")
+    if sys.version_info >= (3, 12):  # Earlier ones have no generic functions.
+
+        def test_generic_functions_and_classes(self) -> None:
+            self.assertEqual(self.told(GENERIC, "in C"), "count['m'] count['n']\n")
 
 
 if __name__ == "__main__":

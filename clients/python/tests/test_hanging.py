@@ -584,7 +584,7 @@ async def main():
 asyncio.run(main())
 """
 
-CROSSED = {
+CROSSED_KINDS = {
     "locks of asyncio": _IN_A_LOOP.format(kind="Lock"),
     "permits of asyncio": _IN_A_LOOP.format(kind="Semaphore"),
     "conditions of asyncio": _IN_A_LOOP.format(kind="Condition"),
@@ -618,7 +618,7 @@ class Confirmed(ProgramCase):
             self.assertRegex(ran.stderr.splitlines()[-1], "no race in this run; 1 deadlock: ")
 
     def test_each_kind_of_lock_is_tried(self) -> None:
-        for kind, program in CROSSED.items():
+        for kind, program in CROSSED_KINDS.items():
             with self.subTest(kind):
                 ran = run_traced("--confirm", self.program(program))
                 self.assertEqual(ran.returncode, Verdict.RACES, ran.stderr)
