@@ -4,7 +4,6 @@ from __future__ import annotations
 
 import json
 import os
-import re
 import subprocess
 import sys
 import tempfile
@@ -59,7 +58,7 @@ def answers(typed: list[str], folder: Path) -> list[str]:
 def _first_line(said: str, places: dict[str, str]) -> str:
     line = (said.splitlines() or [""])[-1 if "Traceback" in said else 0]
     for word, place in (*places.items(), ("PROGRAM", find_program())):
-        line = re.sub(rf"(?<!\d){re.escape(place)}(?!\d)", word, line)  # No part of a longer number.
+        line = line.replace(place, word)
     return line
 
 
