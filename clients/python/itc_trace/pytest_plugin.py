@@ -33,6 +33,7 @@ from .cli.reporting import STANDARD_OUTPUT, Wanted, deliver
 from .cli.saying import say
 from .cli.settings import FILE, Settings, read_settings
 from .model.finding import named
+from .model.handed_over import excluding
 from .model.verdict import Cause
 from .processes.hanging import leave_without_those_left, limited, tell_closed_cycle
 from .record.collector import Collector
@@ -102,7 +103,7 @@ class _Asked:
 
     def __init__(self, config: pytest.Config) -> None:
         settings = read_settings(config.rootpath / FILE) if (config.rootpath / FILE).is_file() else Settings()
-        self.watch = [*(config.getoption("--races-watch") or settings.watch), *map(watch.excluding, settings.exclude)]
+        self.watch = [*(config.getoption("--races-watch") or settings.watch), *map(excluding, settings.exclude)]
         self.fails_on_possible = (config.getoption(FAIL_ON) or settings.fail_on) == POSSIBLE
         files = config.getoption("--races-benign") or settings.benign
         self._patterns = [pattern for file in files for pattern in read_patterns(file)]

@@ -7,13 +7,13 @@ import os
 import tempfile
 from collections.abc import Sequence
 from types import TracebackType
+from typing import TYPE_CHECKING
 
 from ..processes.children import (
     IN_CHILD, LEFT_CHILD, UNKNOWN_CHILDREN, Announced, ForkedChildren, Witness, tell_of_processes,
 )
 from ..record import plain
 from .. import watch
-from ..analyse.benign import Looking
 from ..record.collector import HOST, Collector
 from ..record.environment import OWN_TENANT, PORT, reporting
 from ..record.faults import Fault
@@ -22,12 +22,14 @@ from ..record.journal_file import JournalFile
 from ..model.lines import state
 from ..record.noting import not_followed
 from ..sync import earlier, put_all
-from ..analyse.races import Races
-from ..analyse.seeing import races_seen
 from ..sync.shaking import Shaking
 from ..record.tracer import Tracer
 from ..record.tracer_parts import Parts
 from ..model.verdict import Left, PassedOver, Unseen
+
+if TYPE_CHECKING:
+    from ..analyse.benign import Looking
+    from ..analyse.races import Races
 
 
 class Tracing:
@@ -58,6 +60,7 @@ class Tracing:
         self._collector: Collector | None = None
         self._tracer: Tracer | None = None
         self._found: Races | None = None
+        self._is_of_child = False
         self._is_temporary = journal is None
         self.journal: str = "" if journal is None else os.path.abspath(os.fspath(journal))
         self._file: JournalFile | None = None
@@ -171,10 +174,16 @@ class Tracing:
         self._tracer = self._file = self._collector = self._announced = None
         self._stopping = plain.RLock()
         self._is_temporary = self._has_own_collector = False
-        self._found = Races(unseen=[IN_CHILD])
+        self._is_of_child, self._found = True, None
 
     def races(self) -> Races:
         """The races of what was traced. It ends tracing."""
+        # The process of a program that `run` traces does not look for races. It starts sooner without these modules.
+        from ..analyse.races import Races
+        from ..analyse.seeing import races_seen
+
+        if self._found is None and self._is_of_child:
+            self._found = Races(unseen=[IN_CHILD])
         if self._found is None:
             self.stop()
             with open(self.journal, encoding="utf-8") as journal:

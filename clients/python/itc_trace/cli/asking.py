@@ -9,7 +9,7 @@ import signal
 import threading
 import time
 
-from ..processes.hanging import CHILDREN, TOLD
+from ..model.handed_over import CHILDREN, TOLD
 from .saying import say
 
 ANSWER_SECONDS = 0.7

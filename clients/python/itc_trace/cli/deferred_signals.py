@@ -178,7 +178,11 @@ def _is_called(frame: FrameType, event: str, value: Any) -> None:
     """What is raised in a finalizer is lost, and the library has functions that are called as weak references go."""
     file = frame.f_code.co_filename
     if not file.startswith(_FOLDER) and not is_of_library(file) and frame.f_code.co_name != FINALIZER:
-        _goes_on(frame, event, value)
+        try:
+            _goes_on(frame, event, value)
+        except BaseException as fault:
+            without_own_frame(fault)
+            raise
 
 
 def _goes_on(frame: FrameType, _: str, __: Any) -> None:

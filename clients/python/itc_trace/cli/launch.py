@@ -23,13 +23,14 @@ from .. import watch
 from ..record.dividing import LEAVE
 from ..record.faults import WORDS_REFUSED
 from ..model.file_names import call
+from ..model.handed_over import RAISED, REFUSED, Plan
 from ..model.verdict import Verdict
 from ..record.following import ChildProcess
 from ..own_path import leave_to_program
 from ..processes.hanging import Hanging
 from ..processes.part_collectors import SHARED, ask_for_port
 from ..sync.confirming import Confirming
-from ..sync.meeting import Meeting, Plan
+from ..sync.meeting import Meeting
 from ..sync.shaking import Shaking
 from ..sync.tracebacks import leave_out_of
 from ..record.tracer_parts import Parts
@@ -37,8 +38,6 @@ from ..api.tracing import Tracing
 from .later_imports import hide
 from .traced_process import Ending, ended_by, may_be_asked
 
-REFUSED, RAISED = "refused", "raised"
-"""What `run` is told of a program that did not run to its end."""
 INTERRUPTED = 128 + signal.SIGINT
 
 

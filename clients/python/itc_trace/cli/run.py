@@ -29,7 +29,6 @@ from .ending import Child, Ended, ends_by_signals, is_asked_to_end
 from ..record.environment import OWN_TENANT
 from ..record.faults import WORDS_REFUSED, Fault, look
 from ..record.whole_file import replacing
-from .launch import RAISED, REFUSED
 from .output_files import check_outputs
 from .reporting import Wanted, deliver, list_shown, next_step
 from .saying import UNWRITTEN, say
@@ -47,11 +46,10 @@ from ..analyse.races import Race, Races
 from ..analyse.seeing import races_seen
 from ..session import Refused
 from ..analyse.snapshot import snapshot
-from ..sync.meeting import Plan
 from ..model.finding import runs_in_words
+from ..model.handed_over import RAISED, REFUSED, Plan, excluding
 from ..model.readable import readable
 from ..model.verdict import BREAKS_OFF, REMOVED, Cause, PassedOver, Unseen, Verdict
-from ..watch import excluding
 
 UNTOUCHED = """\
 itc_trace: nothing was touched, so there was no race to find

@@ -6,7 +6,7 @@ import random
 from collections.abc import Iterator, Sequence
 
 from ..analyse.races import Race
-from ..sync.meeting import Plan
+from ..model.handed_over import Plan
 
 MOST_PAIRS = 200
 """So many races are tried at once, those that are told first."""

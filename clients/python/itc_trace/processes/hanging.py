@@ -22,6 +22,7 @@ from types import FrameType
 from ..model.lines import state
 from ..record import following, own_files, plain
 from ..record.own_threads import start_thread
+from ..model.handed_over import CHILDREN, TOLD
 from .between import Own, cycle_between, find_holders, key_of_cycle, lines_of_cycle, row_of_cycle, three, told_by_all
 from .waits import WAITS, Since, Wait, cycle_of, name_of, waits
 
@@ -34,10 +35,6 @@ LOOKS = 10
 GONE_ON = (OSError, RuntimeError, KeyError, AttributeError, ValueError)
 """What a look raises if a task has gone on meanwhile, or the file is no more."""
 ASKING = ("SIGQUIT", "SIGUSR1")
-TOLD = ".told"
-"""Behind the name of the file: there is a letter once the program can be asked, and then one for each answer."""
-CHILDREN = ".children"
-"""Behind the name of the file: it is there if child processes answer, too."""
 _ways_out: list[Callable[[], object]] = []
 """How this process is broken off once a deadlock is there, if it is to be. A forked child is so as well."""
 _handled: list[FileIO] = []

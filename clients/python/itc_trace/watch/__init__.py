@@ -21,13 +21,13 @@ from ..sync.base import like
 from ..sync.meeting import Meeting, Touching
 from . import begun_code, handed, held_lines, hooks, leaving, named, passed_over, things
 from .commands import own_program
-from .finder import UNWATCHED, Finder, Selection, excluding, look_around, with_hooks
+from .finder import UNWATCHED, Finder, Selection, look_around, with_hooks
 from .loaded import Prepare, folder_of_main, rewrite_loaded
 from .named import tell_missing
 from .unwatched import files_without_hooks, touches_lost
 
 __all__ = [
-    "Prepare", "begin", "code_of", "end", "excluding", "have_meet", "program_of", "selection", "tell_missing",
+    "Prepare", "begin", "code_of", "end", "have_meet", "program_of", "selection", "tell_missing",
     "unwatched", "watch", "watch_loaded", "watch_main", "watch_path_runs",
 ]
 
@@ -48,7 +48,7 @@ def have_meet(meeting: Meeting) -> None:
     def arrive(site: int, one: object, key: object) -> None:
         place = places.get(site)
         if place is None:
-            file, line, _ = SITES[site]
+            file, line = SITES[site][:2]
             place = places[site] = f"{file}:{line}"
         meeting.arrive(place, Touching(None if one is None else id(one), key))
 

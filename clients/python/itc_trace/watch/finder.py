@@ -11,6 +11,7 @@ from fnmatch import fnmatchcase
 from types import CodeType, ModuleType
 
 from ..model.file_names import real_path
+from ..model.handed_over import NOT
 from ..model.verdict import Cause, Unseen
 from ..sync.base import name_as
 from .decisions import WATCHED
@@ -30,15 +31,6 @@ FILES: set[str] = set()
 """Those whose code has hooks, or of which was told that it has none."""
 UNWATCHED: list[Unseen] = []
 """The modules that were to be watched, and run as they are."""
-
-
-NOT = "!"
-"""Begins the pattern of files that are not watched, among the names of packages that are."""
-
-
-def excluding(pattern: str) -> str:
-    """The pattern, as it stands among the names of packages."""
-    return f"{NOT}{pattern}"
 
 
 class Selection:

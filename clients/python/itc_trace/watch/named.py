@@ -7,9 +7,10 @@ import importlib.util
 import sys
 from collections.abc import Iterator, Sequence
 
+from ..model.handed_over import NOT
 from ..model.verdict import Cause, Unseen
 from .decisions import WATCHED
-from .finder import FILES, NOT, Selection
+from .finder import FILES, Selection
 
 _told: set[str] = set()
 
