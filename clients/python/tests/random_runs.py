@@ -165,11 +165,24 @@ class Run:
             own = [row for row in touches[: touches.index(change)] if row.task == change.task and row.kind not in CHANGING]
             if not own or own[-1].turn == change.turn or read not in own or read.turn != own[-1].turn:
                 continue
+            if self._is_kept_out(change, between, touches[: touches.index(change)]):
+                continue
             if conflicts(read.kind, between.kind) and apart(read, between) and apart(change, between):
                 found.add(_by_event(read, between))
                 if conflicts(change.kind, between.kind):
                     found.add(_by_event(change, between))
         return found
+
+
+    @staticmethod
+    def _is_kept_out(change: Row, between: Row, before: list[Row]) -> bool:
+        """Whether the change goes with an earlier one of its task in any case, or other tasks look before they make it."""
+        if not any(row.task == change.task and row.kind in CHANGING for row in before):
+            return False
+        word, _, last = change.undoes.rpartition(" ")
+        if change.kind == WRITE:
+            return (word == "guarded" or last == "flag") and between.function == change.function
+        return last == "value" or last == "key" and change.kind == ADDITION
 
 
 class RandomRun(Run):
@@ -184,6 +197,7 @@ class RandomRun(Run):
         self.acts: list[tuple[str, str, str, Row | None]] = []
         """Who does what, in words, with a name or a touch."""
         self.chance = random.Random(seed)
+        self._words = random.Random(-seed - 1)
         self._live = ["root"]
         self._ended: list[str] = []
         self._held: dict[str, list[str]] = defaultdict(list)
@@ -232,9 +246,10 @@ class RandomRun(Run):
             self._made.add(thing)
             kind = MAKING if is_making else self.chance.choice(self.kinds)
             loop = 1 if self._is_looped and task != "root" else 0
+            words = ("", "", "value", "key", "flag", "guarded value", "guarded key") if loop and kind in CHANGING else ("",)
             row = Row(
                 event.number, task, thing, kind, "a.py", line, kind, name=f"Thing.{thing}" if self._is_looped else "",
-                function="work", held=tuple(sorted(self._held[task])), loop=loop, turn=self._turn if loop else 0,
+                function=f"work{line % 2}", undoes=self._words.choice(words), held=tuple(sorted(self._held[task])), loop=loop, turn=self._turn if loop else 0,
             )
             if row not in self.rows:
                 self.rows.append(row)

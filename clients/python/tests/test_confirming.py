@@ -20,7 +20,8 @@ from itc_trace.record.journal import Row
 from itc_trace.report.race_rows import race_rows
 from itc_trace.report.report import report_of
 from itc_trace.sync import meeting
-from itc_trace.sync.meeting import Meeting, Plan, Touching
+from itc_trace.model.handed_over import Plan
+from itc_trace.sync.meeting import Meeting, Touching
 
 from .hidden_races import CLEAN, HIDDEN, THREADS, TOUCHES, Ran, confirmed, program, programs
 from .support import ProgramCase, run_traced

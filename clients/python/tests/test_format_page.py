@@ -63,6 +63,7 @@ OF_OTHER_RUNS = {
     "shared": '{"event":7,"task":"root","thing":null,"kind":"local","file":"a","line":1,"label":"x","shared":[0]}',
     "guard": '{"event":7,"task":"root","thing":null,"kind":"send","file":"a","line":1,"label":"x","guard":"k"}',
     "gives": '{"event":7,"task":"root","thing":null,"kind":"local","file":"a","line":1,"label":"x","gives":"q"}',
+    "undoes": '{"event":7,"task":"root","thing":"x","kind":"addition","file":"a","line":1,"label":"x","undoes":"key"}',
     "aside": '{"aside":"t","name":"t","group":"t","made":"","rows":[[7,1,"root","read","s",[],0,0]]}',
     "rows": '{"aside":"t","name":"t","group":"t","made":"","rows":[[7,1,"root","read","s",[],0,0]]}',
     "site": '{"site":"s","file":"a","line":1,"function":"f"}', "unseen": '{"unseen":"full","text":"it is"}', "text": '{"unseen":"full","text":"it is"}',

@@ -36,6 +36,7 @@ from ..model.verdict import Cause, Left, PassedOver, Unseen, Verdict, listed, ve
 from .without_locks import WithoutLocks
 
 NOTHING = "nothing orders them"
+DOUBTFUL = f"{NOTHING}; whether the change goes back to a look of an earlier turn was not seen"
 MOST_ORDERS = 32768
 """So many pairs of touches that decide are asked for, each by itself.
 
@@ -372,12 +373,23 @@ class _Finder:
 
     def _find_races(self, things: list[_Thing]) -> None:
         listed: dict[object, Race] = {}
+        doubtful: dict[object, Race] = {}
         for thing in self._racing(things):
-            unordered = self._trace.unordered
-            for pair in racing_pairs(thing.touches, unordered, unordered, False, self._is_strict or thing.is_named):
+            unordered, is_strict = self._trace.unordered, self._is_strict or thing.is_named
+            for pair in racing_pairs(thing.touches, unordered, unordered, False, is_strict):
                 list_pair(pair, listed)
+            for pair in racing_pairs(thing.touches, unordered, unordered, False, is_strict, is_doubtful=True):
+                list_pair(pair, doubtful)
         self._found.races = in_order(listed)
         _confirm(self._found.races, self._order)
+        self._add_doubtful({key: race for key, race in doubtful.items() if key not in listed})
+
+    def _add_doubtful(self, listed: dict[object, Race]) -> None:
+        """Races of tasks of one loop, unless a change is made from no look of an earlier turn."""
+        for race in listed.values():
+            race.is_possible, race.why = True, DOUBTFUL
+        self._found.possible = in_order(listed)
+        _confirm(self._found.possible, self._order)
 
     def _racing(self, things: list[_Thing]) -> Iterator[_Thing]:
         """The things of which a pair that decides has no order,
@@ -402,7 +414,7 @@ class _Finder:
         polls = events_of_lock(self._locks, POLL)
         told = told_by_signals(trace, Steps(locks, requests, answers, looks_of(self._rows, trace), polls)).known
         locks |= polls
-        races = {_key(race.example) for race in self._found.races}
+        races = {_key(race.example) for race in (*self._found.races, *self._found.possible)}
         listed: dict[object, Race] = {}
         for thing in things:
             untold = _untold(thing, trace, told, self._replaced)
@@ -410,7 +422,8 @@ class _Finder:
             def by_luck(touch: int, untold: Unordered = untold) -> Events:
                 return trace.before[touch] & untold(touch)
 
-            for pair in racing_pairs(thing.touches, by_luck, untold, True, self._is_strict or thing.is_named):
+            is_strict = self._is_strict or thing.is_named
+            for pair in racing_pairs(thing.touches, by_luck, untold, True, is_strict, is_doubtful=None):
                 if _key(pair[:2]) not in races:
                     list_pair(pair, listed)
         for race in listed.values():
@@ -418,10 +431,11 @@ class _Finder:
             race.why = self._reason(
                 lock_that_tells(trace, locks, race.example[0].event, race.example[1].event), *race.example
             )
-        self._found.possible = in_order(listed)
         if listed:
+            found = in_order(listed)
+            self._found.possible += found
             with WithoutLocks(trace, locks) as tenant:
-                _confirm(self._found.possible, tenant)
+                _confirm(found, tenant)
                 self._found.questions += tenant.questions
 
     def _find_hidden(self, things: list[_Thing]) -> None:
@@ -441,7 +455,7 @@ class _Finder:
             return trace.before[touch] & untold(touch)
 
         for thing in things:
-            for pair in racing_pairs(thing.touches, by_hand_overs, untold, True, self._is_strict):
+            for pair in racing_pairs(thing.touches, by_hand_overs, untold, True, self._is_strict, is_doubtful=None):
                 if _key(pair[:2]) not in told and not 0 < pair[0].loop == pair[1].loop:
                     list_pair(pair, listed)
         for race in listed.values():

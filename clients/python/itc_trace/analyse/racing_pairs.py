@@ -13,7 +13,10 @@ from itertools import count
 from typing import NamedTuple
 
 from .bit_matrix import transposed
-from ..model.conflicts import CHANGING, CONFLICTING, ITERATION, KEYS, STEP
+from ..model.conflicts import (
+    ADDITION, BY_KEY, BY_VALUE, CHANGING, CONFLICTING, FLAG, GIVEN, GUARDED_KEY, GUARDED_VALUE, ITERATION, KEYS, LENGTH,
+    LOOKUP, REPLACEMENT, STEP, WRITE,
+)
 from ..record.journal import Row
 from .trace import Events, Unordered, lowest
 
@@ -38,6 +41,10 @@ class _Alike:
         self.rows[row.event] = row
         for lock in row.held:
             self.by_lock[lock] |= 1 << row.event
+
+    def is_of_function(self, row: Row) -> bool:
+        one = next(iter(self.rows.values()))
+        return (one.file, one.function) == (row.file, row.function)
 
     def without(self, held: Iterable[str]) -> Events:
         """Those that held none of these locks."""
@@ -79,13 +86,24 @@ class _Groups:
 
 
 def racing_pairs(
-    touches: list[Row], unordered: Unordered, unordered_turns: Unordered, with_locks: bool, is_strict: bool
+    touches: list[Row], unordered: Unordered, unordered_turns: Unordered, with_locks: bool, is_strict: bool,
+    is_doubtful: bool | None = False,
 ) -> Iterator[Pair]:
     """The pairs of one thing, whose touches are given in the order of their events.
 
     With locks a pair is none if its tasks held a lock in common. If it is not strict, tasks of one loop take turns, for
-    which there is an order of its own.
+    which there is an order of its own. Of these, changes that may be made from no look of an earlier turn are left out,
+    or alone are looked at if it is to be doubtful. With None all are.
     """
+    if is_doubtful is not True:
+        yield from _pairs_of_all(touches, unordered, with_locks, is_strict)
+    if not is_strict:
+        for tasks in _tasks_by_loop(touches):
+            yield from _SplitPairs(tasks, unordered_turns, with_locks, is_doubtful).pairs()
+
+
+def _pairs_of_all(touches: list[Row], unordered: Unordered, with_locks: bool, is_strict: bool) -> Iterator[Pair]:
+    """The pairs but for those of tasks of one loop, if these take turns."""
     groups = _Groups(with_locks)
     found: dict[tuple[_Alike, _Alike], Pair] = {}
     for touch in touches:
@@ -100,9 +118,6 @@ def racing_pairs(
             first, second, times = found.get((alike, other), (other.rows[lowest(met)], touch, 0))
             found[alike, other] = first, second, times + met.bit_count()
     yield from found.values()
-    if not is_strict:
-        for tasks in _tasks_by_loop(touches):
-            yield from _SplitPairs(tasks, unordered_turns, with_locks).pairs()
 
 
 # Tasks of one loop
@@ -114,6 +129,10 @@ class _Split(NamedTuple):
 
     reads: list[Row]
     change: Row
+    is_doubtful: bool = False
+    """Whether the change may be made from no look: so its source and its rows leave it open."""
+    is_kept_to_function: bool = False
+    """Whether the same function of other tasks makes no change in between: it looks first."""
 
 
 def _tasks_by_loop(touches: list[Row]) -> Iterable[dict[str, list[Row]]]:
@@ -125,19 +144,42 @@ def _tasks_by_loop(touches: list[Row]) -> Iterable[dict[str, list[Row]]]:
 
 
 def _splits(rows: list[Row]) -> Iterator[_Split]:
-    """Each change by a task that has no read of its own turn before it, with the last reads of an earlier turn."""
+    """Each change by a task that has no read of its own turn before it, with the last reads of an earlier turn.
+
+    A read and a change within one turn are one step. What surely goes with such a change of its own is left out.
+    """
     yield from _iterations(rows)
     reads: list[Row] = []
+    are_acted_on = has_changed = False
     for row in rows:
+        is_of_turn = bool(reads) and reads[-1].turn == row.turn
         if row.kind in CHANGING:
-            if reads and reads[-1].turn < row.turn:
-                yield _Split(reads, row)
+            if reads and not is_of_turn:
+                split = _split_of(reads, row, are_acted_on) if has_changed else _Split(reads, row)
+                if split is not None:
+                    yield split
+            are_acted_on = are_acted_on or is_of_turn
+            has_changed = True
         elif row.kind == STEP:
             pass
-        elif reads and reads[-1].turn == row.turn:
+        elif is_of_turn:
             reads.append(row)
+            are_acted_on = False
         else:
             reads = [row]
+            are_acted_on = False
+
+
+def _split_of(reads: list[Row], change: Row, are_acted_on: bool) -> _Split | None:
+    """The split of a task that has changed the thing before. None if the change goes with that one in any case."""
+    word = change.undoes
+    if word in (FLAG, GUARDED_VALUE, GUARDED_KEY) and change.kind in (WRITE, REPLACEMENT):
+        return _Split(reads, change, is_kept_to_function=True)
+    is_of_shape = change.kind not in (WRITE, REPLACEMENT)
+    if word in (BY_VALUE, GUARDED_VALUE) and is_of_shape or word in (BY_KEY, GUARDED_KEY) and change.kind == ADDITION:
+        return None
+    is_given = word == GIVEN and change.kind == ADDITION and are_acted_on
+    return _Split(reads, change, is_given and all(read.kind in (LENGTH, LOOKUP) for read in reads))
 
 
 def _iterations(rows: list[Row]) -> Iterator[_Split]:
@@ -161,14 +203,18 @@ class _SplitPairs:
     """Between two tasks of one loop: a read, a change by the same task that goes back to it in a later turn, and a
     change by the other task that may come in between."""
 
-    def __init__(self, tasks: dict[str, list[Row]], unordered: Unordered, with_locks: bool) -> None:
+    def __init__(
+        self, tasks: dict[str, list[Row]], unordered: Unordered, with_locks: bool, is_doubtful: bool | None,
+    ) -> None:
         self._unordered = unordered
         self._with_locks = with_locks
         self._own: dict[str, Events] = {task: _events(row.event for row in rows) for task, rows in tasks.items()}
         groups = _Groups(with_locks)
         self._groups = {row: groups.add(row) for rows in tasks.values() for row in rows}
         self._changes = list(dict.fromkeys(alike for alike in self._groups.values() if alike.kind in CHANGING))
-        self._splits = [split for rows in tasks.values() for split in _splits(rows)]
+        self._splits = [
+            split for rows in tasks.values() for split in _splits(rows) if is_doubtful in (None, split.is_doubtful)
+        ]
         self._later = self._unordered_later()
         self._met: dict[tuple[_Alike, _Alike], dict[int, Events]] = defaultdict(lambda: defaultdict(int))
         """Of two groups the touches of the first one, each with those of the second that it races with."""
@@ -191,6 +237,8 @@ class _SplitPairs:
     def _look_at(self, split: _Split) -> None:
         change = split.change
         for other in self._changes:
+            if split.is_kept_to_function and other.is_of_function(change):
+                continue
             between = 0
             for read in split.reads:
                 if other.kind in CONFLICTING[read.kind] and (met := self._between(split, read, other)):

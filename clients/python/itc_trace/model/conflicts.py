@@ -14,6 +14,14 @@ STEP = "step"
 It conflicts with nothing by itself.
 """
 
+BY_VALUE, BY_KEY, FLAG, GIVEN = "value", "key", "flag", "given"
+"""How a change goes with an earlier one of its task: it takes away by its value, or by its key, what the task has put
+there, or gives back what it has taken. It sets a flag that the task has set. Or its function was given what it puts or
+takes away, and has looked at nothing.
+"""
+GUARDED_VALUE, GUARDED_KEY = f"guarded {BY_VALUE}", f"guarded {BY_KEY}"
+"""The same, if the earlier change was made only behind a look at what it changes. A flag always is."""
+
 _PAIRS = (
     *((WRITE, kind) for kind in (WRITE, READ, LOOKUP, LENGTH, ITERATION, ADDITION, REWRITE)),
     *((REWRITE, kind) for kind in (REWRITE, READ, LOOKUP, LENGTH, ITERATION, ADDITION)),

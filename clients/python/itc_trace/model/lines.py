@@ -19,6 +19,9 @@ MARK, TAKE, TAKE_END, SPAWN, FINISH, JOIN, TOUCH, LATE, GONE, SEND, RECV, STOP, 
 
 Note = tuple[Any, ...]
 
+FIRST_OF_THREADS = 1 << 19
+"""Before the numbers of threads, which are told apart from those of loops."""
+
 _numbers = itertools.count(1)
 
 
@@ -276,6 +279,18 @@ class Touch(NamedTuple):
     """The number of a pool's job that is no task of its own."""
 
 
+_threads: dict[int, int] = {}
+
+
+def number_of_thread(identity: int) -> int:
+    """The number of a thread as what runs one task after another, beside those of loops.
+
+    Of an element whose key is the identity of the thread, what the thread runs takes turns: whoever touches it by that
+    key is never at once with another one.
+    """
+    return _threads.setdefault(identity, FIRST_OF_THREADS + len(_threads))
+
+
 class TouchEvent:
     """An event that stands for what a task touches, up to the next event of this task."""
 
@@ -319,7 +334,10 @@ class TouchEvent:
         job = stretch.line.number if isinstance(stretch.line, LateJob) else 0
         when = held, loop, turn, job
         for key, (thing, kind, site) in touches:
-            self.touches[key, when] = Touch(thing, kind, site, held, loop, turn, job)
+            touch = Touch(thing, kind, site, held, loop, turn, job)
+            if not loop and getattr(thing, "identity", 0) == stretch.thread:
+                touch = touch._replace(loop=number_of_thread(stretch.thread))
+            self.touches[key, when] = touch
 
 
 class Section:

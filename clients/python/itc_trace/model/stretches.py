@@ -8,7 +8,8 @@ from __future__ import annotations
 
 from _thread import get_ident
 from bisect import bisect_right
-from collections.abc import Callable, Sequence
+from collections.abc import Callable, Mapping, Sequence
+from types import MappingProxyType
 from typing import NamedTuple
 
 from .lines import Stretch
@@ -20,6 +21,11 @@ class Site(NamedTuple):
     file: str
     line: int
     function: str
+    undoes: str = ""
+    """How the change there goes with an earlier one of its task, if it does."""
+
+
+_NOTHING: Mapping[int, str] = MappingProxyType({})
 
 
 class Sites:
@@ -31,14 +37,16 @@ class Sites:
     def __init__(self) -> None:
         self._count = 0
         self._firsts: list[int] = []
-        self._modules: list[tuple[str, Sequence[int], Sequence[str]]] = []
+        self._modules: list[tuple[str, Sequence[int], Sequence[str], Mapping[int, str]]] = []
 
     def append(self, site: Site) -> None:
         self.extend(site.file, [site.line], [site.function])
 
-    def extend(self, file: str, lines: Sequence[int], functions: Sequence[str]) -> None:
-        """Adds places of one file."""
-        self._modules.append((file, lines, functions))
+    def extend(
+        self, file: str, lines: Sequence[int], functions: Sequence[str], undoing: Mapping[int, str] = _NOTHING,
+    ) -> None:
+        """Adds places of one file, with those at which something is undone, by their numbers from 0 on."""
+        self._modules.append((file, lines, functions, undoing))
         self._firsts.append(self._count)
         self._count += len(lines)
 
@@ -49,9 +57,9 @@ class Sites:
         if not 0 <= number < self._count:
             raise IndexError(number)
         place = bisect_right(self._firsts, number) - 1
-        file, lines, functions = self._modules[place]
+        file, lines, functions, undoing = self._modules[place]
         at = number - self._firsts[place]
-        return Site(file, lines[at], functions[at])
+        return Site(file, lines[at], functions[at], undoing.get(at, ""))
 
 
 SITES = Sites()

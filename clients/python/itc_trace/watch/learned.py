@@ -60,6 +60,8 @@ class Found(NamedTuple):
     """What no hook looks into, and its line."""
     loops: list[tuple[int, int, int]]
     """Of each loop the number of its place, and its first and its last line."""
+    undoing: dict[int, str]
+    """How the changes at some places go with earlier ones, by how far each is behind the first site."""
     fields: set[str]
     """The names that the module adds to the fields that modules store."""
     elsewhere: set[str]
@@ -81,11 +83,12 @@ class Learned:
         self.fields: set[str] = set()
         self.elsewhere: set[str] = set()
         self.loops: list[tuple[int, int, int]] = []
+        self.undoing: dict[int, str] = {}
 
     def found(self) -> Found:
         return Found(
             self.first, self.lines, self.functions, self.accesses, self.cases, self.handed, self.passed_over,
-            self.loops, self.fields, self.elsewhere,
+            self.loops, self.undoing, self.fields, self.elsewhere,
         )
 
     # What is asked
@@ -127,7 +130,11 @@ class Learned:
         self.elsewhere.add(name)
         STORED_ELSEWHERE.add(name)
 
-    def new_site(self, line: int, function: str, what: str, kinds: str, name: str, text: str, words: Any) -> int:
+    def new_site(
+        self, line: int, function: str, what: str, kinds: str, name: str, text: str, words: Any, undoes: str = "",
+    ) -> int:
+        if undoes:
+            self.undoing[len(self.lines)] = undoes
         self.lines.append(line)
         self.functions.append(function)
         self.accesses.append((what, kinds, name, text, words))

@@ -6,6 +6,8 @@ import os
 from _thread import allocate_lock
 from bisect import bisect_right
 from collections import defaultdict
+from collections.abc import Mapping
+from types import MappingProxyType
 from typing import Any
 
 from ..model.file_names import name_of_file
@@ -88,7 +90,10 @@ def new_site(file: str, line: int, function: str, access: Access) -> int:
     return number
 
 
-def new_sites(file: str, module: str, lines: list[int], functions: list[str], rows: list[AccessRow]) -> int:
+def new_sites(
+    file: str, module: str, lines: list[int], functions: list[str], rows: list[AccessRow],
+    undoing: Mapping[int, str] = MappingProxyType({}),
+) -> int:
     """The number of the first one of a module's sites. The others follow it.
 
     Threads that import modules may want some at a time.
@@ -96,5 +101,5 @@ def new_sites(file: str, module: str, lines: list[int], functions: list[str], ro
     with _numbering:
         first = len(SITES)
         ACCESSES.extend(first, module, rows)
-        SITES.extend(name_of_file(file), lines, functions)
+        SITES.extend(name_of_file(file), lines, functions, undoing)
     return first

@@ -15,7 +15,7 @@ from .places import CASES, LOOPS_OF, NAMES_OF_HANDED, OF_OTHERS, new_sites
 def placed(code: CodeType, found: Found, file: str, module: str) -> CodeType:
     """The code with the numbers that its places have in this process."""
     marks = range(found.first, found.first + len(found.lines))
-    shift = new_sites(file, module, found.lines, found.functions, found.accesses) - found.first
+    shift = new_sites(file, module, found.lines, found.functions, found.accesses, found.undoing) - found.first
     for site, cases in found.cases.items():
         CASES[site + shift] = [_moved_part(case, marks, shift) for case in cases]
     for (line, name), text in found.handed.items():
