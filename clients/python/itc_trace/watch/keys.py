@@ -23,10 +23,21 @@ LIBRARY = {
     "datetime": ("date", "datetime", "time", "timedelta", "timezone"), "decimal": ("Decimal",),
     "fractions": ("Fraction",), "uuid": ("UUID",),
     "pathlib": ("PurePosixPath", "PureWindowsPath", "PosixPath", "WindowsPath"), "builtins": ("complex", "range"),
-    "ipaddress": ("IPv4Address", "IPv6Address", "IPv4Network", "IPv6Network"),
+    "ipaddress": ("IPv4Address", "IPv6Address", "IPv4Network", "IPv6Network"), "zoneinfo": ("ZoneInfo",),
+    "re": ("Pattern",),
 }
 """Types of the library whose values are compared by code of the library alone."""
 ZONED = ("datetime", "time")
+IN_C: dict[tuple[str, str], Callable[[Any, Any], Any]] = {
+    ("datetime", "datetime"): lambda base, key: base.combine(base.date(key), base.timetz(key)),
+    ("datetime", "date"): lambda base, key: base.fromordinal(base.toordinal(key)),
+    ("datetime", "timedelta"): lambda base, key: base.__add__(key, base()),
+    ("decimal", "Decimal"): lambda base, key: base(key),
+}
+"""Types of the library whose code in C compares values of classes below, and what gives the plain value of such a one.
+
+None of it runs code of the class.
+"""
 
 
 _STANDING = (TracedLock, FollowedRLock)
@@ -65,6 +76,8 @@ def value_of(key: Any) -> Any:
     if any([is_of(kind, one) for one in _STANDING]):
         return OBJECT, id(key._lock)
     plain = _plain_value(key, kind)
+    if plain is UNKNOWN:
+        plain = _value_below_library(key, kind)
     if plain is not UNKNOWN:
         return plain
     if kind is frozenset or kind is tuple or _is_named_tuple(kind):
@@ -72,10 +85,14 @@ def value_of(key: Any) -> Any:
         is_itself = kind is tuple and values is not UNKNOWN and all([one is value for one, value in zip(key, values)])
         return key if is_itself else values
     if is_made(kind, "__eq__") and is_made(kind, "__hash__"):
-        fields = vars_of(class_with(kind, FIELDS))[FIELDS]
-        values = _parts([value_of_field(key, name) for name in fields], tuple)
+        values = _parts(_compared_fields(key, class_with(kind, FIELDS)), tuple)
         return values if values is UNKNOWN else (id(kind), values)
     return UNKNOWN
+
+
+def _compared_fields(key: Any, owner: Any) -> list[Any]:
+    """What stands in the fields by which objects of a dataclass are equal."""
+    return [value_of_field(key, name) for name, field in vars_of(owner)[FIELDS].items() if field.compare]
 
 
 def _value_of_method(key: Any) -> Any:
@@ -118,6 +135,16 @@ def _is_of_library(key: Any, kind: type) -> bool:
     return False
 
 
+def _value_below_library(key: Any, kind: type) -> Any:
+    """The plain value of a key whose class leaves all comparing to a class of the library."""
+    for (module, name), plain in IN_C.items():
+        base = vars(sys.modules.get(module, sys)).get(name)
+        if base is not None and is_of(kind, base) and all([class_with(kind, one) is base for one in BY_IDENTITY_OF]):
+            value = plain(base, key)
+            return value if _is_of_library(value, type(value)) else UNKNOWN
+    return UNKNOWN
+
+
 def _is_named_tuple(kind: type) -> bool:
     """Whether it is a tuple with names, which compares as any tuple does."""
     methods = [class_with(kind, name) for name in ("__eq__", "__hash__")]
@@ -148,4 +175,4 @@ def _members_of(key: Any, kind: type) -> list[Any]:
     if is_of(kind, tuple):
         return list(tuple.__iter__(key))
     owner = class_with(kind, FIELDS) if is_made(kind, "__eq__") else None
-    return [] if owner is None else [value_of_field(key, name) for name in vars_of(owner)[FIELDS]]
+    return [] if owner is None else _compared_fields(key, owner)

@@ -76,6 +76,11 @@ class Element:
         return f"{self._owner.name}[{told if len(told) <= LONGEST_KEY else told[:LONGEST_KEY] + '..'}]"
 
     @property
+    def identity(self) -> int:
+        """The number that is its key, which may be the identity of a thread."""
+        return self._key if type(self._key) is int else 0
+
+    @property
     def group(self) -> str:
         return f"{self._owner.name}[..]"
 
