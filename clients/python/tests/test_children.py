@@ -133,7 +133,7 @@ def start(how):
     elif how == "spawn":
         os.spawnv(os.P_WAIT, sys.executable, words)
     else:
-        os.waitpid(os.posix_spawn(sys.executable, words, os.environ), 0)
+        os.waitpid(os.posix_spawn("/bin/sh", ["sh", "-c", shlex.join(words)], os.environ), 0)
 if __name__ == "__main__" and sys.argv[1] != "child":
     start(sys.argv[1])
 """
@@ -216,7 +216,7 @@ class Children(ProgramCase):
 
     def test_a_program_of_the_same_folder_that_is_started_is_told_as_not_seen(self) -> None:
         program = self.program(STARTS_ITSELF)
-        for how in ("shell", "system", "posix_spawn", "words of a shell", "text", "fork", "fork, by the path", "spawn"):
+        for how in ("shell", "system", "posix_spawn by a shell", "words of a shell", "text", "fork", "fork, by the path", "spawn"):
             with self.subTest(how=how):
                 ran = run_traced(program, how)
                 self.assertEqual(ran.returncode, Verdict.INCOMPLETE, ran.stderr)

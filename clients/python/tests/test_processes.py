@@ -377,6 +377,26 @@ itc_trace.touch("file", write=True, across=True)
 assert subprocess.run(words, cwd=folder).returncode == 3
 itc_trace.touch("file", write=True, across=True)
 """
+SPAWNS_ITSELF = """
+import os, sys
+import itc_trace
+if sys.argv[1] == "child":
+    itc_trace.touch("file", write=True, across=True)
+    print(os.path.basename(sys.argv[0]), *sys.argv[1:], *sys.orig_argv[-1:], sys.flags.utf8_mode, flush=True)
+    sys.exit(3)
+how, is_wrong = sys.argv[1], sys.argv[2] == "wrong"
+words = ["python", "-X", "utf8", __file__, "child"]
+environment = {"PATH": os.path.dirname(sys.executable)} if how == "without variables" else os.environ
+if how == "by the path":
+    os.environ["PATH"] = os.path.dirname(sys.executable)
+    child = os.posix_spawnp(os.path.basename(sys.executable), words, environment)
+else:
+    child = os.posix_spawn(sys.executable, tuple(words), environment, setsigmask=[])
+if is_wrong:
+    itc_trace.touch("file", write=True, across=True)
+assert os.waitstatus_to_exitcode(os.waitpid(child, 0)[1]) == 3
+itc_trace.touch("file", write=True, across=True)
+"""
 RUNS_ITSELF_IN_A_FORK = """
 import os, subprocess, sys
 import itc_trace
@@ -415,6 +435,22 @@ class Commands(ProgramCase):
         self.assertEqual(ran.returncode, Verdict.RACES, ran.stderr)
         self.assertRegex(ran.stderr, r"race on file\n.*program\.py:(14|5)\b.*\n.*program\.py:(14|5)\b")
         self.assertEqual(ran.stderr.count("race on"), 1)
+
+    def test_a_program_of_the_same_folder_that_is_spawned_is_a_task(self) -> None:
+        program = self.program(SPAWNS_ITSELF)
+        for how in ("as it is", "by the path", "without variables"):
+            with self.subTest(how=how):
+                ran = run_traced(program, how, "right")
+                self.assertEqual((ran.returncode, ran.stdout), (Verdict.NO_RACE, "program.py child child 1\n"), ran.stderr)
+        ran = run_traced(program, "as it is", "wrong")
+        self.assertEqual(ran.returncode, Verdict.RACES, ran.stderr)
+        self.assertRegex(ran.stderr, r"race on file\n.*program\.py:(17|5)\b.*\n.*program\.py:(17|5)\b")
+
+    def test_what_cannot_be_spawned_is_told_as_ever(self) -> None:
+        text = "import os, sys\ntry:\n    os.posix_spawn('/no_such', ['x', __file__], os.environ)\nexcept OSError as error:\n    print(error.strerror)\n"
+        text += "try:\n    os.posix_spawn(sys.executable, [], os.environ)\nexcept ValueError as error:\n    print('no words')\n"
+        ran = run_traced(self.program(text))
+        self.assertEqual((ran.returncode, ran.stdout), (Verdict.NO_RACE, "No such file or directory\nno words\n"), ran.stderr)
 
     def test_one_that_cannot_be_started_is_told_as_ever(self) -> None:
         text = "import subprocess, sys\ntry:\n    subprocess.run([sys.executable, __file__], cwd='/no_such')\nexcept OSError as error:\n    print(error.strerror)\n"

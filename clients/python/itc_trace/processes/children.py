@@ -16,6 +16,7 @@ from ..record.journal_file import JournalFile
 from ..model.lines import state
 from ..sync.base import like
 from ..sync.later import once_imported
+from ..sync.starts import is_spawned
 from ..model.stretches import SITES
 from ..model.verdict import Cause, Unseen
 
@@ -95,7 +96,7 @@ def _wrap_command(owner: Any, name: str, place: int, tell: Callable[[Unseen], No
 
     def run(*words: Any, **named: Any) -> Any:
         told = original(*words, **named)
-        if words and hasattr(words[0], "_itc_line"):
+        if words and hasattr(words[0], "_itc_line") or owner is os and name != "system" and is_spawned(told):
             return told  # It is traced.
         command = words[place] if len(words) > place else named.get("args", named.get("argv", named.get("command", "")))
         program = watch.program_of(command, os.fspath(named.get("cwd") or working_folder()))

@@ -1,5 +1,7 @@
-"""Traces the programs of its own folder that a program runs by `subprocess`:
-each is a task that the program starts and joins."""
+"""Traces the programs of its own folder that a program runs by `subprocess` or `os.posix_spawn`.
+
+Each is a task that the program starts and joins.
+"""
 
 from __future__ import annotations
 
@@ -15,6 +17,7 @@ from ..model.file_names import real_path, working_folder
 from ..record import following
 from .base import Patches
 from .later import once_imported
+from .starts import spawned
 
 FLAGS_WITH_A_WORD = ("-X", "-W", "--check-hash-based-pycs")
 PACKAGE = os.path.dirname(os.path.dirname(os.path.dirname(os.path.abspath(__file__))))
@@ -22,6 +25,9 @@ _WITHOUT_VARIABLES = set("EI")
 
 
 def put(patches: Patches) -> None:
+    for name in ("posix_spawn", "posix_spawnp"):
+        if hasattr(os, name):
+            patches.wrap(os, name, _spawn)
     once_imported("subprocess", lambda module: _put_popen(patches, module))
 
 
@@ -48,19 +54,41 @@ def _begin(original: Any) -> Any:
     return __init__
 
 
+def _spawn(original: Any) -> Any:
+    def posix_spawn(path: Any, argv: Any, env: Any, **named: Any) -> int:
+        words = [path, *argv[1:]] if isinstance(argv, (list, tuple)) and argv else []
+        begun = _begun_for(words, working_folder(), "posix_spawn") if words and following.is_on() else None
+        if begun is None:
+            return int(original(path, argv, env, **named))
+        try:
+            traced = [argv[0], *_traced(words, begun.process)[1:]]
+            number = int(original(path, traced, _with_package(env), **named))
+        except BaseException:
+            following.did_not_start(begun)
+            raise
+        spawned(number, begun.line)
+        return number
+
+    return posix_spawn
+
+
 def _begun(args: Any, named: dict[str, Any]) -> following.Begun | None:
     """What is begun for the command, if it is one of Python that can be traced."""
     is_by_shell = isinstance(args, (str, bytes, os.PathLike)) or named.get("shell")
     if is_by_shell or named.get("executable") is not None or not following.is_on():
         return None
+    return _begun_for(args, named.get("cwd") or working_folder(), "subprocess")
+
+
+def _begun_for(words: Any, folder: Any, how: str) -> following.Begun | None:
     try:
-        place = _place_of_program(args)
-        program = following.program_of(args, os.fspath(named.get("cwd") or working_folder()))
+        place = _place_of_program(words)
+        program = following.program_of(words, os.fspath(folder))
     except (TypeError, ValueError):
         return None
     if place is None or program is None:
         return None
-    return following.begin(f"{os.path.splitext(os.path.basename(program))[0]}#", "subprocess", 3)
+    return following.begin(f"{os.path.splitext(os.path.basename(program))[0]}#", how, 4 if how == "subprocess" else 3)
 
 
 def _place_of_program(words: Sequence[Any]) -> int | None:

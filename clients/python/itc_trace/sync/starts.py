@@ -1,4 +1,4 @@
-"""Traces the starts and the ends of child processes: of `os.fork` and of `multiprocessing`."""
+"""Traces the starts and the ends of child processes: of `os.fork` and of `multiprocessing`, and the ends of others."""
 
 from __future__ import annotations
 
@@ -17,7 +17,7 @@ from .later import once_imported
 _own = threading.local()
 """`process` is that of `multiprocessing` which this thread starts, and `begun` what was begun for it."""
 _forked: dict[int, Line] = {}
-"""The tasks of children that the program has forked itself, by their numbers."""
+"""The tasks of children that the program has forked or spawned itself, by their numbers."""
 _ABOUT_MAIN = ("init_main_from_name", "init_main_from_path")
 FOR_THE_SERVER = "ignore"
 """The name by which the server that forks asks what it has to know."""
@@ -117,6 +117,16 @@ def _name_of(process: Any) -> str:
     if isinstance(name, str) and "Process-" not in name:
         return name
     return getattr(getattr(process, "_target", None), "__name__", type(process).__name__) + "#"
+
+
+def spawned(number: int, line: Line) -> None:
+    """A child of this number was begun by `os.posix_spawn`, and is this task."""
+    _forked[number] = line
+
+
+def is_spawned(number: Any) -> bool:
+    """Whether a child of this number is followed, and nobody has seen its end."""
+    return number in _forked
 
 
 # Ends
