@@ -13,21 +13,16 @@ are answered. It builds the programs first, if no folder has them.
 from __future__ import annotations
 
 import argparse
-import os
 import re
 import subprocess
 import tempfile
-import threading
 import time
-from collections import Counter
 from pathlib import Path
 
 from measure import build
-from wrappers import CLIENTS, RACES, WEB, Programs, listed, marked, run_system
+from peaks import Kind, Peaks
+from wrappers import CLIENTS, RACES, SYSTEM, WEB, Programs, listed, marked, run_system
 
-from itc_trace.cli.descendants import descendants
-
-PAUSE = 0.1
 MOST_SECONDS = 3600
 SOURCES = {**WEB, "go": CLIENTS / "go/programs/requests.go"}
 
@@ -44,47 +39,15 @@ def words_of(language: str, folder: Path, count: int) -> list[str]:
     return Programs(language, folder).words("requests", str(count))
 
 
-class Peaks:
-    """Looks again and again at the processes that this one has started, and at what each has had at most."""
-
-    def __init__(self) -> None:
-        self.kilobytes: Counter[str] = Counter()
-        self._is_over = threading.Event()
-        self._looking = threading.Thread(target=self._look)
-
-    def __enter__(self) -> Peaks:
-        self._looking.start()
-        return self
-
-    def __exit__(self, *_: object) -> None:
-        self._is_over.set()
-        self._looking.join()
-
-    def _look(self) -> None:
-        while not self._is_over.wait(PAUSE):
-            for one in descendants(os.getpid()):
-                self._note(Path(f"/proc/{one.number}"))
-
-    def _note(self, process: Path) -> None:
-        try:
-            words = (process / "cmdline").read_text().split("\0")
-            peak = re.search(r"^VmHWM:\s+(\d+)", (process / "status").read_text(), re.M)
-        except OSError:
-            return
-        if peak:
-            kind = "collector" if "serve" in words else "command" if "itc_trace" in words else "program"
-            self.kilobytes[kind] = max(self.kilobytes[kind], int(peak[1]))
-
-
 def row(language: str, built: Path, count: int) -> str:
     begun = time.monotonic()
-    with tempfile.TemporaryDirectory() as folder, Peaks() as peaks:
+    with tempfile.TemporaryDirectory() as folder, Peaks(Path(folder) / SYSTEM) as peaks:
         ran = run_system(Path(folder), seconds=MOST_SECONDS, one=words_of(language, built, count))
     seconds = time.monotonic() - begun
     if ran.returncode != RACES or listed(ran.stderr, "race") != marked(SOURCES[language], "race", "requests") or "incomplete" in ran.stderr:
         raise RuntimeError(f"{language}: status {ran.returncode}: {ran.stderr[-2000:]}")
     events = re.findall(r"(\d+) events", ran.stderr)[-1]
-    told = (f"{peaks.kilobytes[kind] / 1000:.0f}" for kind in ("program", "collector", "command"))
+    told = (f"{max(peaks.of(kind)) / 1000:.0f}" for kind in (Kind.PROGRAM, Kind.COLLECTOR, Kind.COMMAND))
     return f"| {language.title()} | {count} | {events} | {seconds:.0f} | {' | '.join(told)} |"
 
 

@@ -234,6 +234,23 @@ def _split_in_one_turn(rows: list[Row]) -> Iterator[Any]:
             yield racing_pairs._Split(reads[:1], row)
 
 
+def _split_of_any_change(reads: list[Row], change: Row, are_acted_on: bool) -> Any:
+    """As if no change went with an earlier one."""
+    return racing_pairs._Split(reads, change)
+
+
+def _no_split_of_a_later_change(reads: list[Row], change: Row, are_acted_on: bool) -> None:
+    """As if what a task changes once more never went back to a look."""
+
+
+def _splits_kept_to_no_function(rows: list[Row]) -> Iterator[Any]:
+    """As if the same function of other tasks did not look first."""
+    return (split._replace(is_kept_to_function=False) for split in _SPLITS(rows))
+
+
+_SPLITS = racing_pairs._splits
+
+
 def _no_signals(trace: Trace, steps: Steps) -> Told:
     """As if a task knew by signals only what its own task did."""
     told = [0]
@@ -271,6 +288,9 @@ WRONG: list[tuple[Any, str, Any]] = [
     (Trace, "before", _before_without("join")),
     (racing_pairs, "_splits", _no_split),
     (racing_pairs, "_splits", _split_in_one_turn),
+    (racing_pairs, "_split_of", _split_of_any_change),
+    (racing_pairs, "_split_of", _no_split_of_a_later_change),
+    (racing_pairs, "_splits", _splits_kept_to_no_function),
     (racing_pairs._SplitPairs, "_told_twice", lambda *_: 0),
     (racing_pairs._SplitPairs, "_unordered_later", lambda *_: {}),
     (racing_pairs._SplitPairs, "_between", lambda pairs, split, read, other: other.events & ~pairs._own[read.task]),

@@ -10,7 +10,8 @@ from pathlib import Path
 
 from itc_trace import Verdict
 from itc_trace.record.collector import find_program
-from itc_trace.record.journal import Begun, read_line
+from itc_trace.record.dividing import Border
+from itc_trace.record.journal import Begun, border_row, read_line
 from itc_trace.processes.part_collectors import PartCollectors, ask_for_port
 from itc_trace.analyse.parts import races_of_parts
 from itc_trace.model.verdict import BREAKS_OFF, END_ROW, Cause, Unseen, end_row
@@ -275,6 +276,16 @@ class Journals(unittest.TestCase):
                 journal.write(rows)
                 journal.flush()
                 self.assertEqual(races_of_parts(journal.name).unseen, unseen)
+
+    def test_a_part_whose_last_events_the_journal_lacks_is_no_all_clear(self) -> None:
+        """As of a process that stops to trace, while other ones go on in further parts."""
+        border = Border([], [(7, 1)], [1])
+        with tempfile.NamedTemporaryFile("w", suffix=".journal") as journal:
+            journal.write(ROW + border_row(2, border) + ROW.replace("{", '{"part":2,', 1) + END_ROW)
+            journal.flush()
+            (unseen,) = races_of_parts(journal.name).unseen
+        self.assertEqual(unseen.cause, Cause.COLLECTOR)
+        self.assertIn("it lacks events", unseen.text)
 
 
 class LongRuns(ProgramCase):

@@ -11,11 +11,16 @@ import socket
 import subprocess
 import sys
 import tempfile
+import tracemalloc
 import unittest
 from pathlib import Path
+from types import SimpleNamespace
 from typing import Any
 
 from itc_trace import Verdict
+from itc_trace.cli.system import Running
+from itc_trace.cli.system_file import Described, System
+from itc_trace.model.verdict import END_ROW
 
 from .support import EXAMPLES, PACKAGE, PATIENT, WAIT, kept_port, run_python, run_system
 
@@ -90,6 +95,32 @@ print("listening", flush=True)
 while True:
     door.accept()[0].close()
 """
+
+ROW = '{"event":%d,"task":"p","thing":"stock","kind":"write","file":"shop.go","line":7,"label":"write stock","part":%d}\n'
+MOST_GROWTH = 1.15
+"""So many times as much memory four times as many lines may take."""
+
+
+class Journals(unittest.TestCase):
+    def test_no_journal_is_kept_while_its_lines_are_handed_on(self) -> None:
+        few, many = self.most_kept(1_000), self.most_kept(4_000)
+        self.assertLess(many, MOST_GROWTH * few)
+
+    def most_kept(self, rows: int) -> int:
+        """So many bytes are kept at most while the lines of a journal of so many rows are handed on."""
+        with tempfile.TemporaryDirectory() as folder:
+            described = Described("one", ["true"], folder)
+            running = Running(System([described]), 0, folder)
+            over: Any = SimpleNamespace(name="one", described=described, is_ended_by_us=False)
+            running.processes.append(over)
+            text = "".join(ROW % (number, 1 + number // 1000) for number in range(1, rows + 1)) + END_ROW
+            Path(folder, "one.journal").write_text(text)
+            tracemalloc.start()
+            try:
+                self.assertEqual(sum(1 for _ in running.lines()), rows + 2)
+                return tracemalloc.get_traced_memory()[1]
+            finally:
+                tracemalloc.stop()
 
 
 class Systems(unittest.TestCase):

@@ -55,6 +55,10 @@ class Part:
     last: tuple[str, int] | None = None
     """The tenant and the port that still have this part, if they do."""
 
+    def may_follow(self, events: int) -> bool:
+        """Whether the part before has all events that this one begins with, if it has so many."""
+        return self.border is None or all(event <= events for event, _ in self.border.positions)
+
     def requests(self) -> list[str]:
         reports = {row.event: Report(row.kind if not row.is_touch else "local", row.task, row.of) for row in self.rows}
         if sorted(reports) != list(range(1, len(reports) + 1)):
@@ -92,6 +96,8 @@ def find_in_parts(
         following = next(ahead, None)
         touches = [row for row in part.rows if row.is_touch]
         with _opened(part, opened) as (view, events):
+            if following is not None and not following.may_follow(events):
+                raise Refused("the journal of a part", "it lacks events")
             asked: Asked = view if bar is None else Shown(view, bar)
             if keep is not None:
                 keep(part, asked, events)

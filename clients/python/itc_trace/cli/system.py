@@ -15,7 +15,7 @@ import sys
 import tempfile
 import threading
 import time
-from collections.abc import Iterator
+from collections.abc import Iterable, Iterator
 from pathlib import Path
 from queue import Empty, SimpleQueue
 from types import FrameType
@@ -28,20 +28,20 @@ from ..analyse.progress import Bar
 from ..analyse.races import Races
 from ..analyse.seeing import races_seen
 from ..analyse.snapshot import snapshot
+from ..model.handed_over import REFUSED
 from ..processes.part_collectors import PartCollectors, ask_for_port
 from ..processes.relay import Relaying
 from ..processes.relay_parts import RelayParts
 from ..record.collector import HOST
 from ..record.environment import PARTS, Reporting
 from ..record.faults import Fault
-from ..record.journal import NoJournal, read_whole
+from ..record.journal import NoJournal, missing_of
 from ..record.whole_file import replacing
 from ..report.report import report_of
 from ..report.screen import is_terminal
 from ..session import Refused
 from .asking import Asking
 from .ending import LOOK_FOR_SIGNALS, name_of
-from .launch import REFUSED
 from .process_sources import ProcessSources
 from .reporting import Wanted, deliver, list_shown, next_step
 from .run import draw, draw_parts, environment_of_package, titled
@@ -399,9 +399,8 @@ class Running:
 
     # What was seen
 
-    def lines(self) -> list[str]:
-        """The lines of all journals. What was not seen of a process is told with its name."""
-        lines: list[str] = []
+    def lines(self) -> Iterator[str]:
+        """The lines of all journals, none of which is kept. What was not seen of a process is told with its name."""
         for process in self.processes:
             written = [path for path in self.journals(process.name) if os.path.getsize(path) > 0]
             if self._is_refused(process.name):
@@ -410,29 +409,38 @@ class Running:
                 self._miss(Cause.JOURNAL, f"process {process.name} reported nothing")
             if len(written) > 1:
                 say(f"itc_trace: process {process.name} reported {len(written)} times: it was started again")
-            own = [line for path in written for line in self._lines_of(process, path)]
-            lines += own
-            lines += [one.row() for one in source_rows(own, ProcessSources(process.described).find)]
-        return [*lines, END_OF_ALL]
+            own = [path for path in written if self._is_journal(process, path)]
+            yield from _lines_of(process, own)
+            found = source_rows(_lines_of(process, own), ProcessSources(process.described).find)
+            yield from (one.row() for one in found)
+        yield END_OF_ALL
 
     def _is_refused(self, name: str) -> bool:
         told_by = Path(self._told_by(name))
         return told_by.is_file() and told_by.read_text(encoding="ascii") == REFUSED
 
-    def _lines_of(self, process: Process, path: str) -> Iterator[str]:
-        with open(path, encoding="utf-8", errors="replace") as journal:
-            lines = list(journal)
+    def _is_journal(self, process: Process, path: str) -> bool:
+        """Whether the file is a journal. What is missing of it is told."""
         try:
-            missing = read_whole(lines).missing
+            with open(path, encoding="utf-8", errors="replace") as journal:
+                missing = missing_of(journal)
         except NoJournal:
             self._miss(Cause.JOURNAL, f"the journal of process {process.name} is none")
-            return
+            return False
         for one in missing:
             self._miss(Cause.JOURNAL, one.text.replace("the journal", f"the journal of process {process.name}", 1))
-        is_ended_by_us = process.described.is_service and process.is_ended_by_us
-        yield from (
-            line for line in lines if line.endswith("\n") and not (is_ended_by_us and line == ENDED_AS_A_SERVICE)
-        )
+        return True
+
+
+def _lines_of(process: Process, journals: list[str]) -> Iterator[str]:
+    """The whole lines of these journals of a process."""
+    is_ended_by_us = process.described.is_service and process.is_ended_by_us
+    for path in journals:
+        with open(path, encoding="utf-8", errors="replace") as journal:
+            yield from (
+                line for line in journal
+                if line.endswith("\n") and not (is_ended_by_us and line == ENDED_AS_A_SERVICE)
+            )
 
 
 BORDERS = "borders"
@@ -452,13 +460,13 @@ def run_system(
             running = Running(system, relay.port, folder, timeout)
             with ticking(sys.stderr, lambda: f"{sum(one.is_running for one in running.processes)} processes run, "):
                 running.run()
-        lines = running.lines()
         if parts.number > 1:
             exports = system.export or (None if system.picture is None else os.path.join(folder, "export"))
-            races = _races_in_parts(system, looking, lines, folder, collectors.port_of(parts.number), exports)
+            races = _races_in_parts(system, looking, running.lines(), folder, collectors.port_of(parts.number), exports)
             races.unseen = [*running.unseen, *races.unseen]
             picture = draw_parts(exports, system.picture, races, system.name)
         else:
+            lines = list(running.lines())
             races = races_seen(system.tenant, collectors.port, lines, HOST, looking, Bar(sys.stderr))
             races.unseen = [*running.unseen, *races.unseen]
             picture = _keep(system, collectors.port, lines, folder, races)
@@ -474,7 +482,7 @@ def run_system(
 
 
 def _races_in_parts(
-    system: System, looking: Looking, lines: list[str], folder: str, port: int, exports: str | None,
+    system: System, looking: Looking, lines: Iterable[str], folder: str, port: int, exports: str | None,
 ) -> Races:
     """The races of a system whose trace was divided. Each part has an export of its own, if one is asked for."""
     borders = os.path.join(folder, BORDERS)

@@ -6,7 +6,7 @@ import json
 import json.encoder
 import zlib
 from collections.abc import Callable, Iterable, Iterator
-from dataclasses import dataclass
+from dataclasses import dataclass, field
 from types import CodeType
 from typing import Any, NamedTuple
 
@@ -71,6 +71,8 @@ class Row(NamedTuple):
     """
     gives: str | None = None
     """The queue that the task was about to put into at this line, while it held locks."""
+    undoes: str = ""
+    """How the change goes with an earlier one of its task, by the source of its function."""
 
     @property
     def is_touch(self) -> bool:
@@ -118,58 +120,90 @@ def read_whole(lines: Iterable[str]) -> Journal:
     """A journal, with a word of it if it breaks off. A last line that was cut off is passed over."""
     rows: list[Row] = []
     asides: list[Aside] = []
-    known = Asides()
-    unseen: list[Unseen] = []
-    passed_over: list[PassedOver] = []
-    signals: set[str] = set()
-    sources: list[SourceText] = []
-    processes: list[ProcessTold] = []
-    deadlocks: list[DeadlockTold] = []
-    left: list[Left] = []
-    children = Children()
-    count = Count()
-    for number, line in enumerate(lines, 1):
-        if not line.endswith("\n"):
-            break
-        read = read_line(line)
-        count.add(read)
+    besides = Besides()
+    for read in besides.of(lines):
         if isinstance(read, Row):
             rows.append(read)
-        elif isinstance(read, SourceText):
-            sources.append(read)
-        elif isinstance(read, ProcessTold):
-            processes.append(read)
-        elif isinstance(read, Aside):
+        else:
             asides.append(read)
+    return besides.journal(_with_asides(rows, asides, besides.known))
+
+
+def missing_of(lines: Iterable[str]) -> list[Unseen]:
+    """What is missing of a journal. None of its rows is kept meanwhile."""
+    besides = Besides()
+    for _ in besides.of(lines):
+        continue
+    return besides.missing
+
+
+@dataclass
+class Besides:
+    """What a journal says besides its rows."""
+
+    known: Asides = field(default_factory=lambda: Asides())
+    _unseen: list[Unseen] = field(default_factory=list)
+    _passed_over: list[PassedOver] = field(default_factory=list)
+    _signals: set[str] = field(default_factory=set)
+    _sources: list[SourceText] = field(default_factory=list)
+    _processes: list[ProcessTold] = field(default_factory=list)
+    _deadlocks: list[DeadlockTold] = field(default_factory=list)
+    _left: list[Left] = field(default_factory=list)
+    _children: Children = field(default_factory=lambda: Children())
+    _count: Count = field(default_factory=lambda: Count())
+
+    def of(self, lines: Iterable[str]) -> Iterator[Row | Aside]:
+        """Takes over the lines. Gives those of its rows."""
+        for number, line in enumerate(lines, 1):
+            if not line.endswith("\n"):
+                break
+            read = read_line(line)
+            self._count.add(read)
+            if isinstance(read, Row | Aside):
+                yield read
+            else:
+                self._add(read, number)
+        self._unseen += self._children.unseen()
+
+    def _add(self, read: Read | None, number: int) -> None:
+        if isinstance(read, SourceText):
+            self._sources.append(read)
+        elif isinstance(read, ProcessTold):
+            self._processes.append(read)
         elif isinstance(read, SiteTold):
-            known.add_site(read)
+            self.known.add_site(read)
         elif isinstance(read, Unseen):
-            unseen.append(read)
+            self._unseen.append(read)
         elif isinstance(read, PassedOver):
-            passed_over.append(read)
+            self._passed_over.append(read)
         elif isinstance(read, Left):
-            left.append(read)
+            self._left.append(read)
         elif isinstance(read, ChildTold):
-            children.add(read)
+            self._children.add(read)
         elif isinstance(read, DeadlockTold):
-            deadlocks.append(read)
+            self._deadlocks.append(read)
         elif isinstance(read, SignalTold):
-            signals.add(read.lock)
+            self._signals.add(read.lock)
         elif isinstance(read, End):
             pass
         elif read is not None and number > 1:
-            unseen.append(Unseen(Cause.JOURNAL, "the journal is of a run in parts, which was looked at as one"))
+            text = "the journal is of a run in parts, which was looked at as one"
+            self._unseen.append(Unseen(Cause.JOURNAL, text))
         elif number == 1:
             raise NoJournal("its first line is none of a journal")
         else:
-            unseen.append(Unseen(Cause.JOURNAL, f"line {number} of the journal is none"))
-    rows = _with_asides(rows, asides, known)
-    unseen += children.unseen()
-    missing = count.missing(unseen)
-    return Journal(
-        rows, [*unseen, *missing], missing, passed_over, frozenset(signals), tuple(sources), tuple(processes),
-        tuple(deadlocks), tuple(left),
-    )
+            self._unseen.append(Unseen(Cause.JOURNAL, f"line {number} of the journal is none"))
+
+    @property
+    def missing(self) -> list[Unseen]:
+        """What no line says, once all are taken over."""
+        return self._count.missing(self._unseen)
+
+    def journal(self, rows: list[Row]) -> Journal:
+        return Journal(
+            rows, [*self._unseen, *self.missing], self.missing, self._passed_over, frozenset(self._signals),
+            tuple(self._sources), tuple(self._processes), tuple(self._deadlocks), tuple(self._left),
+        )
 
 
 def _with_asides(rows: list[Row], asides: list[Aside], known: Asides) -> list[Row]:
@@ -191,6 +225,7 @@ class SiteTold(NamedTuple):
     file: str
     line: int
     function: str
+    undoes: str = ""
 
 
 class Aside(NamedTuple):
@@ -206,10 +241,10 @@ class Aside(NamedTuple):
         for event, part, task, kind, number, held, loop, turn in read["rows"]:
             if number not in sites:
                 continue  # The journal lacks a line, and its end says so.
-            _, file, line, function = sites[number]
+            _, file, line, function, undoes = sites[number]
             row = Row(
                 event, task, self.thing, kind, file, line, f"{kind} {names['name']}", **names, function=function,
-                held=tuple(held), loop=loop, turn=turn, part=part,
+                held=tuple(held), loop=loop, turn=turn, part=part, undoes=undoes,
             )
             yield f"{json.dumps(row._asdict())}\n", row
 
@@ -386,7 +421,10 @@ def read_line(line: str) -> Read | None:
                 str(read["child"]), str(read["begun"]) if "begun" in read else None, int(read.get("lines", 0)),
             )
         if "site" in read:
-            return SiteTold(str(read["site"]), str(read["file"]), int(read["line"]), str(read["function"]))
+            return SiteTold(
+                str(read["site"]), str(read["file"]), int(read["line"]), str(read["function"]),
+                str(read.get("undoes", "")),
+            )
         if "unseen" in read:
             return Unseen(Cause(read["unseen"]), str(read["text"]))
         if "passed_over" in read:
@@ -572,8 +610,10 @@ class TouchTexts:
     def _site(self, site: int) -> str:
         text = self._sites.get(site)
         if text is None:
-            file, line, function = SITES[site][:3]
-            text = self._sites[site] = f'"file":{json.dumps(file)},"line":{line},"function":{json.dumps(function)}'
+            file, line, function, undoes = SITES[site]
+            told = f',"undoes":"{undoes}"' if undoes else ""
+            text = f'"file":{json.dumps(file)},"line":{line},"function":{json.dumps(function)}{told}'
+            self._sites[site] = text
         return text
 
 
