@@ -6,12 +6,14 @@ A module that cannot be rewritten runs as it is.
 from __future__ import annotations
 
 import ast
+import importlib.util
 import io
 import unittest
 from pathlib import Path
+from types import ModuleType
 from unittest import mock
 
-from itc_trace.watch import finder, making
+from itc_trace.watch import finder, helper, making, nodes
 from itc_trace.watch.rewrite import Rewriter
 from itc_trace.watch.scopes import Scopes
 
@@ -96,3 +98,67 @@ class Rewriting(unittest.TestCase):
 
 if __name__ == "__main__":
     unittest.main()
+
+
+def nodes_in_python() -> ModuleType:
+    """What makes nodes where there are no hooks in C."""
+    spec = importlib.util.spec_from_file_location(f"{nodes.__package__}.nodes_in_python", nodes.__file__)
+    assert spec is not None and spec.loader is not None
+    made = importlib.util.module_from_spec(spec)
+    with mock.patch.object(helper, "quick", None):
+        spec.loader.exec_module(made)
+    return made
+
+
+class Odd(ast.Name):
+    """A kind of node that says of itself that it is another one."""
+
+    __class__ = property(lambda self: ast.Constant)  # type: ignore[assignment]
+
+
+def answers(node: ast.Name) -> tuple[object, ...]:
+    return node.__class__, node.id, hasattr(node, "other"), Odd("one").__class__, isinstance(Odd("one"), ast.Constant)
+
+
+@unittest.skipIf(helper.quick is None, "there are no hooks in C")
+class Nodes(unittest.TestCase):
+    def setUp(self) -> None:
+        self.in_python = nodes_in_python()
+        self.place = ast.parse("\n  \nfirst(second,\n  third)").body[0].value  # type: ignore[attr-defined]
+
+    def made_by(self, maker: ModuleType) -> list[ast.AST]:
+        name = maker.name_at(self.place, "one")
+        call = maker.call_of("hook", (name, 7, "text", ("a", 1), True), self.place)
+        statement = maker.as_statement(call, self.place)
+        choice = maker.chosen(name, [statement], [], self.place)
+        return [name, call, statement, choice, maker.copied(self.place), maker.call_of("hook", (), name)]
+
+    def test_those_made_in_c_are_those_made_in_python(self) -> None:
+        self.assertNotEqual(nodes.call_of, self.in_python.call_of)
+        for node, other in zip(self.made_by(nodes), self.made_by(self.in_python), strict=True):
+            self.assertIs(type(node), type(other))
+            self.assertEqual(vars(node).keys(), vars(other).keys())
+            self.assertEqual(ast.dump(node, include_attributes=True), ast.dump(other, include_attributes=True))
+
+    def test_a_copy_has_parts_of_its_own(self) -> None:
+        for maker in (nodes, self.in_python):
+            copy: ast.Call = maker.copied(self.place)
+            copy.args = []
+            self.assertEqual((len(self.place.args), self.place.func), (2, copy.func))
+
+    def test_a_node_without_a_place_has_none_to_give(self) -> None:
+        for maker in (nodes, self.in_python):
+            with self.assertRaises(KeyError):
+                maker.name_at(ast.Name("one", ast.Load()), "other")
+
+    def test_nodes_answer_the_same_while_trees_are_compiled_and_behind_it(self) -> None:
+        tree = ast.parse("one.field")
+        name: ast.Name = tree.body[0].value.value  # type: ignore[attr-defined]
+        plain = answers(name)
+        self.assertEqual(plain, (ast.Name, "one", False, ast.Constant, True))
+        self.assertEqual(helper.quick.call_with_quick_nodes(nodes.KINDS, answers, name), plain)
+        self.assertEqual(nodes.compiled(tree, "program.py"), compile(tree, "program.py", "exec", dont_inherit=True))
+        name.id = "None"
+        self.assertRaises(ValueError, nodes.compiled, tree, "program.py")
+        name.id = "one"
+        self.assertEqual(answers(name), plain)

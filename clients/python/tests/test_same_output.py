@@ -160,10 +160,10 @@ def of_this_python(programs: dict[str, str]) -> dict[str, str]:
 
 LATER = re.compile(r" from (\d+)\.(\d+)$")
 IN_C = " in C"
+FILES = [f"{name}.txt" for name in ("same", "forms", "kinds", "more", "further", "wider", "deeper")]
 PROGRAMS = {
     **{f"expression{number}": of_expression(line) for number, line in enumerate(EXPRESSIONS.strip().splitlines())},
-    **of_file("same.txt"), **of_file("forms.txt"), **of_file("kinds.txt"), **of_file("more.txt"),
-    **of_this_python(of_file("further.txt")), **of_this_python(of_file("wider.txt")),
+    **{name: text for file in FILES for name, text in of_this_python(of_file(file)).items()},
 }
 
 
@@ -182,6 +182,10 @@ class SameOutput(unittest.TestCase):
                 with self.subTest(hooks=form, program=name):
                     self.assertEqual(traced.written.get(name), plain.written[name], text)
             self.assertNotIn(str(PACKAGE), "".join(traced.written.values()), "a frame of the package")
+
+    def test_no_program_stands_in_for_another_one(self) -> None:
+        names = [name for file in FILES for name in of_file(file)]
+        self.assertEqual(sorted({name for name in names if names.count(name) > 1}), [])
 
     def test_futures_and_frames_go_at_once_with_nothing_watched(self) -> None:
         chosen = {"references_to_frames": PROGRAMS["references_to_frames"]}

@@ -43,6 +43,9 @@ PICTURE = PACKAGE.parent.parent / "picture"
 TABLES = sorted((PACKAGE / "tests" / "usages").glob("*.txt"))
 """For each command what is typed, with the status and the first line of what is said."""
 
+LARGEST = "4294967295"
+"""The largest seed. The number of a port may be a part of it."""
+
 
 def answers(typed: list[str], folder: Path) -> list[str]:
     """A line of a table for each usage: the status, the usage and the first line that is said."""
@@ -58,7 +61,7 @@ def answers(typed: list[str], folder: Path) -> list[str]:
 def _first_line(said: str, places: dict[str, str]) -> str:
     line = (said.splitlines() or [""])[-1 if "Traceback" in said else 0]
     for word, place in (*places.items(), ("PROGRAM", find_program())):
-        line = line.replace(place, word)
+        line = LARGEST.join(part.replace(place, word) for part in line.split(LARGEST))
     return line
 
 
@@ -77,6 +80,11 @@ class Usages(unittest.TestCase):
         environment = {**os.environ, "PYTHONPATH": str(PACKAGE)}
         command = [sys.executable, "-m", "itc_trace", *words]
         return subprocess.run(command, capture_output=True, text=True, env=environment, cwd=self.folder, timeout=600, check=False)
+
+    def test_a_port_that_is_a_part_of_the_largest_seed_leaves_that(self) -> None:
+        said = "7: port 42949 is no number from 0 to 4294967295: see http://127.0.0.1:429497"
+        masked = "7: port SERVER is no number from 0 to 4294967295: see http://127.0.0.1:SERVER7"
+        self.assertEqual(_first_line(said, {"SERVER": "42949"}), masked)
 
     def test_each_is_answered_as_the_tables_say(self) -> None:
         write_trace(self.folder)
@@ -189,7 +197,7 @@ class Usages(unittest.TestCase):
         self.assertNotIn("the socket", self.run_here("run", "shop.py").stderr)
 
     def test_the_first_run_says_that_it_compiles(self) -> None:
-        words = ("-c", "import itc_trace")
+        words = ("-c", "import itc_trace; itc_trace.tracing")
         with tempfile.TemporaryDirectory() as cache:
             first, second = (run_python(*words, XDG_CACHE_HOME=cache).stderr for _ in range(2))
         self.assertEqual((first, second), ("itc_trace: compiles the hooks of watched modules, once for this Python: it takes some seconds\n", ""))

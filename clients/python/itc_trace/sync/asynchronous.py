@@ -136,18 +136,24 @@ def _looking(plain: Any, name: str) -> Any:
     return like(original, look)
 
 
+_NOT_GIVEN: Any = object()
+
+
 def _adding(plain: Any) -> Any:
     """An `add_done_callback` whose callbacks come after whoever added them."""
     original = plain.add_done_callback
 
-    def add_done_callback(self: Any, fn: Any, /, *, context: Any = None) -> None:
+    def add_done_callback(self: Any, fn: Any, /, *, context: Any = _NOT_GIVEN) -> None:
         if getattr(self, "_itc_left", None) is not None:
             (stays if _is_cancelled_at_end(frame_at(1)) else taken)(self)
         if state.note is not None and not is_internal(frame_at(1)):
             self._itc_callbacks = [*self._itc_callbacks, (fn, mark(CALLBACK))]
             if type(self._itc_called) is not list:
                 self._itc_called = []
-        original(self, fn, context=context)
+        if context is _NOT_GIVEN:  # The library takes the one of now, and for None the one of then.
+            original(self, fn)
+        else:
+            original(self, fn, context=context)
 
     return like(original, add_done_callback)
 

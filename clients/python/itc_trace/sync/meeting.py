@@ -13,6 +13,7 @@ from collections import defaultdict
 from time import monotonic, sleep
 from typing import Any, NamedTuple
 
+from ..model.handed_over import Plan
 from ..model.lines import state
 from ..record import plain
 from .base import like
@@ -25,19 +26,6 @@ MOST_HOLDS = 4
 """So often tasks are held in vain at one line."""
 MOST_SECONDS = 20.0
 """So many seconds all tasks of a run are held in vain."""
-
-
-class Plan(NamedTuple):
-    """What one run is to try."""
-
-    pairs: list[tuple[str, str]]
-    """The two lines of each race that is possible, as `shop.py:7`."""
-    held: list[str]
-    """The lines at which tasks are held."""
-    is_exact: bool
-    """Whether two that touch different objects do not meet."""
-    gates: list[tuple[str, str]] = []
-    """Locks that are held at one of the lines alone, by their names, each with the other line."""
 
 
 class Touching(NamedTuple):

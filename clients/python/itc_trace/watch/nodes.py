@@ -3,8 +3,11 @@
 from __future__ import annotations
 
 import ast
+from collections.abc import Callable
 from types import CodeType
 from typing import Any, TypeVar
+
+from .helper import quick
 
 Made = TypeVar("Made", bound=ast.AST)
 Place = dict[str, Any]
@@ -13,6 +16,8 @@ LOAD = ast.Load()
 VALUES = frozenset((int, str, tuple))
 """The types of what becomes a constant."""
 _new = ast.AST.__new__
+KINDS = tuple([one for one in vars(ast).values() if isinstance(one, type) and issubclass(one, ast.AST)])
+"""The kinds of nodes."""
 
 
 def new_node(kind: type[Made], parts: dict[str, Any]) -> Made:
@@ -22,7 +27,7 @@ def new_node(kind: type[Made], parts: dict[str, Any]) -> Made:
     return made
 
 
-def copied(node: Made) -> Made:
+def _copied(node: Made) -> Made:
     """A node of its own with the same parts."""
     made = _new(type(node))
     made.__dict__ = node.__dict__.copy()
@@ -47,7 +52,7 @@ def place_of(node: Any) -> Place:
     }
 
 
-def name_at(node: Any, name: str) -> ast.Name:
+def _name_at(node: Any, name: str) -> ast.Name:
     """A variable that is read at the place of a node."""
     place = node.__dict__
     made = _new(Name)
@@ -58,7 +63,7 @@ def name_at(node: Any, name: str) -> ast.Name:
     return made
 
 
-def call_of(name: str, words: tuple[Any, ...], node: Any) -> ast.Call:
+def _call_of(name: str, words: tuple[Any, ...], node: Any) -> ast.Call:
     """A call of a function by its name, at the place of a node. It is given nodes, and values that become constants.
 
     A source has more of these calls than of anything else, so each part is made at once.
@@ -89,11 +94,11 @@ def call_of(name: str, words: tuple[Any, ...], node: Any) -> ast.Call:
     return made
 
 
-def as_statement(expression: ast.expr, node: Any) -> ast.Expr:
+def _as_statement(expression: ast.expr, node: Any) -> ast.Expr:
     return new_node(ast.Expr, {"value": expression, **place_of(node)})
 
 
-def chosen(test: ast.expr, body: list[ast.stmt], otherwise: list[ast.stmt], node: Any) -> ast.If:
+def _chosen(test: ast.expr, body: list[ast.stmt], otherwise: list[ast.stmt], node: Any) -> ast.If:
     """The statements of which one list runs, at the place of a node."""
     place = node.__dict__
     made = _new(If)
@@ -116,7 +121,19 @@ def at(node: Any, made: Made) -> Made:
 
 def compiled(tree: ast.Module, file: str) -> CodeType:
     try:
-        code: CodeType = compile(tree, file, "exec", dont_inherit=True)
+        return _compiled(tree, file)
     except TypeError:  # A node has no place.
-        code = compile(ast.fix_missing_locations(tree), file, "exec", dont_inherit=True)
+        return _compiled(ast.fix_missing_locations(tree), file)
+
+
+def _compiled(tree: ast.Module, file: str) -> CodeType:
+    words = (tree, file, "exec", 0, True)
+    code: CodeType = compile(*words) if quick is None else quick.call_with_quick_nodes(KINDS, compile, *words)
     return code
+
+
+name_at: Callable[[Any, str], ast.Name] = _name_at if quick is None else quick.name_at
+call_of: Callable[[str, tuple[Any, ...], Any], ast.Call] = _call_of if quick is None else quick.call_of
+as_statement: Callable[[ast.expr, Any], ast.Expr] = _as_statement if quick is None else quick.as_statement
+chosen: Callable[[ast.expr, list[ast.stmt], list[ast.stmt], Any], ast.If] = _chosen if quick is None else quick.chosen
+copied: Callable[[Made], Made] = _copied if quick is None else quick.copied

@@ -1581,6 +1581,242 @@ static PyTypeObject CallingType = {
     .tp_dealloc = (destructor)calling_dealloc,
 };
 
+/* Nodes of a syntax tree that are made for hooks: nodes.py has the same in Python, and says of each what it is. There
+   are so many of them that what is made here is made before any look at the program. */
+
+enum { LINE, COLUMN, LAST_LINE, LAST_COLUMN, PLACES };
+
+static char *names_of_places[PLACES] = {"lineno", "col_offset", "end_lineno", "end_col_offset"};
+static PyObject *text_place[PLACES];
+static PyObject *text_class, *text_id, *text_func, *text_args, *text_keywords, *text_value, *text_test, *text_body;
+static PyObject *text_orelse;
+
+/* A kind of node, and a dictionary that has all of its fields: a copy of it has room for them at once. */
+typedef struct {
+    PyTypeObject *kind;
+    PyObject *fields;
+} Form;
+
+static Form form_of_name, form_of_constant, form_of_call, form_of_statement, form_of_choice;
+
+/* Where a node stands. The dictionary of its fields has what is found. */
+static PyObject *look_for_place(PyObject *node, PyObject **place)
+{
+    PyObject *fields = PyObject_GenericGetDict(node, NULL);
+    for (int part = 0; fields != NULL && part < PLACES; part++) {
+        place[part] = PyDict_GetItemWithError(fields, text_place[part]);
+        if (place[part] == NULL) {
+            if (!PyErr_Occurred())
+                PyErr_SetObject(PyExc_KeyError, text_place[part]);
+            Py_CLEAR(fields);
+        }
+    }
+    return fields;
+}
+
+static PyObject *node_with(PyTypeObject *kind, PyObject *fields)
+{
+    PyObject *made = fields == NULL ? NULL : kind->tp_alloc(kind, 0);
+    if (made != NULL && PyObject_GenericSetDict(made, fields, NULL) < 0)
+        Py_CLEAR(made);
+    Py_XDECREF(fields);
+    return made;
+}
+
+static PyObject *fields_at(const Form *form, PyObject *const *place)
+{
+    PyObject *fields = PyDict_Copy(form->fields);
+    for (int part = 0; fields != NULL && part < PLACES; part++)
+        if (PyDict_SetItem(fields, text_place[part], place[part]) < 0)
+            Py_CLEAR(fields);
+    return fields;
+}
+
+static PyObject *with_field(PyObject *fields, PyObject *name, PyObject *value)
+{
+    if (fields != NULL && PyDict_SetItem(fields, name, value) < 0)
+        Py_CLEAR(fields);
+    return fields;
+}
+
+/* A node with one field of its own. */
+static PyObject *short_node(const Form *form, PyObject *const *place, PyObject *name, PyObject *value)
+{
+    return node_with(form->kind, with_field(fields_at(form, place), name, value));
+}
+
+static PyObject *copied(PyObject *self, PyObject *node)
+{
+    PyObject *fields = PyObject_GenericGetDict(node, NULL);
+    PyObject *made = fields == NULL ? NULL : node_with(Py_TYPE(node), PyDict_Copy(fields));
+    Py_XDECREF(fields);
+    return made;
+}
+
+static PyObject *name_at(PyObject *self, PyObject *const *words, Py_ssize_t count)
+{
+    PyObject *place[PLACES];
+    WORDS(2)
+    PyObject *fields = look_for_place(words[0], place);
+    PyObject *made = fields == NULL ? NULL : short_node(&form_of_name, place, text_id, words[1]);
+    Py_XDECREF(fields);
+    return made;
+}
+
+static PyObject *as_statement(PyObject *self, PyObject *const *words, Py_ssize_t count)
+{
+    PyObject *place[PLACES];
+    WORDS(2)
+    PyObject *fields = look_for_place(words[1], place);
+    PyObject *made = fields == NULL ? NULL : short_node(&form_of_statement, place, text_value, words[0]);
+    Py_XDECREF(fields);
+    return made;
+}
+
+static PyObject *chosen(PyObject *self, PyObject *const *words, Py_ssize_t count)
+{
+    PyObject *place[PLACES];
+    WORDS(4)
+    PyObject *fields = look_for_place(words[3], place);
+    if (fields == NULL)
+        return NULL;
+    PyObject *parts = with_field(fields_at(&form_of_choice, place), text_test, words[0]);
+    parts = with_field(with_field(parts, text_body, words[1]), text_orelse, words[2]);
+    Py_DECREF(fields);
+    return node_with(form_of_choice.kind, parts);
+}
+
+static int is_value(PyObject *word)
+{
+    return PyLong_CheckExact(word) || PyUnicode_CheckExact(word) || PyTuple_CheckExact(word);
+}
+
+/* What a call is given, as a list: nodes, and constants for values. */
+static PyObject *given_words(PyObject *words, PyObject *const *place)
+{
+    PyObject *given_nodes = PyList_New(PyTuple_GET_SIZE(words));
+    for (Py_ssize_t number = 0; given_nodes != NULL && number < PyTuple_GET_SIZE(words); number++) {
+        PyObject *word = PyTuple_GET_ITEM(words, number);
+        PyObject *node = is_value(word) ? short_node(&form_of_constant, place, text_value, word) : Py_NewRef(word);
+        if (node == NULL)
+            Py_CLEAR(given_nodes);
+        else
+            PyList_SET_ITEM(given_nodes, number, node);
+    }
+    return given_nodes;
+}
+
+static PyObject *call_of(PyObject *self, PyObject *const *words, Py_ssize_t count)
+{
+    PyObject *place[PLACES];
+    WORDS(3)
+    if (!PyTuple_Check(words[1]))
+        return PyErr_Format(PyExc_TypeError, "a tuple of words is wanted");
+    PyObject *fields = look_for_place(words[2], place);
+    if (fields == NULL)
+        return NULL;
+    PyObject *function = short_node(&form_of_name, place, text_id, words[0]);
+    PyObject *nodes = given_words(words[1], place), *named = PyList_New(0), *parts = NULL;
+    if (function != NULL && nodes != NULL && named != NULL) {
+        parts = with_field(fields_at(&form_of_call, place), text_func, function);
+        parts = with_field(with_field(parts, text_args, nodes), text_keywords, named);
+    }
+    Py_XDECREF(function);
+    Py_XDECREF(nodes);
+    Py_XDECREF(named);
+    Py_DECREF(fields);
+    return node_with(form_of_call.kind, parts);
+}
+
+static int set_form(Form *form, PyObject *ast, const char *name, PyObject *const *texts, int count)
+{
+    form->kind = (PyTypeObject *)PyObject_GetAttrString(ast, name);
+    form->fields = PyDict_New();
+    if (form->kind == NULL || form->fields == NULL)
+        return -1;
+    for (int part = 0; part < PLACES; part++)
+        if (PyDict_SetItem(form->fields, text_place[part], Py_None) < 0)
+            return -1;
+    for (int part = 0; part < count; part++)
+        if (PyDict_SetItem(form->fields, texts[part], Py_None) < 0)
+            return -1;
+    return 0;
+}
+
+/* What is read has a node that says so. */
+static int set_reading(PyObject *ast)
+{
+    PyObject *made = PyObject_CallMethod(ast, "Load", NULL);
+    int result = made == NULL ? -1 : PyDict_SetItemString(form_of_name.fields, "ctx", made);
+    Py_XDECREF(made);
+    return result;
+}
+
+#define SET_FORM(form, name, ...)                                                                                \
+    set_form(form, ast, name, (PyObject *[]){__VA_ARGS__}, sizeof((PyObject *[]){__VA_ARGS__}) / sizeof(PyObject *))
+
+static int set_forms(void)
+{
+    static const struct { PyObject **text; const char *name; } texts[] = {
+        {&text_id, "id"}, {&text_func, "func"}, {&text_args, "args"}, {&text_keywords, "keywords"},
+        {&text_class, "__class__"}, {&text_value, "value"}, {&text_test, "test"}, {&text_body, "body"},
+        {&text_orelse, "orelse"},
+    };
+    for (size_t number = 0; number < sizeof texts / sizeof *texts; number++)
+        if ((*texts[number].text = PyUnicode_InternFromString(texts[number].name)) == NULL)
+            return -1;
+    for (int part = 0; part < PLACES; part++)
+        if ((text_place[part] = PyUnicode_InternFromString(names_of_places[part])) == NULL)
+            return -1;
+    PyObject *ast = PyImport_ImportModule("_ast");
+    int result = ast == NULL || SET_FORM(&form_of_name, "Name", text_id) < 0
+        || SET_FORM(&form_of_constant, "Constant", text_value) < 0
+        || SET_FORM(&form_of_statement, "Expr", text_value) < 0
+        || SET_FORM(&form_of_call, "Call", text_func, text_args, text_keywords) < 0
+        || SET_FORM(&form_of_choice, "If", text_test, text_body, text_orelse) < 0 || set_reading(ast) < 0 ? -1 : 0;
+    Py_XDECREF(ast);
+    return result;
+}
+
+/* The compiler asks of each node whether it is of one kind after the other, up to 27 times. For each no it asks for the
+   class of the node once more, by its attribute, which is most of what it takes to read a tree. So the kinds of nodes
+   answer that at once, for as long as it compiles. All else is as it was. */
+
+static int are_nodes_quick;
+
+static PyObject *attribute_of_node(PyObject *node, PyObject *name)
+{
+    if (name == text_class)
+        return Py_NewRef(Py_TYPE(node));
+    return PyObject_GenericGetAttr(node, name);
+}
+
+static void turn_attributes(PyObject *kinds, getattrofunc from, getattrofunc to)
+{
+    for (Py_ssize_t number = 0; number < PyTuple_GET_SIZE(kinds); number++) {
+        PyTypeObject *kind = (PyTypeObject *)PyTuple_GET_ITEM(kinds, number);
+        if (kind->tp_getattro == from)
+            kind->tp_getattro = to;
+    }
+}
+
+/* Calls a function. It is given the kinds of nodes, the function, and what that is given. */
+static PyObject *call_with_quick_nodes(PyObject *self, PyObject *const *words, Py_ssize_t count)
+{
+    if (count < 2 || !PyTuple_Check(words[0]))
+        return PyErr_Format(PyExc_TypeError, "the kinds of nodes and a function are wanted");
+    int is_first = !are_nodes_quick;
+    if (is_first)
+        turn_attributes(words[0], PyObject_GenericGetAttr, attribute_of_node);
+    are_nodes_quick = 1;
+    PyObject *made = PyObject_Vectorcall(words[1], words + 2, count - 2, NULL);
+    if (is_first) {
+        turn_attributes(words[0], attribute_of_node, PyObject_GenericGetAttr);
+        are_nodes_quick = 0;
+    }
+    return made;
+}
+
 /* Beginning */
 
 static PyObject *setup(PyObject *self, PyObject *words, PyObject *named)
@@ -1639,7 +1875,9 @@ static PyMethodDef methods[] = {
     FAST("hook_at_constructor", hook_at_constructor),
     {"hook_after_letting_go", hook_after_letting_go, METH_NOARGS, NULL}, FAST("hook_after_binding", hook_first),
     FAST("first", hook_first), FAST("second", hook_second), FAST("nothing", hook_none), FAST("references", references),
-    FAST("owner_of", owner_of),
+    FAST("owner_of", owner_of), FAST("name_at", name_at), FAST("call_of", call_of), FAST("chosen", chosen),
+    FAST("as_statement", as_statement), {"copied", copied, METH_O, NULL},
+    FAST("call_with_quick_nodes", call_with_quick_nodes),
     {"setup", (PyCFunction)(void (*)(void))setup, METH_VARARGS | METH_KEYWORDS, NULL},
     {"forget", forget, METH_NOARGS, NULL},
     {NULL},
@@ -1663,6 +1901,8 @@ static int fill_module(PyObject *made)
     text_constructor = PyUnicode_InternFromString("__init__");
     no_words = PyTuple_New(0);
     if (text_note == NULL || text_line == NULL || text_leave == NULL || text_constructor == NULL || no_words == NULL)
+        return -1;
+    if (set_forms() < 0)
         return -1;
     if (add_type(made, "Seen", &SeenType) < 0 || add_type(made, "OwnerFields", &OwnerType) < 0
         || add_type(made, "Owners", &OwnersType) < 0

@@ -31,6 +31,7 @@ from .scopes import (
     arguments_of,
 )
 from .templates import field_paths
+from .undoing import mark as mark_undoing
 
 PREFIX = "_itc_"
 READ = "r"
@@ -91,6 +92,7 @@ CONTAINER_CLASSES = frozenset(
 DISPLAYS = frozenset((ast.Dict, ast.List, ast.Set, ast.DictComp, ast.ListComp, ast.SetComp))
 ROWS = frozenset((ast.Tuple, ast.List))
 VIEWS = frozenset(("items", "keys", "values"))
+SIMPLE = frozenset((ast.Constant, ast.Name))
 REACHED = frozenset((ast.Name, ast.Attribute, ast.Subscript))
 GIVEN = REACHED | {ast.Call, ast.IfExp, ast.BoolOp, ast.NamedExpr, ast.Await}
 """What may give something that others can reach."""
@@ -126,6 +128,7 @@ def written(
     if prepare is not None:
         prepare(tree, source if isinstance(source, bytes) else source.encode(), file)
         with_ends(tree)
+    mark_undoing(tree)
     made = Rewriter(Scopes(tree, learned), file).module(tree)
     if held_lines.has_lines(file):
         held_lines.rename_hooks(made, file, PREFIX)
@@ -181,6 +184,8 @@ class Rewriter:
         self._wanted = 0
         """So many hooks want the object whose method is called, and do not have it yet."""
         self._is_guarding = False
+        self._undoes = ""
+        """How the statement that is rewritten goes with an earlier change, if it does."""
         self._before: list[ast.stmt] = []
         self._after: list[ast.stmt] = []
         self._has_texts_of_annotations = scopes.module.imported.get("annotations") == "__future__.annotations"
@@ -198,7 +203,9 @@ class Rewriter:
     # Sites and hooks
 
     def _site(self, node: Any, what: str, kinds: str, name: str = "", text: str = "", words: Any = None) -> int:
-        return self._learned.new_site(node.lineno, self._scope.name or "<module>", what, kinds, name, text, words)
+        return self._learned.new_site(
+            node.lineno, self._scope.name or "<module>", what, kinds, name, text, words, self._undoes,
+        )
 
     def _hook(self, name: str, node: ast.AST, *words: Any) -> ast.Call:
         self._hooks += 1
@@ -297,27 +304,39 @@ class Rewriter:
         """Whether it may be looked at twice, and gives the same without any code of the program."""
         if type(node) is ast.UnaryOp and type(node.op) is ast.USub:
             node = node.operand
-        return type(node) is ast.Constant or type(node) is ast.Name
+        return type(node) is ast.Constant or self._is_variable(node)
+
+    def _is_variable(self, node: Any) -> bool:
+        """Whether it is a variable that may be looked at twice.
+
+        The namespace of a class may be one of the program's own, which tells what it is asked for.
+        """
+        return type(node) is ast.Name and self._scope.kind is not CLASS
 
     def _import_of(self, node: Any) -> str | None:
         """The dotted name of what is imported and not bound to anything else.
 
         What hooks stand in has none: the program may change it.
         """
-        fields = ""
-        while type(node) is ast.Attribute:
-            if getattr(node, "has_hooks", False):
+        first = node
+        while type(first) is ast.Attribute:
+            if getattr(first, "has_hooks", False):
                 return None
+            first = first.value
+        if type(first) is not ast.Name:
+            return None
+        known = self._scope.dotted.get(first.id)
+        if known is None:
+            owner = self._scope.owner(first.id)
+            is_import = first.id in owner.imported and owner.bound.get(first.id) == 1
+            known = self._scope.dotted[first.id] = owner.imported[first.id] if is_import else ""
+        if not known:
+            return None
+        fields = ""
+        while node is not first:
             fields = f".{node.attr}{fields}"
             node = node.value
-        if type(node) is not ast.Name:
-            return None
-        known = self._scope.dotted.get(node.id)
-        if known is None:
-            owner = self._scope.owner(node.id)
-            is_import = node.id in owner.imported and owner.bound.get(node.id) == 1
-            known = self._scope.dotted[node.id] = owner.imported[node.id] if is_import else ""
-        return known + fields if known else None
+        return known + fields
 
     def _is_foreign(self, node: Any) -> bool:
         """Whether it is of a module that is not watched, or of the language."""
@@ -381,10 +400,12 @@ class Rewriter:
         return self._hook("at_cell", node, ast.copy_location(looked, node), site)
 
     def _bindings(self, target: Any) -> Iterator[ast.Name]:
-        kind = type(target)
-        if kind is ast.Attribute and type(target.value) is ast.Name:
-            return
-        for one in [target] if kind is ast.Name else ast.walk(target):
+        whole = target
+        while type(whole) is ast.Attribute or type(whole) is ast.Subscript and type(whole.slice) in SIMPLE:
+            whole = whole.value
+        if type(whole) is ast.Name and whole is not target:
+            return  # Nothing is bound but a field or an element.
+        for one in [target] if type(target) is ast.Name else ast.walk(target):
             if type(one) is ast.Name and type(one.ctx) is not ast.Load and self._is_shared(one.id):
                 yield one
 
@@ -426,8 +447,9 @@ class Rewriter:
         before_hooks, self._before, self._after = self._hooks, [], []
         is_twice = not node.inside & SCOPED and kind is not ast.AnnAssign and not (kind is ast.Assign and _makes(node))
         self._is_guarding = not is_twice
+        self._undoes = getattr(node, "undoes", "")
         made = simple(self, copied(node))
-        self._is_guarding = False
+        self._is_guarding, self._undoes = False, ""
         if self._hooks == before_hooks:
             return [node]
         if is_twice:
@@ -504,14 +526,24 @@ class Rewriter:
             if self._is_in_place(node):
                 kind = IN_PLACE[type(node.op)]
                 site = self._site(node, "whole", kind, "", self._text(target), IN_PLACE_METHODS[kind])
-                hook = self._hook(self._named_for("before_whole", target), node, name_at(target, target.id), site)
-                self._before.append(as_statement(hook, node))
-            node.value = self._added(node)
+                self._note_in_place(node, target, site)
+            else:
+                node.value = self._added(node)
         elif type(target) is ast.Attribute:
             self._augment_attribute(node, target, is_late)
         elif type(target) is ast.Subscript:
             self._augment_subscript(node, target, is_late)
         return node
+
+    def _note_in_place(self, node: ast.AugAssign, target: ast.Name, site: int) -> None:
+        """Notes that a container is changed, before what is added to it is worked out."""
+        if self._is_variable(target):
+            hook = self._hook(self._named_for("before_whole", target), node, name_at(target, target.id), site)
+            self._before.append(as_statement(hook, node))
+            node.value = self._added(node)
+        else:
+            hook = self._hook("before_whole", node, on_stack.copy(on_stack.ADDED_TO, node.value), site)
+            node.value = self._hook("after_call", node.value, hook, self._added(node))
 
     @staticmethod
     def _is_in_place(node: ast.AugAssign) -> bool:
@@ -541,7 +573,7 @@ class Rewriter:
             return
         reads = self._site(node, "field", "r", name, in_place)
         writes = self._site(node, "field", "w", name, text)
-        if type(owner) is ast.Name:
+        if self._is_variable(owner):
             target.value = self._operand(owner, "before_attribute", reads)
             node.value = self._behind("after_value", owner, self._added(node), writes)
         else:
@@ -563,7 +595,7 @@ class Rewriter:
             return
         key: Any = target.slice
         reads, writes = self._site(node, "element", "r", "", text), self._site(node, "element", "w", "", text)
-        if type(owner) is ast.Name and self._is_simple(key):
+        if self._is_variable(owner) and self._is_simple(key):
             self._element(target, reads)
             node.value = self._hook("after_value_of_element", node.value, self._added(node), owner, key, writes)
         else:
@@ -894,7 +926,7 @@ class Rewriter:
         if self._is_simple(key):
             node.value = self._operand(owner, "before_element", key, site)
             node.slice = self._child(key)
-        elif type(owner) is ast.Name:
+        elif self._is_variable(owner):
             node.value = self._child(owner)
             node.slice = self._key_of(owner, key, site)
         else:
@@ -1155,6 +1187,8 @@ class Rewriter:
             called = self._called(func)
             is_field = self._learned.is_field(name) and not self._is_foreign(owner)
             node.func = self._hook("before_call", func, called) if is_field else called
+            if is_field:
+                self._begin_at_name(node, func)
             node.args = [self._argument(one, func, owner) for one in given]
             if name in TEMPLATES:
                 return self._call_template(node, func)
@@ -1172,6 +1206,14 @@ class Rewriter:
             self._call_delegated(node, func)
         node.keywords = [self._keyword_of_method(one, func, owner) for one in node.keywords]
         return self._with_owner(node, func)
+
+    @staticmethod
+    def _begin_at_name(node: ast.Call, func: ast.Attribute) -> None:
+        """Has a call over several lines begin at the name of its method, as the compiler has it without a hook."""
+        has_stars = any([type(one) is ast.Starred for one in node.args]) or any([not one.arg for one in node.keywords])
+        last, column = func.end_lineno, func.end_col_offset
+        if not has_stars and last is not None and last != node.lineno and column is not None:
+            node.lineno, node.col_offset = last, max(column - len(func.attr), 0)
 
     def _keyword_of_method(self, node: ast.keyword, func: ast.Attribute, owner: Any) -> ast.keyword:
         if not passed_over.is_changing(node.value) or node.arg == "key":
@@ -1220,7 +1262,7 @@ class Rewriter:
         node.args = [self._child(one) for one in given]
         if _is_super(owner) and self._scope.function.first:
             me: Any = name_at(node, self._scope.function.first)
-        elif type(owner) is ast.Name:
+        elif self._is_variable(owner):
             me = owner
         else:
             func.value = self._child(owner)
@@ -1264,7 +1306,8 @@ class Rewriter:
         if isinstance(template, str):
             paths = field_paths(template, name)
             return self._hook("before_format", node, self._child(node), paths, site) if paths else self._child(node)
-        return self._hook("before_late_format", node, self._child(node), template, name, site)
+        told = template if self._is_variable(template) else self._owner_wanted(node)
+        return self._hook("before_late_format", node, self._child(node), told, name, site)
 
     def _call_of_base(self, node: ast.Call, func: ast.Attribute) -> None:
         """A method of the container that the object itself is, as in `super().append(one)`."""
@@ -1289,7 +1332,7 @@ class Rewriter:
         given: list[Any] = node.args
         is_keyed = name in KEYED and len(given) > 1 and type(given[1]) is not ast.Starred
         rest = [self._child(one) for one in given[2 if is_keyed else 1:]]
-        if is_keyed and type(owner) is ast.Name:
+        if is_keyed and self._is_variable(owner):
             return [self._child(owner), self._key_of(owner, given[1], site), *rest]
         if is_keyed:
             key: Any = given[1]
@@ -1308,7 +1351,7 @@ class Rewriter:
         """
         name = func.attr
         if passed_over.is_changing(node) and name not in passed_over.FOLLOWED_METHODS and not self._is_foreign(owner):
-            me = owner if type(owner) is ast.Name else self._owner_wanted(node)
+            me = owner if self._is_variable(owner) else self._owner_wanted(node)
             return self._hook("before_handed", node, self._child(node), me, self._site(node, "handed", "", node.attr))
         kinds = CONSUMING.get(name)
         if kinds is None:
@@ -1325,7 +1368,7 @@ class Rewriter:
             return self._whole(node, kinds, EACH if is_bytes else DEPTHS_OF_METHODS.get(name, ""))
         words = OF_KEYS if kinds == KEYS or name == "update" else None
         site = self._site(node, "given", kinds, name, self._text(node), words)
-        if type(owner) is ast.Name:
+        if self._is_variable(owner):
             return self._hook("before_argument", node, self._child(node), owner, site)
         return self._hook("before_argument", node, self._child(node), self._owner_wanted(node), site)
 
@@ -1443,7 +1486,7 @@ class Rewriter:
         if self._is_simple(first):
             func.value = self._operand(owner, "before_element", first, site)
             node.args = [self._child(first), *rest]
-        elif type(owner) is ast.Name:
+        elif self._is_variable(owner):
             func.value = self._child(owner)
             node.args = [self._key_of(owner, first, site), *rest]
         else:
@@ -1456,7 +1499,7 @@ class Rewriter:
         owner: Any = func.value
         last = node.args[-1]
         rest = [self._child(one) for one in node.args[:-1]]
-        if type(owner) is ast.Name:
+        if self._is_variable(owner):
             func.value = self._child(owner)
             node.args = [*rest, self._behind("after_value", owner, self._argument(last, func, owner), site)]
         else:
@@ -1475,7 +1518,7 @@ class Rewriter:
         if self._is_simple(left):
             node.left = self._child(left)
             node.comparators = [self._operand(owner, "before_element", left, site)]
-        elif type(owner) is ast.Name:
+        elif self._is_variable(owner):
             node.left = self._hook("before_key", left, owner, self._child(left), site)
             node.comparators = [self._child(owner)]
         else:
