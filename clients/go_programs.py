@@ -17,8 +17,9 @@ import tempfile
 from collections.abc import Iterator
 from pathlib import Path
 
+from peaks import Peaks
 from wrappers import (
-    CLIENTS, INCOMPLETE, MOST_SECONDS, Check, Wrong, listed, listed_deadlocks, run_all, run_system,
+    CLIENTS, INCOMPLETE, MOST_SECONDS, SYSTEM, Check, Wrong, check_collectors, listed, listed_deadlocks, run_all, run_system,
 )
 
 from itc_trace import Collector, Session
@@ -148,14 +149,18 @@ def check_handler(built: Path) -> None:
         raise Wrong(f"{FEW_REQUESTS} requests take {few:.3f} s, and four times as many {many:.3f} s")
 
 
-def check_requests(built: Path) -> None:
-    """A long run is divided, seen whole, and its memory stays as it is. Requests that forget the lock race across parts."""
-    with tempfile.TemporaryDirectory() as folder:
-        ran = run_system(Path(folder), one=[str(built), "requests", REQUESTS])
+def check_requests(built: Path, *before: str) -> None:
+    """A long run is divided, seen whole, and its memory stays as it is. Requests that forget the lock race across parts.
+
+    What comes before the words of the program may change its environment.
+    """
+    with tempfile.TemporaryDirectory() as folder, Peaks(Path(folder) / SYSTEM) as peaks:
+        ran = run_system(Path(folder), one=[*before, str(built), "requests", REQUESTS])
     if ran.returncode != RACES or listed(ran.stderr, "race", "one") != marked("race", "requests") or "incomplete" in ran.stderr:
         raise Wrong(f"status {ran.returncode}\n{ran.stdout}{ran.stderr}")
     if not re.search(r"of part \d", ran.stderr):
         raise Wrong(f"the run was not divided\n{ran.stderr}")
+    check_collectors(peaks)
 
 
 def faults_of(output: str, told: str, process: str, name: str) -> Iterator[str]:
@@ -191,6 +196,7 @@ def main() -> int:
         checks += [Check([f"go: {traced}"], check_costs, (built, traced, plain)) for traced, plain in COSTS]
         checks += [
             Check(["go: killed"], check_killed, (built,)), Check(["go: requests"], check_requests, (built,)),
+            Check(["go: requests, without garbage collection"], check_requests, (built, "env", "GOGC=off")),
             Check(["go: growing requests"], check_handler, (built,)),
             Check(["go: service"], check_service, (built, "service", NO_RACE)),
             Check(["go: plain_service"], check_service, (built, "plain_service", RACES)), Check(["go: table"], check_table, ()),

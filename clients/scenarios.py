@@ -1,4 +1,4 @@
-"""Runs programs as people write them, thirty of each language, with a race and without one, and looks which of their lines race.
+"""Runs programs as people write them, forty of each language, with a race and without one, and looks which of their lines race.
 
 The programs of a file are processes of one system, so that each runs beside many others. That is done again and again, and what is
 found has to be the same each time. With a race exactly the lines have to be listed that name the program in a comment, as `race: bank`.
@@ -21,11 +21,12 @@ from pathlib import Path
 from wrappers import CLIENTS, NO_RACE, RACES, listed, marked, run_system
 
 SOURCES = {
-    "java": (CLIENTS / "java/examples/Scenarios.java", CLIENTS / "java/examples/Services.java"),
-    "rust": (CLIENTS / "rust/scenarios.rs", CLIENTS / "rust/services.rs"),
-    "go": (CLIENTS / "go/scenarios/main.go", CLIENTS / "go/scenarios/services.go"),
+    "java": (CLIENTS / "java/examples/Scenarios.java", CLIENTS / "java/examples/Services.java",
+             CLIENTS / "java/examples/Habits.java"),
+    "rust": (CLIENTS / "rust/scenarios.rs", CLIENTS / "rust/services.rs", CLIENTS / "rust/habits.rs"),
+    "go": (CLIENTS / "go/scenarios/main.go", CLIENTS / "go/scenarios/services.go", CLIENTS / "go/scenarios/habits.go"),
 }
-LEAST = 30
+LEAST = 40
 RUNS = 5
 
 

@@ -23,7 +23,8 @@ from concurrent.futures import ThreadPoolExecutor
 from pathlib import Path
 from typing import Any, NamedTuple
 
-sys.path.insert(0, str(Path(__file__).resolve().parent / "python"))
+from peaks import Kind, Peaks
+
 from itc_trace import Collector, Session
 
 CLIENTS = Path(__file__).resolve().parent
@@ -53,6 +54,10 @@ MOST_TIMES = 4
 FEW_EVENTS = {"rust": 60, "java": 8000}
 """In Java a lock that is no more counts up to the next collection of garbage. 6000 such locks would take 12000 events else."""
 NO_RACE, RACES, INCOMPLETE = 0, 66, 67
+SYSTEM = "system.toml"
+"""The file that describes a system."""
+MOST_OF_FIRST = 1.15
+"""So many times as much memory as the collector of the first part any later one may take."""
 AT_ONCE = max(2, len(os.sched_getaffinity(0)))
 OF_A_SYSTEM = 5
 """So many programs at most are processes of one system."""
@@ -161,7 +166,7 @@ def run_system(
     folder: Path, options: list[str] | None = None, *, seconds: float = MOST_SECONDS, **processes: list[str],
 ) -> "subprocess.CompletedProcess[str]":
     """Runs these processes as a system, with these options, for so many seconds at most."""
-    file = folder / "system.toml"
+    file = folder / SYSTEM
     file.write_text("".join(f"[process.{name}]\ncommand = {json.dumps(words)}\n" for name, words in processes.items()))
     environment = {**os.environ, "PYTHONPATH": str(CLIENTS / "python")}
     return subprocess.run(
@@ -321,7 +326,7 @@ def check_names_in_full(programs: Programs) -> None:
 
 def check_requests(programs: Programs) -> None:
     """A long run is divided, seen whole, and its memory stays as it is. Requests that forget the lock race across parts."""
-    check_long(programs, "requests", WEB[programs.language])
+    check_collectors(check_long(programs, "requests", WEB[programs.language]))
 
 
 def check_jobs(programs: Programs) -> None:
@@ -329,12 +334,20 @@ def check_jobs(programs: Programs) -> None:
     check_long(programs, "jobs", JOBS)
 
 
-def check_long(programs: Programs, name: str, source: Path) -> None:
-    with tempfile.TemporaryDirectory() as folder:
+def check_long(programs: Programs, name: str, source: Path) -> Peaks:
+    with tempfile.TemporaryDirectory() as folder, Peaks(Path(folder) / SYSTEM) as peaks:
         ran = run_system(Path(folder), one=programs.words(name, REQUESTS))
     check(ran, RACES, marked(source, "race", name), set())
     if int(re.findall(r"(\d+) events", ran.stderr)[-1]) <= OF_A_PART:
         raise Wrong(f"the run was not divided\n{ran.stderr}")
+    return peaks
+
+
+def check_collectors(peaks: Peaks) -> None:
+    """The parts of a long run become no longer: each begins with little."""
+    of_first, *of_others = peaks.of(Kind.COLLECTOR)
+    if max(of_others) > MOST_OF_FIRST * of_first:
+        raise Wrong(f"the collector of the first part takes {of_first} kB, and the others take {of_others}")
 
 
 def check_across(programs: Programs) -> None:

@@ -30,10 +30,8 @@ func (s *stored) do(goroutine uint64, counter uintptr, looks bool, act func() (c
 		by.take(last, at)
 	}
 	if act() {
+		dropped(last)
 		by.mutex.Lock()
-		if last != nil && last.task == by {
-			by.drop(last)
-		}
 		s.last.token = by.mark(storing, at)
 		by.mutex.Unlock()
 	}

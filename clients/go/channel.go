@@ -76,7 +76,7 @@ func (c *Chan[T]) offered(value T, goroutine uint64, at *site) carried[T] {
 
 // put puts a message into the buffer, after the receipt that has made room for it.
 func (c *Chan[T]) put(value T, made *token, goroutine uint64, at *site) {
-	take(goroutine, made, at)
+	takeAlone(goroutine, made, at)
 	c.items <- carried[T]{value, marked(goroutine, item, at), nil}
 }
 
@@ -92,7 +92,7 @@ func (c *Chan[T]) Send(value T) {
 	given := c.offered(value, goroutine, at)
 	select {
 	case c.handed() <- given:
-		take(goroutine, <-given.receipt, at)
+		takeAlone(goroutine, <-given.receipt, at)
 	case made := <-c.roomOf():
 		c.put(value, made, goroutine, at)
 	case <-c.endedOf():
@@ -112,7 +112,7 @@ func (c *Chan[T]) TrySend(value T) bool {
 	given := c.offered(value, goroutine, at)
 	select {
 	case c.handed() <- given:
-		take(goroutine, <-given.receipt, at)
+		takeAlone(goroutine, <-given.receipt, at)
 	case made := <-c.roomOf():
 		c.put(value, made, goroutine, at)
 	default:
@@ -131,7 +131,7 @@ func (c *Chan[T]) SendOr(ctx context.Context, value T) error {
 	given := c.offered(value, goroutine, at)
 	select {
 	case c.handed() <- given:
-		take(goroutine, <-given.receipt, at)
+		takeAlone(goroutine, <-given.receipt, at)
 	case made := <-c.roomOf():
 		c.put(value, made, goroutine, at)
 	case <-c.endedOf():
@@ -216,10 +216,7 @@ func (c *Chan[T]) taken(given carried[T], isThere bool, goroutine uint64, at *si
 		take(goroutine, c.closed, at)
 		return given.value, false
 	}
-	take(goroutine, given.token, at)
-	if given.token != nil && isOn() && given.token.task == known(goroutine) {
-		dropped(given.token) // Nobody else comes after it.
-	}
+	takeAlone(goroutine, given.token, at)
 	switch made := marked(goroutine, receipt, at); {
 	case given.receipt != nil:
 		given.receipt <- made

@@ -29,26 +29,31 @@ func Go(ctx context.Context, body func(ctx context.Context)) *Routine {
 		}()
 		return routine
 	}
-	return startedBy(own(goroutine), ctx, body, nameOf(body), siteAt(counter))
+	routine := &Routine{done: make(chan struct{})}
+	routine.task = startedBy(own(goroutine), ctx, body, nameOf(body), siteAt(counter), routine.done)
+	if tracing.hasParts {
+		runtime.SetFinalizer(routine, func(gone *Routine) { tracing.leave(gone.task) })
+	}
+	return routine
 }
 
-func startedBy(parent *task, ctx context.Context, body func(ctx context.Context), hint string, at *site) *Routine {
-	routine := &Routine{done: make(chan struct{})}
+// startedBy starts a goroutine, and closes done at its end. Nobody waits for its task if that is nil.
+func startedBy(
+	parent *task, ctx context.Context, body func(ctx context.Context), hint string, at *site, done chan<- struct{},
+) *task {
 	if named, isNamed := pprof.Label(ctx, label); isNamed && named != parent.name {
 		hint = named
 	}
-	child, done := tracing.spawn(parent, hint, at), routine.done
-	routine.task = child
-	if tracing.hasParts {
-		runtime.SetFinalizer(routine, func(*Routine) { tracing.leaveTask(child.name) })
-	}
+	child := tracing.spawn(parent, hint, at)
 	go func() {
-		defer close(done)
+		if done != nil {
+			defer close(done)
+		}
 		pprof.Do(ctx, pprof.Labels(label, child.name), func(ctx context.Context) {
-			as(child, true, func() { body(ctx) })
+			as(child, done != nil, func() { body(ctx) })
 		})
 	}()
-	return routine
+	return child
 }
 
 // as does this as the task, which ends with it.
@@ -86,4 +91,5 @@ func (r *Routine) Wait() {
 	if r.task != nil && isOn() {
 		tracing.join(own(goroutine), r.task, siteAt(counter))
 	}
+	runtime.KeepAlive(r) // Else nobody may be told to wait for it any more.
 }

@@ -79,7 +79,7 @@ func (g *Group) start(body func() error, goroutine uint64, counter uintptr) {
 		go run(context.Background())
 		return
 	}
-	startedBy(own(goroutine), context.Background(), run, nameOf(body), siteAt(counter))
+	startedBy(own(goroutine), context.Background(), run, nameOf(body), siteAt(counter), nil)
 }
 
 // Wait waits for all functions, and gives the first error. Whoever has waited comes after all of them.

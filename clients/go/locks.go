@@ -75,7 +75,7 @@ func (h *hand) acquire(by *task, at *site, hasWaited bool) {
 	acquired, given := h.known(at), h.given()
 	h.holder, h.isTaken = by, true
 	if given != nil && given.task != by {
-		by.take(given, at)
+		by.takeAlone(given, at)
 		h.last.token, given = nil, nil
 	}
 	by.mutex.Lock()
@@ -457,6 +457,18 @@ func take(goroutine uint64, taken *token, at *site) {
 	if taken != nil && isOn() {
 		own(goroutine).take(taken, at)
 	}
+}
+
+// takeAlone is the same of a token that nobody else can take.
+func takeAlone(goroutine uint64, taken *token, at *site) {
+	take(goroutine, taken, at)
+	dropped(taken)
+}
+
+// takeAlone has the task come after the token's place, as the only one.
+func (of *task) takeAlone(taken *token, at *site) {
+	of.take(taken, at)
+	dropped(taken)
 }
 
 // dropped has a token be one that nobody can take any more.

@@ -33,9 +33,6 @@ func (p *Pool) Get() any {
 		}
 		return p.New()
 	}
-	value, _ := found(known, true, goroutine, counter)
-	if known.given != nil && isOn() && known.given.task == own(goroutine) {
-		dropped(known.given) // Nobody else comes after it.
-	}
-	return value
+	takeAlone(goroutine, known.given, siteAt(counter))
+	return known.value
 }

@@ -46,7 +46,7 @@ func OnSend[T any](channel *Chan[T], value T, then func()) Case {
 		given := channel.offered(value, goroutine, at)
 		return []way{
 			sends(channel.handed(), given, func() {
-				take(goroutine, <-given.receipt, at)
+				takeAlone(goroutine, <-given.receipt, at)
 				then()
 			}),
 			receives(channel.roomOf(), func(received reflect.Value, _ bool) {

@@ -41,6 +41,8 @@ type task struct {
 	end      *token
 	joinedBy *task
 	isEnded  atomic.Bool
+	// isLeft tells whether nobody can wait for it any more, and isKept whether it has ended and somebody may.
+	isLeft, isKept bool
 	// children are processes that it has started and that have ended since.
 	children []*task
 	hasChild atomic.Bool
@@ -93,6 +95,28 @@ type token struct {
 type message struct {
 	name string
 	lock *lock
+	// holders is how many may still have it received: tokens, its task as long as it may have one more, and who is about to receive it.
+	holders atomic.Int32
+}
+
+func (m *message) hold() {
+	if m != nil {
+		m.holders.Add(1)
+	}
+}
+
+// leave has one hold it no more. Nobody can receive it behind the last one.
+func (m *message) leave() {
+	if m != nil && m.holders.Add(-1) == 0 {
+		tracing.forgetNow(m)
+	}
+}
+
+// becomes has the token be received by this message, as the event of this number. None is nil.
+func (t *token) becomes(made *message, count int) {
+	made.hold()
+	t.message.leave()
+	t.message, t.count = made, count
 }
 
 // touches is what a task touches between two of its other events. One event stands for all of it, and each touch is told once.
@@ -340,8 +364,17 @@ func (of *task) add(one touch) {
 	if now.add(one) {
 		tracing.list(now)
 	}
-	of.lastSent = nil
+	of.sentLast(nil)
 	of.tell()
+}
+
+// sentLast has this be the message of the last event.
+func (of *task) sentLast(made *message) {
+	if of.lastSent != made {
+		made.hold()
+		of.lastSent.leave()
+		of.lastSent = made
+	}
 }
 
 // tell reports what was touched last, if no place lies before it.
@@ -370,10 +403,12 @@ func (of *task) mark(called *what, at *site) *token {
 // markBy is the same by a token that nobody has any more.
 func (of *task) markBy(made *token) {
 	if of.first == nil && of.sincePlace == nil && of.lastSent != nil && of.lastSent.lock == made.what.lock {
-		made.message, made.count = of.lastSent, of.events
+		made.becomes(of.lastSent, of.events)
 		return
 	}
-	made.message = nil
+	if made.message != nil {
+		made.becomes(nil, 0)
+	}
 	if made.time == 0 || made.since != of.sincePlace || made.size != of.sincePlace.count() || made.events != of.events {
 		made.time = tracing.now()
 	}
@@ -421,7 +456,7 @@ func (of *task) remove(gone *place) {
 func (of *task) drop(dropped *token) {
 	from := dropped.place
 	if from == nil {
-		dropped.message = nil
+		dropped.becomes(nil, 0)
 		return
 	}
 	dropped.place = nil
@@ -468,14 +503,15 @@ func (of *task) send(tokens []*token) {
 			sent[lock] = of.sendNow(one)
 			counts[lock] = of.events
 		}
-		one.message, one.count, one.place = sent[lock], counts[lock], nil
+		one.becomes(sent[lock], counts[lock])
+		one.place = nil
 	}
 }
 
 func (of *task) sendNow(given *token) *message {
 	made := tracing.newMessage(given.what)
 	of.events++
-	of.lastSent = made
+	of.sentLast(made)
 	tracing.put(&report{
 		kind: "send", task: of.name, name: made.name, site: given.site, label: given.what.giving, lock: given.what.lock,
 		isGuard: given.what.isGuard, time: given.time,
@@ -507,7 +543,8 @@ func (of *task) settle() {
 // report reports an event behind all that the task did by now.
 func (of *task) report(told *report) {
 	of.leave()
-	of.sincePlace, of.lastSent = nil, nil
+	of.sincePlace = nil
+	of.sentLast(nil)
 	of.events++
 	told.task = of.name
 	tracing.put(told)
@@ -524,15 +561,18 @@ func (of *task) take(taken *token, at *site) {
 		from.reportUpTo(taken.place)
 	}
 	message, count := taken.message, taken.count
+	message.hold() // Else it may be forgotten before its receipt is reported.
 	from.mutex.Unlock()
+	defer message.leave()
 	lock := taken.what.lock
 	if message == nil || of.known[source{from, nil}] >= count || lock != nil && of.known[source{from, lock}] >= count {
 		return
 	}
 	of.mutex.Lock()
-	of.report(&report{kind: "recv", name: message.name, site: at, label: taken.what.taking, lock: lock, isGuard: taken.what.isGuard})
+	of.report(&report{
+		kind: "recv", name: message.name, site: at, label: taken.what.taking, lock: lock, isGuard: taken.what.isGuard, mayBeReceived: true,
+	})
 	of.mutex.Unlock()
-	runtime.KeepAlive(message) // Else it may be forgotten before its receipt is reported.
 	of.know(source{from, lock}, count)
 }
 
@@ -597,6 +637,7 @@ func (g *gathered) put(made *token) {
 			}
 		})
 	}
+	dropped(g.all.tokens[made.task]) // A later place stands for it.
 	g.all.tokens[made.task] = made
 	if len(g.all.tokens) > 2*g.all.swept+mostKnown {
 		g.all.sweep(made.what)

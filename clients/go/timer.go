@@ -29,7 +29,7 @@ func TimeAfterFunc(after time.Duration, body func()) *Timer {
 			return
 		}
 		as(tracing.stranger(nameOf(body)), false, func() {
-			take(numberNow(), given, at)
+			takeAlone(numberNow(), given, at)
 			body()
 		})
 	})

@@ -64,6 +64,8 @@ func (Trace) End() {
 		endedBy.Store(numberOf())
 		time.Sleep(rest) // Whoever is about to note something is done then.
 		tracing.close()
+	} else if tracing != nil {
+		tracing.awaitLastRow() // If it was given up just now, the journal says why.
 	}
 }
 

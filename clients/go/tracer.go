@@ -24,9 +24,10 @@ const (
 	// mostWaiting is how many reports are on their way before the program waits, and fewWaiting those at which it goes on.
 	mostWaiting = 40_000
 	fewWaiting  = 20_000
-	// mostMessages is how many messages are kept before it is looked which of them nobody can receive any more.
-	mostMessages = 6_000
-	rest         = 2 * time.Millisecond
+	// manyKept is how many more messages and ended tasks are kept before it is looked which of them nobody can come after any more. A part
+	// of a trace has room for 2048 tasks, and each message that goes on from part to part takes its task along.
+	manyKept = 1_000
+	rest     = 2 * time.Millisecond
 	// oldAge is after how many looks at all tasks a place is reported that nobody has come after.
 	oldAge      = 2
 	lookAgain   = time.Second
@@ -45,7 +46,9 @@ type report struct {
 	isGuard          bool
 	touches          *touches
 	mayBeRefused     bool
-	answered         chan struct{}
+	// mayBeReceived tells whether the task may have the message already, as it does not keep all that it knows of tasks that have ended.
+	mayBeReceived bool
+	answered      chan struct{}
 }
 
 // tracer reports for one process to one tenant. The program's goroutines only add to what is to be sent. A goroutine of the tracer sends
@@ -68,26 +71,25 @@ type tracer struct {
 	isOver       atomic.Bool
 	waiting      atomic.Int64
 	messages     atomic.Int64
-	live         atomic.Int64
-	isIdle       atomic.Bool
-	changed      chan struct{}
-	hurried      chan struct{}
-	sent         chan struct{}
-	sendMutex    sync.Mutex
-	goneMutex    sync.Mutex
-	gone         []*token
-	listMutex    sync.Mutex
-	listed       []*touches
-	mutex        sync.Mutex
-	prefix       string
-	names        map[string]int
-	unsent       []byte
-	unwritten    []byte
-	outstanding  []*report
-	forgotten    []string
-	left         []string
-	reports      int
-	isClosing    bool
+	// kept is how many messages and ended tasks somebody may come after, as far as it is known. From more than mostKept on it is looked.
+	kept, mostKept atomic.Int64
+	isIdle         atomic.Bool
+	changed        chan struct{}
+	hurried        chan struct{}
+	sent           chan struct{}
+	sendMutex      sync.Mutex
+	goneMutex      sync.Mutex
+	gone           []*token
+	listMutex      sync.Mutex
+	listed         []*touches
+	mutex          sync.Mutex
+	prefix         string
+	names          map[string]int
+	unsent         []byte
+	unwritten      []byte
+	outstanding    []*report
+	reports        int
+	isClosing      bool
 	// lastRow is the last line of the journal, once it is known which.
 	lastRow string
 }
@@ -102,6 +104,7 @@ func newTracer(from *environment) (*tracer, error) {
 		hasParts: from.hasParts, tasks: map[*task]bool{}, strangers: strangers{known: map[uint64]bool{}, limit: manyStrangers},
 		changed: make(chan struct{}, 1), hurried: make(chan struct{}, 1), sent: make(chan struct{}),
 	}
+	t.mostKept.Store(manyKept)
 	if err = t.begin(from); err != nil {
 		connection.Close()
 		return nil, err
@@ -333,28 +336,83 @@ func (t *tracer) newMessage(called *what) *message {
 	if room := mostName - len(t.prefix) - len(number) - 1; len(hint) > room {
 		hint = hint[:room]
 	}
-	made := &message{t.prefix + hint + "_" + number, called.lock}
+	made := &message{name: t.prefix + hint + "_" + number, lock: called.lock}
 	if t.hasParts {
-		t.live.Add(1)
+		t.kept.Add(1)
 		runtime.SetFinalizer(made, func(gone *message) { t.forget(gone.name) })
 	}
 	return made
 }
 
-// forget tells that nobody can receive a message any more.
-func (t *tracer) forget(message string) {
-	t.live.Add(-1)
-	t.mutex.Lock()
-	defer t.mutex.Unlock()
-	t.forgotten = append(t.forgotten, message)
+// forgetNow is the same as forget, before a collection of garbage finds the message.
+func (t *tracer) forgetNow(gone *message) {
+	if t.hasParts {
+		runtime.SetFinalizer(gone, nil)
+		t.forget(gone.name)
+	}
 }
 
-// leaveTask tells that nobody can wait for a task any more.
-func (t *tracer) leaveTask(name string) {
-	if t.hasParts {
+// forget tells that nobody can receive a message any more, behind all receipts of it. The next part of the trace begins without it.
+func (t *tracer) forget(message string) {
+	t.mutex.Lock()
+	defer t.mutex.Unlock()
+	t.tellGone("forget ", message)
+	t.keepLess()
+}
+
+// tellGone tells what gives no order any more. The mutex is held.
+func (t *tracer) tellGone(how, name string) {
+	if !t.isOver.Load() {
+		t.unsent = append(append(append(t.unsent, how...), name...), '\n')
+	}
+}
+
+// leave has nobody wait for a task any more.
+func (t *tracer) leave(gone *task) {
+	gone.mutex.Lock()
+	defer gone.mutex.Unlock()
+	gone.isLeft = true
+	if gone.end != nil {
+		gone.drop(gone.end)
+		gone.end = nil
+	}
+	if gone.isEnded.Load() {
+		t.tellLeft(gone)
+	}
+}
+
+// tellLeft tells that nobody can wait any more for a task that has ended. Its mutex is held.
+func (t *tracer) tellLeft(gone *task) {
+	if t.hasParts && gone.joinedBy == nil {
 		t.mutex.Lock()
-		defer t.mutex.Unlock()
-		t.left = append(t.left, name)
+		t.tellGone("leave ", gone.name)
+		t.mutex.Unlock()
+	}
+	t.keepNot(gone)
+}
+
+// keepNot counts an ended task no longer among those that somebody may come after. Its mutex is held.
+func (t *tracer) keepNot(gone *task) {
+	if gone.isKept {
+		gone.isKept = false
+		t.mutex.Lock()
+		t.keepLess()
+		t.mutex.Unlock()
+	}
+}
+
+// keepLess counts one less. The mutex is held.
+func (t *tracer) keepLess() {
+	if left := t.kept.Add(-1) + manyKept; left < t.mostKept.Load() {
+		t.mostKept.Store(left)
+	}
+}
+
+// lookForGone has a collection of garbage find what is no more, if much is kept.
+func (t *tracer) lookForGone() {
+	if kept := t.kept.Load(); t.hasParts && kept > t.mostKept.Load() {
+		t.mostKept.Store(kept + manyKept)
+		go runtime.GC() // What was noted is sent meanwhile.
 	}
 }
 
@@ -385,14 +443,18 @@ func (t *tracer) end(of *task, isAwaited bool) {
 	if of.isEnded.Load() {
 		return
 	}
-	if isAwaited {
+	isLeft := of.isLeft || !isAwaited
+	if !isLeft {
 		of.end = of.mark(ending, nowhere)
 	}
 	of.report(&report{kind: "end", label: "end"})
 	of.isEnded.Store(true)
-	of.known, of.lastSent = nil, nil // Else each keeps the ones that it came after.
-	if !isAwaited {
-		t.leaveTask(of.name)
+	of.known = nil // Else each keeps the ones that it came after.
+	if isLeft {
+		t.tellLeft(of)
+	} else {
+		of.isKept = true
+		t.kept.Add(1)
 	}
 }
 
@@ -403,6 +465,7 @@ func (t *tracer) join(by, child *task, at *site) {
 	isFirst := child.isEnded.Load() && joinedBy == nil
 	if isFirst {
 		child.joinedBy = by
+		t.keepNot(child)
 	}
 	child.mutex.Unlock()
 	switch {
@@ -594,6 +657,11 @@ func (t *tracer) close() {
 		}
 	}
 	t.giveUp(causeCollector, "the collector does not answer")
+	t.awaitLastRow()
+}
+
+// awaitLastRow waits until the journal has its last line.
+func (t *tracer) awaitLastRow() {
 	select {
 	case <-t.sent:
 	case <-time.After(answerWait):
@@ -687,13 +755,11 @@ func (t *tracer) lookAtAll() {
 		}
 		one.mutex.Unlock()
 	}
-	if t.hasParts && t.live.Load() > mostMessages {
-		runtime.GC()
-	}
 }
 
 // sendSome tells whether that was the last of it.
 func (t *tracer) sendSome() bool {
+	t.lookForGone()
 	t.dropGone()
 	t.writeTouches()
 	t.mutex.Lock()
@@ -729,9 +795,6 @@ func (t *tracer) sendLines() {
 	t.mutex.Lock()
 	lines := t.unsent
 	t.unsent = nil
-	if t.hasParts {
-		lines = t.appendForgotten(lines)
-	}
 	t.mutex.Unlock()
 	if len(lines) == 0 {
 		return
@@ -746,18 +809,6 @@ func (t *tracer) sendLines() {
 		}
 		t.mutex.Unlock()
 	}
-}
-
-// appendForgotten adds which messages and tasks give no order any more. A line has few of them, so that it is not too long.
-func (t *tracer) appendForgotten(lines []byte) []byte {
-	for _, one := range t.forgotten {
-		lines = append(append(append(lines, "forget "...), one...), '\n')
-	}
-	for _, one := range t.left {
-		lines = append(append(append(lines, "leave "...), one...), '\n')
-	}
-	t.forgotten, t.left = nil, nil
-	return lines
 }
 
 // writeTouches brings the journal up to what was touched by now.
@@ -853,6 +904,7 @@ func (t *tracer) replied(reply string) {
 		t.unwritten = t.rowOfReport(answered, event, part).appendTo(t.unwritten)
 	case strings.HasPrefix(reply, "413") || strings.HasPrefix(reply, "414") || strings.HasPrefix(reply, "415"):
 		t.giveUpNow(causeFull, "the trace is full ("+reply+")")
+	case answered.mayBeReceived && strings.HasPrefix(reply, "407"):
 	case answered.mayBeRefused && isNotMine(answered.kind, reply):
 		// The message of another process was never sent, or this task has it. A task of another process has ended, or was joined.
 	default:

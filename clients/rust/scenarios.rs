@@ -12,6 +12,7 @@ use std::env;
 use std::panic::resume_unwind;
 use std::time::Duration;
 
+mod habits;
 mod services;
 
 fn many(count: usize, body: impl Fn(usize) + Send + Sync + 'static) -> Vec<JoinHandle<()>> {
@@ -458,7 +459,7 @@ const PROGRAMS: [(&str, Program); 22] = [
 
 fn main() {
     let words: Vec<String> = env::args().skip(1).collect();
-    let mut programs = PROGRAMS.iter().chain(&services::PROGRAMS);
+    let mut programs = PROGRAMS.iter().chain(&services::PROGRAMS).chain(&habits::PROGRAMS);
     match words.first() {
         None => programs.for_each(|(name, _)| println!("{name}")),
         Some(asked) => {

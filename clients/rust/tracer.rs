@@ -807,10 +807,11 @@ impl State {
             self.keeper = Some(keeper);
             return self.join(keeper, task, None);
         }
-        if self.has_parts {
-            self.left.push(self.lines[task].name.clone());
-        }
+        let name = self.lines[task].name.clone();
         self.tell_end(task);
+        if self.has_parts {
+            self.left.push(name);
+        }
     }
 
     /// A task goes on though it has ended, as what is local to a thread may.
@@ -884,6 +885,7 @@ impl State {
         if self.stage == Stage::Over || !self.has_parts && self.reports > MOST_EVENTS + 1 {
             return; // No trace takes so many, and the reply that says so is on its way.
         }
+        self.tell_gone();
         self.unsent += &report.request;
         self.unsent.push('\n');
         self.outstanding.push_back(report);
@@ -894,12 +896,16 @@ impl State {
         self.names.numbered(hint, self.messages)
     }
 
-    /// What is to be sent. Behind it stands what gives no order any more: all receipts of it were noted before.
+    /// What is to be sent.
     fn take_unsent(&mut self) -> String {
-        let mut lines = std::mem::take(&mut self.unsent);
-        self.forgotten.take().iter().for_each(|message| lines += &format!("forget {message}\n"));
-        self.left.drain(..).for_each(|task| lines += &format!("leave {task}\n"));
-        lines
+        self.tell_gone();
+        std::mem::take(&mut self.unsent)
+    }
+
+    /// Tells what gives no order any more, behind all receipts of it. The next part of the trace begins without it.
+    fn tell_gone(&mut self) {
+        self.forgotten.take().iter().for_each(|message| self.unsent += &format!("forget {message}\n"));
+        self.left.drain(..).for_each(|task| self.unsent += &format!("leave {task}\n"));
     }
 
     /// Brings the journal up to what was touched by now.

@@ -14,6 +14,7 @@ func init() {
 	add(map[string]func(){
 		"once":             func() { once(false) },
 		"once_race":        func() { once(true) },
+		"once_again":       onceAgain,
 		"once_value":       func() { onceValue(false) },
 		"once_value_race":  func() { onceValue(true) },
 		"atomic_flag":      func() { atomicFlag(false) },
@@ -107,6 +108,24 @@ func once(isLate bool) {
 		done.Do(func() { panic("it was done") })
 		itctrace.Touch("config", false) // race: once_race
 	})
+}
+
+// onceAgain sees what a goroutine has done that has ended since, and sees it again behind the ends of many others.
+func onceAgain() {
+	var done itctrace.Once
+	isDone := make(chan bool)
+	start(func() {
+		done.Do(func() { itctrace.Touch("config", true) })
+		close(isDone)
+	})
+	<-isDone
+	for turn := 0; turn < 2; turn++ {
+		done.Do(func() { panic("it was done") })
+		itctrace.Touch("config", false)
+		for number := 0; number < 100; number++ {
+			start(func() {}).Wait()
+		}
+	}
 }
 
 func onceValue(isLate bool) {

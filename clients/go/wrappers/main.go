@@ -552,11 +552,10 @@ func touchMany() {
 }
 
 func filling() {
-	channel := itctrace.MakeChan[int](1)
+	channel := itctrace.MakeChan[int](many)
 	for turn := 0; turn < many; turn++ {
 		channel.Send(turn)
 		itctrace.Touch("stock", true)
-		channel.Receive()
 	}
 }
 

@@ -554,6 +554,7 @@ final class Scenarios {
         PROGRAMS.put("later", Scenarios::later);
         PROGRAMS.put("pieces", Scenarios::pieces);
         PROGRAMS.putAll(Services.PROGRAMS);
+        PROGRAMS.putAll(Habits.PROGRAMS);
     }
 
     /** Runs the program of this name, or gives the names of all. */

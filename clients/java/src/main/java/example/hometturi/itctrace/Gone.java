@@ -2,12 +2,17 @@ package example.hometturi.itctrace;
 
 import java.lang.ref.PhantomReference;
 import java.lang.ref.ReferenceQueue;
+import java.util.ArrayList;
 import java.util.HashSet;
+import java.util.List;
+import java.util.Queue;
 import java.util.Set;
+import java.util.concurrent.ConcurrentLinkedQueue;
 
 /**
- * What gives no order any more, which the relay of a trace in parts is told: messages whose place is no more, and tasks that nobody can
- * wait for. It is looked at with the tracer's lock held.
+ * What gives no order any more, which the relay of a trace in parts is told: messages that nobody can receive, and tasks that nobody can
+ * wait for. Most are known to be so by the last mark of a place, or by the end of a task. A collection of garbage finds the others. All
+ * but {@code unmarked} is looked at with the tracer's lock held.
  */
 final class Gone {
     /**
@@ -18,9 +23,16 @@ final class Gone {
 
     private final ReferenceQueue<Object> queue = new ReferenceQueue<>();
     private final Set<Watched> kept = new HashSet<>();
+    /** Places that were sent and have lost their last mark. */
+    private final Queue<Place> unmarked = new ConcurrentLinkedQueue<>();
+    /** The same, where it is not told yet that nobody can receive their messages: a task may mark its last place once more. */
+    private final List<Place> idle = new ArrayList<>();
+    /** What is told next. */
+    private final StringBuilder lines = new StringBuilder();
     private int limit = MANY;
 
-    private static final class Watched extends PhantomReference<Object> {
+    /** A message or a task that somebody may come after. */
+    static final class Watched extends PhantomReference<Object> {
         private final String line;
 
         private Watched(Object of, ReferenceQueue<Object> queue, String line) {
@@ -30,22 +42,62 @@ final class Gone {
     }
 
     /** Nobody can receive the message once its place is gone. */
-    void watch(Place place, String message) {
-        kept.add(new Watched(place, queue, "forget " + message));
+    Watched watch(Place place, String message) {
+        return watched(place, "forget " + message);
     }
 
     /** Nobody can wait for the task once it is gone. */
-    void watch(Task task) {
-        kept.add(new Watched(task, queue, "leave " + task.name));
+    Watched watch(Task task) {
+        return watched(task, "leave " + task.name);
+    }
+
+    private Watched watched(Object of, String line) {
+        Watched made = new Watched(of, queue, line);
+        kept.add(made);
+        return made;
+    }
+
+    /** The place was sent, and has no mark any more. */
+    void unmark(Place place) {
+        unmarked.add(place);
+    }
+
+    /** Nobody can come after it any more, and the relay knows that. */
+    boolean forget(Watched watched) {
+        if (watched == null) {
+            return false;
+        }
+        watched.clear();
+        return kept.remove(watched);
+    }
+
+    /** Nobody can come after it any more, and the relay is to be told. */
+    void leave(Watched watched) {
+        if (forget(watched)) {
+            lines.append(watched.line).append('\n');
+        }
     }
 
     /** Adds a line for each that is gone since the last time. */
-    void tell(StringBuilder lines) {
+    void tell(StringBuilder unsent) {
+        for (Place place = unmarked.poll(); place != null; place = unmarked.poll()) {
+            idle.add(place);
+        }
+        idle.removeIf(place -> place.isMarkedAgain() || leaves(place));
         for (Object gone = queue.poll(); gone != null; gone = queue.poll()) {
-            kept.remove(gone);
-            lines.append(((Watched) gone).line).append('\n');
+            leave((Watched) gone);
         }
         limit = Math.min(limit, kept.size() + MANY);
+        unsent.append(lines);
+        lines.setLength(0);
+    }
+
+    private boolean leaves(Place place) {
+        if (place.task.here == place && !place.task.isEnded) {
+            return false;
+        }
+        place.slots().forEach(slot -> leave(slot.watched));
+        return true;
     }
 
     /** Whether so many are kept that a collection of garbage has to look which of them are gone. */

@@ -2,6 +2,7 @@ package example.hometturi.itctrace;
 
 import example.hometturi.itctrace.Row.Handed;
 import example.hometturi.itctrace.Row.Site;
+import java.util.List;
 import java.util.concurrent.atomic.AtomicIntegerFieldUpdater;
 
 /** A place in a task, behind all that it did until then. Somebody may come after it as long as it has marks. */
@@ -33,6 +34,8 @@ final class Place {
         volatile Noted noted;
         /** Once it is sent. */
         volatile String message;
+        /** By which it is told that nobody can receive the message any more. Null if nobody wants to know. */
+        Gone.Watched watched;
 
         /** What has marked the place, if that is not sent yet. */
         Noted unsent() {
@@ -47,6 +50,8 @@ final class Place {
     final Slot guard = new Slot();
     final Slot meant = new Slot();
     private volatile int marks;
+    /** Whether it is looked at, as it was sent and has lost its last mark. */
+    private volatile boolean isUnmarked;
     /** How many places of the task were sent up to this one. It is 0 as long as it is not sent. */
     volatile long position;
 
@@ -66,8 +71,24 @@ final class Place {
         MARKS.getAndIncrement(this);
     }
 
+    /** Who had the mark does not come after the place any more, and nobody else does so by that mark. */
     void removeMark() {
-        MARKS.getAndDecrement(this);
+        if (MARKS.decrementAndGet(this) == 0 && position > 0 && !isUnmarked) {
+            isUnmarked = true;
+            Traced.unmark(this);
+        }
+    }
+
+    /** Looks whether it has a mark again. If it has, it is looked at once more when that is removed. */
+    boolean isMarkedAgain() {
+        isUnmarked = false;
+        boolean isMarked = hasMark();
+        isUnmarked = !isMarked;
+        return isMarked;
+    }
+
+    List<Slot> slots() {
+        return List.of(luck, guard, meant);
     }
 
     boolean hasUnsent() {
@@ -96,6 +117,13 @@ final class Place {
 
         static void endIfAny(Mark mark) {
             if (mark != null) {
+                mark.end();
+            }
+        }
+
+        /** The same where another thread may be about to come after it. If the place was sent, its message stays as long as the place. */
+        static void endShared(Mark mark) {
+            if (mark != null && mark.place.position == 0) {
                 mark.end();
             }
         }

@@ -39,6 +39,8 @@ final class Task {
     Mark end;
 
     Task joinedBy;
+    /** By which it is told that nobody can wait for it any more. Null if nobody wants to know. */
+    Gone.Watched watched;
     private int many = MANY;
     private Map<Integer, Long> meant = new HashMap<>();
     private Map<Integer, Long> guards = new HashMap<>();

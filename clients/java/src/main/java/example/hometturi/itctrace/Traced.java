@@ -372,6 +372,13 @@ public final class Traced {
         return new Mark(here, noted);
     }
 
+    /** The place was sent, and has no mark any more. */
+    static void unmark(Place place) {
+        if (isOn()) {
+            TRACER.unmark(place);
+        }
+    }
+
     /** This thread comes after the place. */
     static void take(Mark mark, Site site) {
         if (mark != null) {

@@ -34,7 +34,7 @@ public final class TracedMap<K, V> extends AbstractMap<K, V> implements Concurre
         /** The value, which is in the map no longer. */
         private V gone() {
             V seen = seen();
-            Mark.endIfAny(mark);
+            Mark.endShared(mark);
             return seen;
         }
 

@@ -38,7 +38,7 @@ final class TracedPhaser extends Phaser {
             synchronized (over) {
                 over.put(phase, mark);
                 while (over.size() > MOST_PHASES) {
-                    over.pollFirstEntry().getValue().end();
+                    Mark.endShared(over.pollFirstEntry().getValue());
                 }
             }
         }

@@ -77,6 +77,8 @@ public final class TracedQueue<E> extends AbstractQueue<E> implements BlockingQu
     }
 
     private final BlockingQueue<Carried<E>> queue;
+    /** Whether somebody looks at elements that stay. Then who takes one away may not be the only one who comes after it. */
+    private volatile boolean isLookedAt;
 
     TracedQueue(BlockingQueue<Carried<E>> queue) {
         if (!queue.isEmpty()) {
@@ -109,9 +111,17 @@ public final class TracedQueue<E> extends AbstractQueue<E> implements BlockingQu
     private E takenAway(Carried<E> carried) {
         E element = taken(carried);
         if (carried != null) {
-            Mark.endIfAny(carried.mark);
+            endOfTaken(carried.mark);
         }
         return element;
+    }
+
+    private void endOfTaken(Mark mark) {
+        if (isLookedAt) {
+            Mark.endShared(mark);
+        } else {
+            Mark.endIfAny(mark);
+        }
     }
 
     @Override
@@ -149,6 +159,7 @@ public final class TracedQueue<E> extends AbstractQueue<E> implements BlockingQu
     /** The head, which stays. Whoever sees it comes after the place where it was put. */
     @Override
     public E peek() {
+        isLookedAt = true;
         return taken(queue.peek());
     }
 
@@ -175,7 +186,7 @@ public final class TracedQueue<E> extends AbstractQueue<E> implements BlockingQu
         boolean isRemoved = element != null && queue.remove(sought);
         if (isRemoved) {
             Traced.take(sought.found.mark, Traced.site());
-            Mark.endIfAny(sought.found.mark);
+            endOfTaken(sought.found.mark);
         }
         return isRemoved;
     }
@@ -183,6 +194,7 @@ public final class TracedQueue<E> extends AbstractQueue<E> implements BlockingQu
     /** Goes over the elements. Whoever sees one comes after the place where it was put. */
     @Override
     public Iterator<E> iterator() {
+        isLookedAt = true;
         Iterator<Carried<E>> carried = queue.iterator();
         return new Iterator<>() {
             @Override

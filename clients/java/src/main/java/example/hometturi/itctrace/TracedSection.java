@@ -109,8 +109,8 @@ public final class TracedSection implements AutoCloseable {
                     Traced.join(task, Traced.site());
                 });
         tasks.clear();
-        marks.forEach(Mark::end);
+        marks.forEach(Mark::endShared);
         marks.clear();
-        Mark.endIfAny(begun);
+        Mark.endShared(begun);
     }
 }

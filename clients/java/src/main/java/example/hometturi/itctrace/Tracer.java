@@ -45,6 +45,8 @@ final class Tracer {
     /** So many reports are on their way before the program waits, and it goes on at so few. */
     private static final int MOST_OUTSTANDING = 8_000;
     private static final int FEW_OUTSTANDING = 4_000;
+    /** Between so many reports it is told what gives no order any more. */
+    private static final int FEW_REPORTS = 32;
     /** From so many ended tasks of a child process on, one task comes after all of them. */
     private static final int MANY_ENDED = 500;
     /** From so many threads that nobody was seen to start on, it is looked which of them are gone. */
@@ -328,7 +330,7 @@ final class Tracer {
         }
         place.slot(noted.gives().kind()).message = message;
         if (hasParts) {
-            gone.watch(place, message);
+            place.slot(noted.gives().kind()).watched = gone.watch(place, message);
         }
         long time = Math.max(noted.time(), task.time);
         Row row = Row.at(time, task.name, "send", noted.site(), noted.gives().giving(), noted.gives().handed());
@@ -339,7 +341,7 @@ final class Tracer {
     private void tellWhole(Task task, Segment segment) {
         tellTouches(task, segment);
         if (segment.place.hasMark()) {
-            for (Slot slot : List.of(segment.place.luck, segment.place.guard, segment.place.meant)) {
+            for (Slot slot : segment.place.slots()) {
                 if (slot.unsent() != null) {
                     send(task, segment, slot.unsent());
                 }
@@ -458,7 +460,7 @@ final class Tracer {
         child.begin(parent);
         live.add(child);
         if (hasParts) {
-            gone.watch(child);
+            child.watched = gone.watch(child);
         }
         done(parent);
         return child;
@@ -504,6 +506,8 @@ final class Tracer {
             if (isChild && task != main && task != keeper) {
                 ended.add(task);
                 keepEnded();
+            } else if (!isAwaited) {
+                gone.leave(task.watched);
             }
             task.forget();
             done(task);
@@ -524,6 +528,7 @@ final class Tracer {
         }
         if (child.joinedBy == null) {
             child.joinedBy = task;
+            gone.forget(child.watched);
             ended.remove(child);
             task.learn(child, child.position, Kind.MEANT);
             leave(task);
@@ -598,6 +603,12 @@ final class Tracer {
         return journal.path();
     }
 
+    void unmark(Place place) {
+        if (hasParts) {
+            gone.unmark(place);
+        }
+    }
+
     /** What tells a lock from others of the same name. */
     synchronized String lockName(String name) {
         return "#" + names.prefix + ++locks + " " + name;
@@ -617,6 +628,9 @@ final class Tracer {
                 report.answered.countDown();
             }
             return;
+        }
+        if (outstanding.size() % FEW_REPORTS == 0) {
+            gone.tell(unsent); // The next part of the trace may begin within what is sent at once, and begins without it.
         }
         unsent.append(report.text).append('\n');
         outstanding.add(report);
