@@ -4,6 +4,7 @@ from __future__ import annotations
 
 import gc
 import tempfile
+import threading
 import time
 import unittest
 from collections import deque
@@ -14,10 +15,12 @@ from types import SimpleNamespace
 
 from itc_trace import Verdict
 from itc_trace.model.conflicts import READ, WRITE
-from itc_trace.model.lines import GONE, TOUCH, Line, Note, Stretch, TouchEvent
+from itc_trace.model.lines import GONE, MOST_PENDING, QUEUE, TOUCH, Line, Note, Stretch, Token, TouchEvent
 from itc_trace.model.stretches import SITES, Site
-from itc_trace.record import tracer
+from itc_trace.record import order_of_tasks, tracer
 from itc_trace.record.journal import Aside, Places, Row, TouchTexts, read_line, read_whole
+from itc_trace.record.names import Names
+from itc_trace.record.order_of_tasks import OrderOfTasks
 from itc_trace.record.own_threads import start_thread
 from itc_trace.record.touch_journal import TouchJournal
 from itc_trace.record.touch_rows import MOST_BY_ONE, MOST_KEPT, MOST_OF_EVENT, MOST_READ, _Numbers
@@ -257,6 +260,7 @@ class HeldBack(unittest.TestCase):
     def setUp(self) -> None:
         self.tracer = tracer.Tracer.__new__(tracer.Tracer)
         self.tracer.notes = deque([(0.0, (TOUCH,))] * (tracer.FEW_WAITING + 1))
+        self.tracer._few_waiting = tracer.FEW_WAITING
         self.tracer._reports = SimpleNamespace(is_over=False)  # type: ignore[assignment]
         before, tracer.LONGEST_SLOW_NOTE = tracer.LONGEST_SLOW_NOTE, 0.3
         self.addCleanup(setattr, tracer, "LONGEST_SLOW_NOTE", before)
@@ -278,6 +282,80 @@ class HeldBack(unittest.TestCase):
         start_thread(lambda: took.append(self.seconds((TOUCH, None))))
         wait_until(lambda: took)
         self.assertLess(took[0], 0.3)
+
+
+class Waiting(unittest.TestCase):
+    """What waits for its report or for its answer is bounded, by notes and by touches."""
+
+    def setUp(self) -> None:
+        self.tracer = tracer.Tracer.__new__(tracer.Tracer)
+        self.tracer.notes = deque([(0.0, (TOUCH,))] * 100)
+        self.tracer._touches = SimpleNamespace(unanswered=0, write=lambda: None)  # type: ignore[assignment]
+        self.flushed: list[int] = []
+        self.reports = SimpleNamespace(is_over=False, outstanding=deque(), flush=self.flush)
+        self.tracer._reports = self.reports  # type: ignore[assignment]
+        self.held_back: list[int] = []
+        self.tracer._hold_back = self.held_back.append  # type: ignore[method-assign]
+
+    def flush(self) -> None:
+        """All but 100 are answered some time later."""
+        self.flushed.append(len(self.reports.outstanding))
+        for _ in range(len(self.reports.outstanding) - 100):
+            self.reports.outstanding.popleft()
+        timer = threading.Timer(0.1, self.reports.outstanding.clear)
+        timer.start()
+        self.addCleanup(timer.join)
+
+    def test_notes_that_stand_for_many_touches_count_for_more(self) -> None:
+        for touches, waiting, few in ((0, 100, tracer.FEW_WAITING), (64 * 31, 3200, tracer.FEW_WAITING // 32)):
+            self.tracer._look_how_many_wait(64, touches)
+            self.assertEqual((self.held_back.pop(), self.tracer._few_waiting), (waiting, few))
+
+    def test_few_unanswered_reports_are_not_waited_for(self) -> None:
+        self.reports.outstanding.extend([None] * tracer.MOST_UNANSWERED)
+        self.tracer._look_how_many_wait(64, 0)
+        self.assertEqual((self.flushed, len(self.reports.outstanding)), ([], tracer.MOST_UNANSWERED))
+
+    def test_most_of_many_unanswered_reports_are_waited_for(self) -> None:
+        self.reports.outstanding.extend([None] * (tracer.MOST_UNANSWERED + 1))
+        self.tracer._look_how_many_wait(64, 0)
+        self.assertEqual((self.flushed, len(self.reports.outstanding)), ([tracer.MOST_UNANSWERED + 1], 100))
+
+    def test_all_reports_that_stand_for_many_touches_are_waited_for(self) -> None:
+        self.tracer._touches.unanswered = tracer.MOST_UNANSWERED_TOUCHES + 1
+        self.reports.outstanding.extend([None] * 101)
+        self.tracer._look_how_many_wait(64, 0)
+        self.assertFalse(self.reports.outstanding)
+
+
+class Tokens(unittest.TestCase):
+    """A task that does nothing but what nobody takes keeps no more of it than can still be taken."""
+
+    def setUp(self) -> None:
+        self.line = Line(None, "one")
+        reporter, reports = SimpleNamespace(prefix=""), SimpleNamespace(time=0.0)
+        self.order = OrderOfTasks(reporter, reports, Names(""), None, print)  # type: ignore[arg-type]
+
+    def marked(self) -> Token:
+        token = Token(self.line, QUEUE, None, 0)
+        self.order.mark(token)
+        return token
+
+    def test_those_that_nobody_has_are_forgotten(self) -> None:
+        kept = [self.marked() for _ in range(10)]
+        for _ in range(1000):
+            self.marked()
+        self.assertLess(len(self.line.pending), MOST_PENDING)
+        self.assertEqual(self.line.pending[:10], kept)
+
+    def test_those_that_somebody_has_stay_and_are_seldom_looked_at(self) -> None:
+        looks: list[int] = []
+        looked = order_of_tasks.getrefcount
+        order_of_tasks.getrefcount = lambda one: looks.append(1) or looked(one)  # type: ignore[assignment,func-returns-value]
+        self.addCleanup(setattr, order_of_tasks, "getrefcount", looked)
+        kept = [self.marked() for _ in range(1000)]
+        self.assertEqual(self.line.pending, kept)
+        self.assertLess(len(looks), 2000)
 
 
 if __name__ == "__main__":

@@ -19,6 +19,8 @@ MARK, TAKE, TAKE_END, SPAWN, FINISH, JOIN, TOUCH, LATE, GONE, SEND, RECV, STOP, 
 
 Note = tuple[Any, ...]
 
+MOST_PENDING = 64
+"""Up to so many tokens of a task, nobody looks whether they can still be taken."""
 FIRST_OF_THREADS = 1 << 19
 """Before the numbers of threads, which are told apart from those of loops."""
 
@@ -85,6 +87,10 @@ class Reporter(Protocol):
     def part(self) -> int:
         """The number of the part that is reported now. It is 0 if the run is not divided."""
 
+    @property
+    def reported(self) -> int | None:
+        """How many notes were reported. It is `None` while others wait to be reported."""
+
     def fresh_message(self) -> str: ...
 
     def look_after(self, waiter: Waiting) -> None:
@@ -117,7 +123,8 @@ class Line:
     __slots__ = (
         "number", "tracer", "hint", "waiting", "reference", "must_finish", "held", "lent", "section", "job", "loop_run",
         "pool",
-        "name", "count", "message", "lock", "sent", "pending", "known", "known_by_locks", "parent", "parent_count",
+        "name", "count", "message", "lock", "sent", "pending", "most_pending", "known", "known_by_locks",
+        "parent", "parent_count",
         "touches",
         "end_token", "is_finished", "has_ended", "is_gone", "joined_by", "joined_at", "joined", "first_taker",
         "is_forgotten", "is_process", "starter", "children", "nursery",
@@ -149,6 +156,9 @@ class Line:
         """The lock that the message is of."""
         self.sent: list[tuple[int, str]] = []
         self.pending: list[Token] = []
+        """The tokens that were noted behind its last event, and are of no message yet."""
+        self.most_pending = MOST_PENDING
+        """With so many of them, it looks which ones nobody can take any more."""
         self.known: dict[Line, int] = {}
         self.known_by_locks: dict[tuple[Line, LockOrAsking], int] = {}
         self.parent: Line | None = None

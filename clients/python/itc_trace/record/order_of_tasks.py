@@ -8,7 +8,7 @@ from collections.abc import Callable
 from sys import getrefcount
 from types import CodeType
 
-from ..model.lines import END, GONE, JOIN, POLLED, RESULT, TAKE, TAKE_END, Line, Note, Reporter, Token
+from ..model.lines import END, GONE, JOIN, MOST_PENDING, POLLED, RESULT, TAKE, TAKE_END, Line, Note, Reporter, Token
 from ..model.lock_identity import Asking, LockIdentity, LockOrAsking
 from ..model.loop_runs import STOPS, LoopRun
 from ..model.verdict import Cause
@@ -34,6 +34,12 @@ def _references_of_nobody() -> int:
 
 
 REFERENCES_OF_NOBODY = _references_of_nobody()
+
+
+def _forget_lost(line: Line) -> None:
+    """Leaves out the tokens that nobody can take any more, as their locks, queues and events are gone."""
+    line.pending = [token for token in line.pending if getrefcount(token) > REFERENCES_OF_NOBODY]
+    line.most_pending = max(MOST_PENDING, 2 * len(line.pending))
 
 
 def _number(line: Line) -> int:
@@ -161,6 +167,8 @@ class OrderOfTasks:
                 self._parts.sent(line.message, line.lock, [token])
         elif not line.has_ended:  # Else it sends nothing any more.
             line.pending.append(token)
+            if len(line.pending) >= line.most_pending:
+                _forget_lost(line)
 
     def take(self, line: Line, token: Token, code: CodeType | None, instruction: int) -> None:
         self._is_waited_for(token.line)

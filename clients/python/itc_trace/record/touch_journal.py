@@ -35,6 +35,10 @@ class TouchJournal:
         """Those of which not all is in the journal."""
         self._touches = 0
         """How many were taken over since it was brought up to date."""
+        self.taken = 0
+        """How many were taken over in all."""
+        self.unanswered = 0
+        """How many belonged to events without a number, as it was brought up to date last."""
         self.goes_on: list[Stretch] = []
         """Those in the middle of which their task had another event."""
         self.writing = plain.RLock()
@@ -56,6 +60,7 @@ class TouchJournal:
         known = len(event.touches)
         event.read_stretches()
         self._touches += len(event.touches) - known
+        self.taken += len(event.touches) - known
         event.stretches.append(stretch)
         stretch.events = (*stretch.events, event)
         if self._touches > MOST_TOUCHES:
@@ -118,6 +123,7 @@ class TouchJournal:
                 if event.is_waiting:
                     unwritten.append(event)
             self._events = unwritten
+            self.unanswered = sum(len(event.touches) for event in unwritten if not event.event)
             if gone and all(event.event for event in unwritten):
                 self.rows.forget(gone)
                 self._things_gone = []

@@ -38,8 +38,15 @@ from .tracer_parts import Parts
 from .waiting import ANSWER_WAIT, Waiter, release
 
 NOTES_AT_ONCE = 1024
-MOST_WAITING = 16_384
-FEW_WAITING = 4096
+MOST_WAITING = 8192
+FEW_WAITING = 2048
+"""Of notes, and of the touches that they are likely to stand for."""
+MOST_UNANSWERED = 1024
+MOST_UNANSWERED_TOUCHES = 4096
+"""With more reports or touches on their way, the thread that reports waits for answers: they are kept until then."""
+LOOK_AFTER = 64
+TOUCHES_AFTER = 2048
+"""Behind so many notes or touches it is looked how many others wait."""
 LONGEST_SLOW_NOTE = 2.0
 """In seconds. A thread that holds up the reporting by what it does meanwhile goes on then."""
 REST = 0.02
@@ -109,6 +116,9 @@ class Tracer:
         self._reader_ended = Waiter()
         self._is_changing = False
         """Whether the session ends since the trace goes on at another collector."""
+        self._is_reporting = False
+        self._few_waiting = FEW_WAITING
+        """So many notes may wait as the program goes on."""
         self.port = port
         self.connection = Connection(host, tenant)
         """Its socket is the package's own, and is no more where the program has closed it."""
@@ -152,6 +162,11 @@ class Tracer:
         if self._parts is not None:
             return self._parts.number
         return 0 if self._child is None else self._child.part
+
+    @property
+    def reported(self) -> int | None:
+        """How many notes were reported. It is `None` while others wait to be reported."""
+        return None if self.notes or self._is_reporting else self._touches.looked_at
 
     def _begin_beside_others(self, process: str) -> None:
         """Takes a task of its own in a trace that others report to as well, and a first part for all its names."""
@@ -331,9 +346,11 @@ class Tracer:
             self._give_up(Cause.TRACER, f"{type(fault).__name__} in the tracer: {fault}")
 
     def _report_some(self) -> None:
+        self._is_reporting = True
         batch = self._next_notes()
         size = len(batch)
         handlers, goes_on, parts, reports = self._handlers, self._touches.goes_on, self._parts, self._reports
+        left, taken = size, self._touches.taken
         while batch:
             reports.time, note = batch.popleft()
             handlers[note[0]](*note[1:])
@@ -341,12 +358,16 @@ class Tracer:
                 self._touch(goes_on.pop())
             if parts is not None and parts.is_full and not self._all_sent:
                 self._divide(parts)
+            touches = self._touches.taken - taken
+            if left - len(batch) >= LOOK_AFTER or touches >= TOUCHES_AFTER or not batch:
+                self._look_how_many_wait(left - len(batch), touches)
+                left, taken = len(batch), self._touches.taken
         self._touches.looked_at += size
         self._order.looked_at()
         reports.flush()
         if self._touches.is_long:
             self._touches.write()
-        self._hold_back(len(self.notes))
+        self._is_reporting = False
 
     def _next_notes(self) -> deque[tuple[float, Note]]:
         """Some notes, of which is known what comes."""
@@ -358,6 +379,18 @@ class Tracer:
                 break
         self._order.look_ahead(batch)
         return batch
+
+    def _look_how_many_wait(self, notes: int, touches: int) -> None:
+        """Once so many notes were looked at, which stood for so many touches. Those that wait are taken for alike."""
+        each = 1 + touches / notes
+        self._few_waiting = int(FEW_WAITING / each)
+        self._hold_back(int(len(self.notes) * each))
+        most = 0 if self._touches.unanswered > MOST_UNANSWERED_TOUCHES else MOST_UNANSWERED
+        if len(self._reports.outstanding) > most:
+            self._reports.flush()
+            while len(self._reports.outstanding) > most // 4 and not self._reports.is_over:
+                plain.sleep(0.001)
+            self._touches.write()
 
     def _hold_back(self, waiting: int) -> None:
         """Has the program wait where it notes faster than its notes are reported."""
@@ -374,7 +407,7 @@ class Tracer:
         """Waits until few notes wait, but where garbage is collected: that may be anywhere, and in an own thread."""
         if note[0] != GONE and get_ident() not in IDENTS:
             end = _monotonic() + LONGEST_SLOW_NOTE
-            while len(self.notes) > FEW_WAITING and not self._reports.is_over and _monotonic() < end:
+            while len(self.notes) > self._few_waiting and not self._reports.is_over and _monotonic() < end:
                 plain.sleep(0.001)
         self._note_now(note)
 
