@@ -16,13 +16,15 @@ import time
 import unittest
 import weakref
 from concurrent.futures import ThreadPoolExecutor
+from itertools import chain, repeat
 from pathlib import Path
+from types import SimpleNamespace
 from typing import Any
 
 from itc_trace import Verdict, tracing
 from itc_trace.model.lines import Line, state
 from itc_trace.model.lock_identity import LockIdentity
-from itc_trace.processes import between
+from itc_trace.processes import between, hanging
 from itc_trace.processes.waits import Since, Wait, cycle_of, waits
 from itc_trace.record import plain
 
@@ -497,6 +499,55 @@ class Told(unittest.TestCase):
             own.look_at([wait])
             own.write(asked)
             self.assertEqual(between.told_by_all(asked), [])
+
+
+class GoesOn(unittest.TestCase):
+    """Tasks that are all seen as they wait may go on all the time: that nobody does is said once nothing comes of it."""
+
+    def setUp(self) -> None:
+        for name, value in (("LOOK", 0.001), ("waits", lambda since: self.waits()), ("_handles_signals", lambda: False)):
+            self.addCleanup(setattr, hanging, name, getattr(hanging, name))
+            setattr(hanging, name, value)
+        self.addCleanup(setattr, state, "tracer", state.tracer)
+        self.places = {1: 1.0, 2: 1.0}
+        self.tasks = iter([])  # type: ignore[var-annotated]
+        with tempfile.NamedTemporaryFile(delete=False) as asked:
+            self.asked = asked.name
+        self.addCleanup(os.remove, self.asked)
+        self.hanging = hanging.Hanging(self.asked, print, None)
+        self.hanging._since = SimpleNamespace(look=lambda: self.places)  # type: ignore[assignment]
+
+    def waits(self, since: float = 1.0) -> list[Wait]:
+        return [Wait(task, "waits for lock (a.py:1)", "a.py:2", next(self.tasks, since)) for task in ("one", "two")]
+
+    def nobody_goes_on(self, *reported: int | None) -> bool:
+        """With so many notes reported at each look, and then always as many as at the last one."""
+        told = chain(reported, repeat(reported[-1]))
+        state.tracer = type("", (), {"reported": property(lambda one: next(told))})()
+        self.hanging._stuck = frozenset({(1, 1.0)})
+        return self.hanging._nobody_goes_on(self.waits())
+
+    def test_where_nothing_comes_nobody_goes_on(self) -> None:
+        self.assertTrue(self.nobody_goes_on(7))
+        self.assertTrue(self.hanging._stuck)
+
+    def test_who_notes_something_goes_on_and_is_looked_at_again(self) -> None:
+        for reported in ((None,), (7, 8), (*[7] * 9, None), (*[7] * 10, 8)):
+            self.assertFalse(self.nobody_goes_on(*reported), reported)
+            self.assertFalse(self.hanging._stuck)
+
+    def test_who_is_elsewhere_goes_on(self) -> None:
+        looks = iter([self.places, self.places, {1: 1.0, 2: 2.0}])
+        self.hanging._since = SimpleNamespace(look=lambda: next(looks))  # type: ignore[assignment]
+        self.assertFalse(self.nobody_goes_on(7))
+
+    def test_who_waits_for_something_else_goes_on(self) -> None:
+        self.tasks = iter([1.0, 1.0, 1.0, 2.0])
+        self.assertFalse(self.nobody_goes_on(7))
+
+    def test_who_asks_is_answered_at_once(self) -> None:
+        self.hanging._size = -1
+        self.assertFalse(self.nobody_goes_on(7))
 
 
 class Ended(ProgramCase):

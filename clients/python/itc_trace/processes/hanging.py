@@ -100,7 +100,7 @@ class Hanging:
                 continue
             try:
                 begun = self._since.look()
-                if os.stat(self._asked).st_size != self._size:
+                if self._is_asked():
                     self._answer()
                     plain.sleep(LOOK)
                     self._size = os.stat(self._asked).st_size
@@ -110,6 +110,9 @@ class Hanging:
                     self._look_between()
             except GONE_ON:
                 continue
+
+    def _is_asked(self) -> bool:
+        return os.stat(self._asked).st_size != self._size
 
     def _may_be_stuck(self, begun: dict[int, float]) -> bool:
         """Whether it is worth to look closer: some threads, or the only one, have been where they are for long.
@@ -142,7 +145,7 @@ class Hanging:
         found = waits(self._since)
         self._own.look_at(found)
         cycle = cycle_of(found)
-        are_stuck = bool(found) and all(one.is_endless for one in found) and not _handles_signals()
+        are_stuck = _are_endless(found) and (bool(cycle) or self._nobody_goes_on(found))
         if not cycle and not are_stuck or state.tracer is None:
             return
         told, self._told = self._told, frozenset(map(_key, found if are_stuck else cycle))
@@ -154,6 +157,24 @@ class Hanging:
             _say(lines_of(found, f"some{self._within()} wait for each other of"))
         if self._keep(cycle) and self._break_off is not None:
             self._break_off()
+
+    def _nobody_goes_on(self, found: list[Wait]) -> bool:
+        """Whether all of them stay where they are, and nothing is noted meanwhile.
+
+        Tasks that hand a lock to each other are seen as they wait for it, again and again.
+        """
+        tracer, places = state.tracer, self._since.look()
+        reported = None if tracer is None else tracer.reported
+        for _ in range(LOOKS if reported is not None else 0):
+            plain.sleep(LOOK)
+            if self._is_asked() or self._since.look() != places or tracer is None or tracer.reported != reported:
+                reported = None
+                break
+        again = waits(self._since)
+        if reported is not None and _are_endless(again) and set(map(_key, again)) == set(map(_key, found)):
+            return True
+        self._stuck = frozenset()  # They are looked at once more.
+        return False
 
     def _look_between(self, again: bool = False) -> None:
         """Tells of tasks that wait for each other, of which some are those of child processes.
@@ -281,6 +302,11 @@ def leave_without_those_left(status: Callable[[], int]) -> None:
 
     if _LEFT:
         vars(threading)["_register_atexit"](leave)  # It is called before all threads are waited for.
+
+
+def _are_endless(found: list[Wait]) -> bool:
+    """Whether each of them waits for what only a task of this process could give."""
+    return bool(found) and all(one.is_endless for one in found) and not _handles_signals()
 
 
 def _handles_signals() -> bool:
