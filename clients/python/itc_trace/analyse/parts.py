@@ -9,7 +9,6 @@ import tempfile
 from collections.abc import Callable, Iterable, Iterator
 from contextlib import AbstractContextManager
 from dataclasses import dataclass, field
-from functools import partial
 from typing import IO, Any
 
 from .across_parts import AcrossParts, Pairing
@@ -21,8 +20,8 @@ from ..record.collector import Collector, NoCollector
 from ..model.conflicts import MAKING
 from ..record.dividing import Border, Report
 from ..record.journal import (
-    BORDER, Aside, Asides, Begun, Children, ChildTold, Count, DeadlockTold, End, ProcessTold, Row, SignalTold, SiteTold,
-    SourceText, read_line,
+    BORDER, Aside, AsideLines, Asides, Begun, Children, ChildTold, Count, DeadlockTold, End, ProcessTold, Row,
+    SignalTold, SiteTold, SourceText, read_line,
 )
 from .kept_sources import sources_of
 from ..model.lock_identity import ANSWER, REQUEST
@@ -277,8 +276,6 @@ class _Divided:
         self._folder = folder
         self._borders: dict[int, Border] = {}
         self._asides = Asides()
-        self._things_aside: set[str] = set()
-        self._lines_aside: IO[str] | None = None
         self.unseen: list[Unseen] = []
         self.passed_over: list[PassedOver] = []
         self.left: list[Left] = []
@@ -288,7 +285,10 @@ class _Divided:
         self.deadlocks: list[DeadlockTold] = []
         children = Children()
         count = Count()
-        with contextlib.closing(_Files(self.file)) as files, open(journal, encoding="utf-8", errors="replace") as lines:
+        with contextlib.ExitStack() as stack:
+            asides = stack.enter_context(AsideLines())
+            files = stack.enter_context(contextlib.closing(_Files(self.file)))
+            lines = stack.enter_context(open(journal, encoding="utf-8", errors="replace"))
             for number, line in enumerate(lines, 1):
                 if not line.endswith("\n"):
                     break
@@ -298,7 +298,7 @@ class _Divided:
                     files.add(read.part, line)
                     self._asides.add(read)
                 elif isinstance(read, Aside):
-                    self._keep_aside(read)
+                    asides.add(read)
                 elif isinstance(read, SiteTold):
                     self._asides.add_site(read)
                 elif isinstance(read, Unseen):
@@ -321,32 +321,13 @@ class _Divided:
                     self.signals.add(read.lock)
                 elif not isinstance(read, End):
                     self.unseen.append(Unseen(Cause.JOURNAL, f"line {number} of the journal is none"))
-        self._take_asides()
+            for aside in asides.of(self._asides):
+                self._asides.look_at(aside)
+            for aside in asides.of(self._asides):
+                for text, row in self._asides.rows(aside):
+                    files.add(row.part, text)
         self.unseen += children.unseen()
         self.unseen += count.missing(self.unseen)
-
-    def _keep_aside(self, aside: Aside) -> None:
-        """What is put aside is looked at once all things are known that the other rows tell of."""
-        if self._lines_aside is None:
-            self._lines_aside = open(os.path.join(self._folder, "asides"), "w+", encoding="utf-8")
-        self._lines_aside.write(aside.line)
-        self._things_aside.add(aside.thing)
-
-    def _take_asides(self) -> None:
-        if self._lines_aside is None:
-            return
-        with self._lines_aside as lines, contextlib.closing(_Files(self.file)) as files:
-            handlers: tuple[Callable[[Aside], object], ...] = self._asides.look_at, partial(self._add_rows, files)
-            for handle in handlers:
-                lines.seek(0)
-                for line in lines:
-                    aside = read_line(line)
-                    if isinstance(aside, Aside):
-                        handle(aside)
-
-    def _add_rows(self, files: _Files, aside: Aside) -> None:
-        for text, row in self._asides.rows(aside):
-            files.add(row.part, text)
 
     def file(self, part: int) -> str:
         return os.path.join(self._folder, f"part-{part}")
@@ -355,7 +336,7 @@ class _Divided:
         try:
             with open(self.file(part), encoding="utf-8") as lines:
                 rows = (row for line in lines if isinstance(row := read_line(line), Row))
-                return [row for row in rows if not self._asides.is_private(row.thing, self._things_aside)]
+                return [row for row in rows if not self._asides.is_private(row.thing)]
         except FileNotFoundError:
             return []  # It has no event.
 

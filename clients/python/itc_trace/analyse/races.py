@@ -22,7 +22,7 @@ from .deadlocks import Deadlock, TooMany, deadlocks_told, find_deadlocks, has_cy
 from .fast_track import deciding_pairs
 from .hand_overs import NO_LOCKS, events_without_order, hand_overs_of, known_without
 from .looks import looks_of
-from ..record.journal import Row, read_whole
+from ..record.journal import Journal, Row, read_whole
 from .kept_sources import sources_of
 from ..model.lock_identity import ANSWER, POLL, REQUEST
 from .order import Order
@@ -282,7 +282,13 @@ def find_races(
     a later turn of the loop, with a change by another task in between, is a race of them. Things that the program has
     named are always strict. A bar shows how far it has come.
     """
-    whole = read_whole(journal)
+    return races_of(read_whole(journal), tenant, port, host, strict, bar)
+
+
+def races_of(
+    whole: Journal, tenant: str, port: int, host: str = HOST, strict: bool = False, bar: Bar | None = None
+) -> Races:
+    """The same, of a journal that was read."""
     rows = sorted(dict.fromkeys(whole.rows), key=lambda row: row.event)
     touches = [row for row in rows if row.is_touch and row.kind != MAKING]
     found = Races(

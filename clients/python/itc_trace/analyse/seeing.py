@@ -6,9 +6,9 @@ from collections.abc import Iterable, Iterator
 
 from .benign import Looking
 from ..record.collector import HOST
-from ..record.journal import Journal, NoJournal, Row, read_whole
+from ..record.journal import Journal, NoJournal, read_whole
 from .progress import Bar
-from .races import Races, find_races
+from .races import Races, races_of
 from .story import add_stories
 from ..session import LONGEST_ANSWER, Refused, Session
 from ..model.verdict import END_OF_ALL, Cause, Unseen
@@ -21,18 +21,14 @@ def races_seen(
     bar: Bar | None = None
 ) -> Races:
     """The races among what the journal lists, and none where the collector cannot be asked, with that reason."""
-    lines, looking = list(journal), looking or Looking()
+    whole, looking = read_whole(journal), looking or Looking()
     try:
-        found = find_races(tenant, port, lines, host, looking.strict, bar)
-        add_stories([*found.races, *found.possible], _rows(lines), found.sources)
+        found = races_of(whole, tenant, port, host, looking.strict, bar)
+        add_stories([*found.races, *found.possible], whole.rows, found.sources)
         looking.silence(found)
         return found
     except (OSError, Refused) as fault:
-        return _unknown(read_whole(lines), fault)
-
-
-def _rows(lines: list[str]) -> Iterator[Row]:
-    yield from read_whole(lines).rows
+        return _unknown(whole, fault)
 
 
 def check_trace(tenant: str, port: int, lines: Iterable[str], host: str = HOST, trace: str = "") -> None:

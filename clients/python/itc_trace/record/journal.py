@@ -4,6 +4,7 @@ from __future__ import annotations
 
 import json
 import json.encoder
+import tempfile
 import zlib
 from collections.abc import Callable, Iterable, Iterator
 from dataclasses import dataclass, field
@@ -23,6 +24,8 @@ text_of: Callable[[str], str] = vars(json.encoder)["encode_basestring_ascii"]
 """A text as JSON has it."""
 LOOP_BITS = 20
 """So many bits tell one loop of a process from another, behind those that tell of which process it is."""
+MOST_ASIDE = 1 << 20
+"""So many characters of what is put aside are kept in memory, and then in a file."""
 MOST_NAMED = 4096
 """So many texts of things and of locks are kept, not to make each anew."""
 
@@ -119,14 +122,19 @@ def read_journal(lines: Iterable[str]) -> Iterator[Row]:
 def read_whole(lines: Iterable[str]) -> Journal:
     """A journal, with a word of it if it breaks off. A last line that was cut off is passed over."""
     rows: list[Row] = []
-    asides: list[Aside] = []
     besides = Besides()
-    for read in besides.of(lines):
-        if isinstance(read, Row):
-            rows.append(read)
-        else:
-            asides.append(read)
-    return besides.journal(_with_asides(rows, asides, besides.known))
+    known = besides.known
+    with AsideLines() as asides:
+        for read in besides.of(lines):
+            if isinstance(read, Aside):
+                asides.add(read)
+            else:
+                rows.append(read)
+                known.add(read)
+        for aside in asides.of(known):
+            known.look_at(aside)
+        kept = [row for row in rows if not known.is_private(row.thing)]
+        return besides.journal([*kept, *(row for aside in asides.of(known) for _, row in known.rows(aside))])
 
 
 def missing_of(lines: Iterable[str]) -> list[Unseen]:
@@ -206,18 +214,6 @@ class Besides:
         )
 
 
-def _with_asides(rows: list[Row], asides: list[Aside], known: Asides) -> list[Row]:
-    if not asides:
-        return rows
-    for row in rows:
-        known.add(row)
-    for aside in asides:
-        known.look_at(aside)
-    things = {aside.thing for aside in asides}
-    kept = [row for row in rows if not known.is_private(row.thing, things)]
-    return [*kept, *(row for aside in asides for _, row in known.rows(aside))]
-
-
 class SiteTold(NamedTuple):
     """A place that rows which are put aside name by its number."""
 
@@ -268,6 +264,8 @@ class Asides:
         self._sites: dict[str, SiteTold] = {}
         self._task_of: dict[str, str | None] = {}
         """Who has touched each thing of the other rows. None if several tasks have."""
+        self._aside: set[str] = set()
+        """Which of these things were put aside, too."""
 
     def add_site(self, site: SiteTold) -> None:
         self._sites[site.number] = site
@@ -276,9 +274,14 @@ class Asides:
         if row.thing is not None and self._task_of.setdefault(row.thing, row.task) != row.task:
             self._task_of[row.thing] = None
 
+    def counts(self, thing: str) -> bool:
+        """Whether other rows tell of the thing."""
+        return thing in self._task_of
+
     def look_at(self, aside: Aside) -> None:
         """Each has to be looked at before the first is asked for."""
-        if aside.thing in self._task_of:
+        if self.counts(aside.thing):
+            self._aside.add(aside.thing)
             for _, row in aside.rows(self._sites):
                 self.add(row)
 
@@ -287,9 +290,33 @@ class Asides:
         is_shared = self._task_of.get(aside.thing, "") is None
         return aside.rows(self._sites) if is_shared else iter(())
 
-    def is_private(self, thing: str | None, aside: set[str]) -> bool:
+    def is_private(self, thing: str | None) -> bool:
         """Whether one task alone has touched the thing, some touches of which were put aside."""
-        return thing in aside and self._task_of[thing] is not None if thing is not None else False
+        return thing is not None and thing in self._aside and self._task_of[thing] is not None
+
+
+class AsideLines:
+    """The lines of what is put aside, in a file. Most of them never count, and a long run has many."""
+
+    def __init__(self) -> None:
+        self._file = tempfile.SpooledTemporaryFile(MOST_ASIDE, "w+", encoding="utf-8", newline="\n")
+
+    def __enter__(self) -> AsideLines:
+        return self
+
+    def __exit__(self, *_: object) -> None:
+        self._file.close()
+
+    def add(self, aside: Aside) -> None:
+        self._file.write(f"{json.dumps(aside.thing)}\t{aside.line}")
+
+    def of(self, known: Asides) -> Iterator[Aside]:
+        """Those of things that other rows tell of."""
+        self._file.seek(0)
+        for text in self._file:
+            thing, _, line = text.partition("\t")
+            if known.counts(json.loads(thing)):
+                yield Aside(json.loads(thing), line)
 
 
 class End(NamedTuple):
