@@ -15,6 +15,8 @@ SHORTENED_AT = 64
 """So many more stretches have touched an owner when it is tried to keep them in short."""
 MOST_MADE = 50_000
 MOST_BEGUN = 10_000
+MOST_HANDED_OVER, DEEPEST_HANDED_OVER = 64, 8
+"""So many objects are handed over with one at most, and those that are so deep inside."""
 
 
 def header() -> str:

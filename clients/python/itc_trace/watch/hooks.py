@@ -46,6 +46,7 @@ from .decisions import (
     without_own,
 )
 from .as_fields import FIELDS_OF, keep_fields_of, object_of
+from .given_away import hand_over, has_inside, toucher
 from .held_lines import PREFIX_OF_HELD
 from .helper import quick
 from .inside import OWN_STEPS, behind, fields_looked_at, inside_of, is_by_own_method, nested_in
@@ -1254,6 +1255,18 @@ def hook_after_value_of_element(value: Any, one: Any, key: Any, site: int) -> An
     return value
 
 
+def hook_before_put(value: Any, places: int) -> Any:
+    """Before a value is put into a container. What nobody else reaches is handed over with it."""
+    if not OWNERS or not has_inside(value):
+        return value
+    try:
+        references = _references_below(value, places)
+        hand_over(value, references - (OF_VARIABLE if places & 1 else OF_TEMPORARY), places >> 1)
+    except Exception as fault:
+        lost(fault)
+    return value
+
+
 def hook_after_call(_: Any, given: Any) -> Any:
     """What a call gives, beside the object whose method was called. Hooks within the call have taken copies of that."""
     return given
@@ -1488,7 +1501,7 @@ def _set_up() -> None:
         steps=lambda one, site, is_own: _stepping(one, site, NOBODY if is_own else ANYBODY),
         keyed=lambda one, key, site: _touch_keyed(one, key, site, ANYBODY), variable=lambda site: _touch_variable(site),
         cell=lambda one, site: _touch_cell(one, site), went_on=lambda owner, site: _went_on(owner, site),
-        later_step=_later_step, iter=iter, called=called, partial=functools.partial,
+        later_step=_later_step, iter=iter, called=called, partial=functools.partial, toucher=toucher,
     )
 
 

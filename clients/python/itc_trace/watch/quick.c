@@ -44,6 +44,7 @@ static struct {
     PyObject *lost;           /* What is told of a touch that could not be noted. */
     PyObject *called;         /* A method that was handed on is about to be called. */
     PyObject *partial;        /* The class of the library. */
+    PyObject *toucher;        /* Whose a touch is that comes now. */
     PyObject *fields_of;      /* Whose fields some dictionaries have. */
     PyObject *followed;       /* Types whose objects need not be held: they may be seen to go. */
     /* What is done for the rest. */
@@ -135,7 +136,7 @@ static Seen *new_seen(PyObject *stretch)
 typedef struct {
     PyObject_HEAD
     PyObject *base, *class_name, *maker, *site, *seen, *history, *things, *recipes, *reference, *name, *made, *making;
-    char is_sharing, is_shared;
+    char is_sharing, is_shared, is_held;
     void *one;
 } Owner;
 
@@ -640,6 +641,8 @@ static Owner *new_owner(PyObject *one, PyObject *name)
         Py_SETREF(owner, first);
     } else if ((is_held && hold(one) < 0) || add_owner(one, owner) < 0)
         goto fail;
+    else
+        owner->is_held = is_held;
     Py_DECREF(key);
     return owner;
 fail:
@@ -1230,6 +1233,105 @@ static PyObject *touch_cell(PyObject *function, PyObject *site)
 
 HOOK(at_variable, 1, touch_variable(words[0]))
 HOOK(at_cell, 2, touch_cell(words[0], words[1]))
+
+/* What is handed over with a value that is put into a container, as given_away.py tells. */
+
+typedef struct {
+    Owner *owners[MOST_HANDED_OVER];
+    int count, depth;
+} Given;
+
+/* Whether there are no more references than so many, and no weak ones but the owner's own. */
+static int is_alone(PyObject *one, Owner *owner, Py_ssize_t limit)
+{
+    if (Py_REFCNT(one) > limit + (owner != NULL && owner->is_held))
+        return 0;
+    if (!PyType_SUPPORTS_WEAKREFS(Py_TYPE(one)))
+        return 1;
+    PyWeakReference *first = *(PyWeakReference **)PyObject_GET_WEAKREFS_LISTPTR(one);
+    return first == NULL || (owner != NULL && (PyObject *)first == owner->reference && first->wr_next == NULL);
+}
+
+static void gather(PyObject *one, Py_ssize_t limit, long places, Given *found);
+
+static int gather_child(PyObject *child, void *found)
+{
+    gather(child, 1, 0, found);
+    return 0;
+}
+
+static void gather_elements(PyObject *one, long places, Given *found)
+{
+    PyObject **elements = PyTuple_CheckExact(one) ? ((PyTupleObject *)one)->ob_item
+        : PyList_CheckExact(one) ? ((PyListObject *)one)->ob_item : NULL;
+    Py_ssize_t place = 0;
+    if (elements != NULL)
+        for (; place < Py_SIZE(one); place++)
+            gather(elements[place], 1 + (places >> place & 1), 0, found);
+    else if (PyDict_CheckExact(one)) {
+        PyObject *value;
+        for (Py_ssize_t at = 0; PyDict_Next(one, &at, NULL, &value); place++)
+            gather(value, 1 + (places >> place & 1), 0, found);
+    }
+}
+
+/* Nothing is changed meanwhile: no code runs. */
+static void gather(PyObject *one, Py_ssize_t limit, long places, Given *found)
+{
+    if (found->count == MOST_HANDED_OVER || !PyObject_IS_GC(one) || PyType_Check(one))
+        return;
+    Owner *owner = find_owner(one);
+    if (!is_alone(one, owner, limit))
+        return;
+    if (owner != NULL)
+        found->owners[found->count++] = (Owner *)Py_NewRef((PyObject *)owner);
+    if (found->depth == DEEPEST_HANDED_OVER)
+        return;
+    found->depth++;
+    if (places != 0)
+        gather_elements(one, places, found);
+    else if (Py_TYPE(one)->tp_traverse != NULL)
+        Py_TYPE(one)->tp_traverse(one, gather_child, found);
+    found->depth--;
+}
+
+static int forget_touches(Owner *owner, PyObject *line)
+{
+    if (owner->is_shared || owner->is_sharing || owner->history == NULL || PyList_GET_SIZE(owner->history) == 0)
+        return 0;
+    PyObject *own = PyObject_GetAttr(((Seen *)PyList_GET_ITEM(owner->history, 0))->stretch, text_line);
+    if (own == NULL)
+        return -1;
+    int result = own == line ? PyList_SetSlice(owner->history, 0, PyList_GET_SIZE(owner->history), NULL) : 0;
+    if (own == line)
+        Py_XSETREF(owner->seen, Py_NewRef(given.never));
+    Py_DECREF(own);
+    return result;
+}
+
+static PyObject *hand_over(PyObject *one, PyObject *places)
+{
+    if (table.used == 0 || !PyObject_IS_GC(one))
+        return Py_NewRef(one);
+    long which = PyLong_AsLong(places);
+    Given found = {.count = 0, .depth = 0};
+    gather(one, which & 1 ? OF_VARIABLE : OF_TEMPORARY, which >> 1, &found);
+    if (found.count == 0)
+        return Py_NewRef(one);
+    PyObject *stretch = current_stretch();
+    PyObject *line = stretch != NULL ? PyObject_GetAttr(stretch, text_line)
+        : PyErr_Occurred() ? NULL : PyObject_CallNoArgs(given.toucher);
+    int result = line == NULL ? -1 : 0;
+    for (int place = 0; place < found.count; place++) {
+        if (result == 0)
+            result = forget_touches(found.owners[place], line);
+        Py_DECREF((PyObject *)found.owners[place]);
+    }
+    Py_XDECREF(line);
+    return end_hook(one, result);
+}
+
+HOOK(before_put, 2, hand_over(words[0], words[1]))
 
 /* Where things are made. */
 
@@ -1825,7 +1927,7 @@ static PyObject *setup(PyObject *self, PyObject *words, PyObject *named)
         "stretches", "state", "made", "begun", "begun_more", "never", "owner_type", "made_type", "maker",
         "begin_stretch", "share", "shorten", "saw", "note_shared", "what_of", "lost", "fields_of", "followed", "field",
         "whole", "nested", "method", "steps", "keyed", "variable", "cell", "went_on", "later_step", "iter", "called",
-        "partial", NULL,
+        "partial", "toucher", NULL,
     };
     PyObject **objects[] = {
         &given.stretches, &given.state, &given.made, &given.begun, NULL, &given.never, &given.owner_type,
@@ -1833,6 +1935,7 @@ static PyObject *setup(PyObject *self, PyObject *words, PyObject *named)
         &given.note_shared, &given.what_of, &given.lost, &given.fields_of, &given.followed, &given.field, &given.whole,
         &given.nested, &given.method, &given.steps, &given.keyed, &given.variable, &given.cell, &given.went_on,
         &given.later_step, &given.iter, &given.called, &given.partial,
+        &given.toucher,
     };
     for (size_t place = 0; names[place] != NULL; place++) {
         PyObject *found = named == NULL ? NULL : PyDict_GetItemString(named, names[place]);
@@ -1870,7 +1973,7 @@ static PyMethodDef methods[] = {
     FAST("hook_before_loop_local", hook_before_loop_local), FAST("hook_before_element", hook_before_element),
     FAST("hook_before_element_local", hook_before_element_local), FAST("hook_before_key", hook_before_key),
     FAST("hook_before_key_local", hook_before_key_local), FAST("hook_before_kept_key", hook_before_kept_key),
-    FAST("hook_after_call", hook_second), FAST("hook_at_cell", hook_at_cell),
+    FAST("hook_after_call", hook_second), FAST("hook_before_put", hook_before_put), FAST("hook_at_cell", hook_at_cell),
     FAST("hook_at_variable", hook_at_variable), FAST("hook_after_making", hook_after_making),
     FAST("hook_at_constructor", hook_at_constructor),
     {"hook_after_letting_go", hook_after_letting_go, METH_NOARGS, NULL}, FAST("hook_after_binding", hook_first),

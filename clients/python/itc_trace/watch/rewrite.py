@@ -68,6 +68,11 @@ WORDS_OF_OBJECT = {"__getattribute__": 1, "__setattr__": 2, "__delattr__": 1}
 """What each is given behind the object. If the class is named in front of it, the object comes first."""
 OF_METHODS = frozenset(("self", "cls"))
 TAKING = frozenset(("get", "setdefault"))
+PUTTING = frozenset(("append", "appendleft", "insert"))
+PUTTING_KEYED = frozenset(("setdefault",))
+"""Methods that put their last argument into a container, where another task may get it from."""
+PUT_AT_ONCE = frozenset((ast.Tuple, ast.List, ast.Dict))
+MOST_PLACES_OF_PUT = 28
 TEMPLATES = frozenset(("substitute", "safe_substitute"))
 MAKERS_OF_MODULES = frozenset("deque defaultdict OrderedDict Counter StringIO BytesIO".split())
 MAKERS = MAKERS_OF_MODULES | frozenset("dict list set bytearray".split())
@@ -480,10 +485,13 @@ class Rewriter:
             node.value = values
             self._store_targets(node)
             return node
+        is_put = len(node.targets) == 1 and type(node.targets[0]) is ast.Subscript and not _is_slice(node.targets[0])
+        places = self._places_of_put(node.value) if is_put else None
         node.value = self._made(node.value, node.targets[0])
         if not _is_hook(node.value):
             is_apart = any([type(target) in ROWS or _is_slice(target) for target in node.targets])
             node.value = self._whole(node.value, KEYS) if is_apart else self._child(node.value)
+        node.value = self._with_put(node.value, places)
         self._store_targets(node)
         is_none = type(node.value) is ast.Constant and node.value.value is None
         if is_none or quick is None and self._may_replace(node):
@@ -1201,7 +1209,10 @@ class Rewriter:
             is_known = words is not None and None not in words and len(node.args) < 2
             site = self._site(node, "method", "", name, self._text(owner), words if is_known else None)
             func.value = self._operand(owner, "before_method", site)
+            places = self._places_of_put(node.args[-1]) if has_first and name in PUTTING else None
             node.args = [self._argument(one, func, owner) for one in node.args]
+            if places is not None:
+                node.args[-1] = self._with_put(node.args[-1], places)
         if name in METHODS and any(map(self._learned.is_field, DELEGATING)) and not self._is_foreign(owner):
             self._call_delegated(node, func)
         node.keywords = [self._keyword_of_method(one, func, owner) for one in node.keywords]
@@ -1482,7 +1493,8 @@ class Rewriter:
     def _call_keyed(self, node: ast.Call, func: ast.Attribute, site: int) -> None:
         owner: Any = func.value
         first: Any = node.args[0]
-        rest = [self._child(one) for one in node.args[1:]]
+        others = node.args[1:]
+        rest = [self._put(one) if func.attr in PUTTING_KEYED else self._child(one) for one in others]
         if self._is_simple(first):
             func.value = self._operand(owner, "before_element", first, site)
             node.args = [self._child(first), *rest]
@@ -1498,14 +1510,38 @@ class Rewriter:
         """A method whose argument takes its time: the touch comes behind it."""
         owner: Any = func.value
         last = node.args[-1]
+        places = self._places_of_put(last) if func.attr in PUTTING else None
         rest = [self._child(one) for one in node.args[:-1]]
         if self._is_variable(owner):
             func.value = self._child(owner)
-            node.args = [*rest, self._behind("after_value", owner, self._argument(last, func, owner), site)]
+            made = self._with_put(self._argument(last, func, owner), places)
+            node.args = [*rest, self._behind("after_value", owner, made, site)]
         else:
             func.value = self._child(owner)
             made = self._whole(last, CONSUMING[func.attr]) if func.attr in CONSUMING else self._child(last)
+            made = self._with_put(made, places)
             node.args = [*rest, self._hook("after_value_local", last, made, self._owner_wanted(last), site)]
+
+    def _put(self, node: Any) -> Any:
+        """An expression whose value is put into a container."""
+        places = self._places_of_put(node)
+        return self._with_put(self._child(node), places)
+
+    def _with_put(self, made: Any, places: int | None) -> Any:
+        return made if places is None else self._hook("before_put", made, made, places)
+
+    def _places_of_put(self, node: Any) -> int | None:
+        """Which variables of the function a value that is put into a container comes from, as bits: the value itself,
+        and its elements one after another. None if something else refers to it in any case.
+        """
+        if type(node) is ast.Name:
+            return 1 if self._is_local(node) else None
+        if type(node) is ast.Call:
+            return 0
+        elements: list[Any] = getattr(node, "values" if type(node) is ast.Dict else "elts", [])
+        if type(node) not in PUT_AT_ONCE or len(elements) > MOST_PLACES_OF_PUT or not _is_in_order(node):
+            return None
+        return sum(2 << place for place, one in enumerate(elements) if self._is_local(one))
 
     def _visit_Compare(self, node: ast.Compare) -> ast.expr:
         if len(node.ops) != 1 or not isinstance(node.ops[0], (ast.In, ast.NotIn)):
@@ -1728,6 +1764,14 @@ def _taken_apart(target: Any, path: tuple[int, ...]) -> Iterator[tuple[int, ...]
             if type(one) is ast.Starred:
                 return
             yield from _taken_apart(one, (*path, place))
+
+
+def _is_in_order(node: Any) -> bool:
+    """Whether the elements of what is made are those that stand there, one after another."""
+    if type(node) is ast.Dict:
+        keys = [one.value if type(one) is ast.Constant else None for one in node.keys]
+        return None not in keys and len(set(keys)) == len(keys)
+    return not any(type(one) is ast.Starred for one in node.elts)
 
 
 def _is_slice(node: Any) -> bool:
