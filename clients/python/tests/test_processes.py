@@ -912,8 +912,54 @@ if __name__ == "__main__":
 """
 
 
+SET_BEFORE = """
+import multiprocessing, sys
+import itc_trace
+
+def idle():
+    pass
+
+def look(event):
+    assert event.wait(600)
+    itc_trace.touch("file", write=True, across=True)
+    itc_trace.touch("later", write=True, across=True)
+
+method = sys.argv[1]
+if __name__ == "__main__":
+    context = multiprocessing.get_context(method)
+    event = context.Event()
+    first = context.Process(target=idle)
+    first.start()
+    itc_trace.touch("file", write=True, across=True)
+    event.set()
+    second = context.Process(target=look, args=(event,))
+    second.start()
+    itc_trace.touch("later", write=True, across=True)
+    first.join()
+    second.join()
+    print(second.exitcode)
+"""
+
+
 @unittest.skipUnless(hasattr(os, "fork"), "there is no fork here")
 class Signals(ProgramCase):
+    def test_an_event_may_be_handed_over_after_it_was_set(self) -> None:
+        for method in METHODS:
+            with self.subTest(method=method):
+                ran = run_traced(self.program(SET_BEFORE), method)
+                self.assertEqual((ran.returncode, ran.stdout), (Verdict.RACES, "0\n"), ran.stderr)
+                self.assertEqual(re.findall(r"itc_trace: race on (.+)", ran.stderr), ["later"])
+
+    def test_the_message_of_an_event_is_no_count_of_permits(self) -> None:
+        names = SharedNames()
+        self.addCleanup(names.remove)
+        slot = names.slot_of("key")
+        assert slot is not None
+        names.put(slot, "out_1")
+        self.assertIsNone(names.find_count("key"))
+        names.begin_count("key", 1)
+        self.assertIsNotNone(names.find_count("key"))
+
     def test_whoever_sees_an_event_set_or_is_notified_comes_after_that(self) -> None:
         for method, how in chosen((
             ("fork", "wait"), ("fork", "condition"), ("spawn", "poll"), ("spawn", "wait"), ("forkserver", "condition for"), ("fork", "condition for"),

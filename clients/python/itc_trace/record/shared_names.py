@@ -83,9 +83,12 @@ class SharedNames:
         return Counted(self, key, slot)
 
     def find_count(self, key: str) -> Counted | None:
-        """What another process counts under this key. None if nobody does."""
+        """What another process counts under this key. None if nobody does.
+
+        What stands there may be the message of an event that was set, which is one word.
+        """
         slot = self.slot_of(key)
-        return None if slot is None or not self.name_at(slot) else Counted(self, key, slot)
+        return None if slot is None or " " not in self.name_at(slot) else Counted(self, key, slot)
 
     def name_at(self, slot: int) -> str:
         place = slot + LONGEST_KEY

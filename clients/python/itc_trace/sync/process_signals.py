@@ -26,6 +26,7 @@ def _put_signals(patches: Patches, module: ModuleType) -> None:
     patches.wrap(condition, "__init__", _begin_condition)
     patches.wrap(condition, "__setstate__", _set_condition)
     patches.wrap(event, "__init__", _begin_event)
+    patches.put(event, "__getstate__", _state_of_event)
     patches.put(event, "__setstate__", _set_event)
     patches.put(event, "_itc_token", None)
     patches.put(event, "_itc_slot", None)
@@ -67,6 +68,11 @@ def _begin_event(original: Any) -> Any:
         self._itc_slot = slot_of(self._flag._semlock.name)
 
     return __init__
+
+
+def _state_of_event(self: Any) -> dict[str, Any]:
+    """What another process is given. Where this one has set it last is a place of this process."""
+    return {name: value for name, value in self.__dict__.items() if name != "_itc_token"}
 
 
 def _set_event(self: Any, told: dict[str, Any]) -> None:
