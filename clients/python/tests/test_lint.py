@@ -40,6 +40,7 @@ OF_THE_LIBRARY = {
     "sync.processes": "_count _is_mine _is_zero _make_methods _registry",
     "sync.python_rlocks": "_count _is_owned",
     "sync.queues": "_lock _qsize",
+    "sync.shared_lists": "_list_len",
     "sync.starts": "_popen _start_method",
     "sync.thread_pools": "_cache _cond _event _inqueue _items _outqueue _processes _quick_get _quick_put",
     "sync.threads": "_args _cond _count _flag _is_owned _lock _target _waiters",

@@ -285,7 +285,8 @@ if __name__ == "__main__":
     del thing
 """
 MAKERS = (
-    "multiprocessing.Barrier(1, print)", "multiprocessing.Barrier(17)", "multiprocessing.Array('i', 5000)", "shared_memory.ShareableList([1])", "multiprocessing.Manager().list()", "__import__('mmap').mmap(-1, 1)", "(lambda pipe: pipe[0].send_bytes(b'x') or pipe)(multiprocessing.Pipe())",
+    "multiprocessing.Barrier(1, print)", "multiprocessing.Barrier(17)", "multiprocessing.Array('i', 5000)", "shared_memory.ShareableList(range(5000))", "multiprocessing.Manager().list()", "__import__('mmap').mmap(-1, 1)", "(lambda pipe: pipe[0].send_bytes(b'x') or pipe)(multiprocessing.Pipe())",
+    "shared_memory.ShareableList([1]).shm", "shared_memory.SharedMemory(create=True, size=1)", "bool(shared_memory.ShareableList([1]).shm.buf)",
 )
 LATER = """
 import multiprocessing
@@ -868,6 +869,107 @@ class Permits(ProgramCase):
                 told = set(re.findall(r"itc_trace: race on (\w+\S*), an Array made at", ran.stderr))
                 self.assertEqual(told, {"raw[2]"}, ran.stderr)
                 self.assertNotIn("incomplete", ran.stderr)
+
+
+SHARED_LISTS = """
+import multiprocessing, sys, threading
+from multiprocessing.shared_memory import ShareableList
+
+def write(rows, lock, own):
+    for _ in range(2):
+        with lock:
+            rows[0] += 1
+    rows[own] = rows[own] + 1
+    rows[-4] = 9
+    by_name = ShareableList(name=rows.shm.name)
+    by_name[4] = 9
+    by_name.shm.close()
+
+def read(rows, own):
+    assert list(rows) and rows.count(7) == 1 and rows.index("text") == 3 and rows.format
+
+def work(rows):
+    rows[7] = 1
+
+def look_again(rows, event):
+    event.wait()
+    assert rows[8] == "later"
+
+method = sys.argv[1]
+if __name__ == "__main__":
+    context = multiprocessing.get_context(method)
+    rows, lock, event = ShareableList([0, 1, 2, "text", 4, 5, 7, 0, "first"]), context.Lock(), context.Event()
+    others = [ShareableList([number]) for number in range(2)]
+    children = [context.Process(target=write, args=(rows, lock, own)) for own in (1, 2)]
+    children += [context.Process(target=look_again, args=(rows, event))]
+    for child in children:
+        child.start()
+    rows[8] = "later"
+    event.set()
+    for child in children:
+        child.join()
+    child = context.Process(target=read, args=(rows, 0))
+    child.start()
+    child.join()
+    threads = [threading.Thread(target=work, args=(rows,)) for _ in range(2)]
+    for thread in threads:
+        thread.start()
+    for thread in threads:
+        thread.join()
+    print(*rows, len(rows), rows.format, *[other[0] for other in others])
+    for one in (rows, *others):
+        one.shm.close()
+        one.shm.unlink()
+"""
+OF_FORMAT = """
+import multiprocessing
+from multiprocessing.shared_memory import ShareableList
+def write(rows, number):
+    rows[number] = None
+def look(rows):
+    LOOK
+if __name__ == "__main__":
+    rows = ShareableList([1, 2])
+    first = multiprocessing.Process(target=write, args=(rows, 1))
+    first.start()
+    JOIN
+    second = multiprocessing.Process(target=look, args=(rows,))
+    second.start()
+    first.join()
+    second.join()
+    rows.shm.close()
+    rows.shm.unlink()
+"""
+
+
+@unittest.skipUnless(hasattr(os, "fork"), "there is no fork here")
+class SharedLists(ProgramCase):
+    def test_an_element_of_a_list_in_shared_memory_is_a_thing(self) -> None:
+        for method in METHODS:
+            with self.subTest(method=method):
+                program = self.program(SHARED_LISTS)
+                ran, plain = run_traced(program, method), run_python(program, method)
+                self.assertEqual((ran.returncode, ran.stdout), (Verdict.RACES, plain.stdout), ran.stderr)
+                told = set(re.findall(r"itc_trace: race on (ShareableList\S*), made at program.py:\d+\n", ran.stderr))
+                self.assertEqual(told, {f"ShareableList[{number}]" for number in (4, 5, 7)}, ran.stderr)
+                self.assertNotIn("incomplete", ran.stderr)
+                self.assertNotIn("not looked into", ran.stderr)
+
+    def test_what_looks_at_all_elements_races_with_a_write_of_one(self) -> None:
+        for look in ("rows.format", "list(rows)", "repr(rows)", "rows.count(1)", "rows[1]"):
+            with self.subTest(look=look):
+                program = OF_FORMAT.replace("LOOK", look)
+                ran = run_traced(self.program(program.replace("JOIN", "pass")))
+                self.assertEqual(ran.returncode, Verdict.RACES, ran.stderr)
+                self.assertIn("race on ShareableList[1], made at program.py:9\n", ran.stderr)
+                ran = run_traced(self.program(program.replace("JOIN", "first.join()")))
+                self.assertEqual(ran.returncode, Verdict.NO_RACE, ran.stderr)
+
+    def test_other_elements_are_no_race(self) -> None:
+        for look in ("rows[0]", "rows[-2]", "len(rows)", "rows.shm.name"):
+            with self.subTest(look=look):
+                ran = run_traced(self.program(OF_FORMAT.replace("LOOK", look).replace("JOIN", "pass")))
+                self.assertEqual(ran.returncode, Verdict.NO_RACE, ran.stderr)
 
 
 SIGNALS = """

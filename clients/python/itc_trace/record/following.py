@@ -26,7 +26,8 @@ from ..model.verdict import Cause, Unseen, child_begun_row, child_ended_row
 
 MOST_TAG = 8
 NOWHERE = "?"
-SEMAPHORES = "/dev/shm/sem."
+BLOCKS = "/dev/shm/"
+SEMAPHORES = f"{BLOCKS}sem."
 """How the memory of named semaphores is called, which are no shared memory to the program."""
 FOLLOWED_MEMORY = (f"/{PREFIX}", "/pym-")
 """The names of this package, and the memory of `multiprocessing`: who takes some of that is looked at by itself."""
@@ -193,8 +194,19 @@ def _shares_memory() -> bool:
         return False  # The system does not tell. What multiprocessing makes is known all the same.
 
 
+_followed_blocks: set[str] = set()
+"""The files of shared memory whose touches are noted."""
+GONE = " (deleted)"
+
+
+def follow_memory(name: str) -> None:
+    """The touches of this shared memory are noted."""
+    _followed_blocks.add(f"{BLOCKS}{name}")
+
+
 def _is_shared(_range: str, permissions: str, _offset: str, _device: str, _number: str, path: str = "") -> bool:
     is_known = path.startswith(SEMAPHORES) or any(one in path for one in FOLLOWED_MEMORY)
+    is_known = is_known or path.strip().removesuffix(GONE) in _followed_blocks
     return permissions.startswith("rw") and permissions.endswith("s") and not is_known
 
 

@@ -32,6 +32,15 @@ def _tells(original: Any) -> Any:
     return __init__
 
 
+def _tells_of_block(original: Any) -> Any:
+    def __init__(self: Any, *words: Any, **named: Any) -> None:
+        if not is_making():
+            following.is_not_followed(type(self).__name__)
+        original(self, *words, **named)
+
+    return __init__
+
+
 def _tells_of_memory(original: Any) -> Any:
     def __init__(self: Any, size: int) -> None:
         if not is_making():
@@ -57,6 +66,6 @@ _MAKING = (
     ("multiprocessing.queues", "Queue", _tells_of_queue),
     ("multiprocessing.managers", "BaseManager", _tells),
     ("multiprocessing.managers", "BaseProxy", _tells),
-    ("multiprocessing.shared_memory", "SharedMemory", _tells),
+    ("multiprocessing.shared_memory", "SharedMemory", _tells_of_block),
 )
 """The modules and classes by which a program makes such things, or gets them from another process, and what tells."""

@@ -178,7 +178,7 @@ def _touch_elements(array: Any, index: Any, kind: str) -> None:
         return
     name = getattr(array._wrapper, "_itc_name", "an Array")
     numbers = range(array._length_)[index if isinstance(index, slice) else slice(index, index + 1 or None)]
-    where = place_of(_user())
+    where = place_of(user())
     for number in numbers:
         touch_at(Across(_name_of_element(name, number)), kind, *where)
 
@@ -223,10 +223,10 @@ def _as_text(self: Any) -> str:
 def _touch(value: Any, kind: str) -> None:
     if state.note is not None or state.witness is not None:
         name = getattr(value._wrapper, "_itc_name", "a Value")
-        touch_at(Across(name), kind, *place_of(_user()))
+        touch_at(Across(name), kind, *place_of(user()))
 
 
-def _user() -> FrameType | None:
+def user() -> FrameType | None:
     """The frame of the program. What the library makes of a text has no module."""
     frame = following.frame_of_start(2)
     while frame is not None and (
