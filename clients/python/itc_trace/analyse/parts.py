@@ -137,6 +137,7 @@ def find_in_parts(
     found.hidden = in_order({key: race for key, race in hidden.items() if key not in listed and key not in possible})
     found.possible_deadlocks = deadlocks_in_order(deadlocks)
     found.passed_over += waiting.passed_over(found.possible_deadlocks)
+    found.pass_over_inner()
 
 
 class _Requests:

@@ -16,7 +16,7 @@ from itertools import islice
 from typing import Protocol
 
 from ..record.collector import HOST, NoCollector
-from ..model.conflicts import CONFLICTING, MAKING, WRITE
+from ..model.conflicts import CONFLICTING, INNER_READ, INNER_WRITE, MAKING, WRITE
 from ..model.finding import POSSIBLE_RACE, RACE, Finding, FoundSide, Story, runs_in_words
 from .deadlocks import Deadlock, TooMany, deadlocks_told, find_deadlocks, has_cycle
 from .fast_track import deciding_pairs
@@ -84,6 +84,11 @@ class Race:
         first, second = self.example
         thing = first.thing or ""
         return thing[1:].isdigit() and bool(first.file and second.file) and not 0 < first.loop == second.loop
+
+    @property
+    def is_inner(self) -> bool:
+        """Whether it is of parts of the thing that may not be the same."""
+        return self.example[0].kind in (INNER_READ, INNER_WRITE)
 
     @property
     def places(self) -> tuple[str, str]:
@@ -176,6 +181,16 @@ class Races:
     def tried(self) -> list[Deadlock]:
         """The deadlocks that a further run may bring about."""
         return [one for one in self.possible_deadlocks if one.is_of_locks]
+
+    def pass_over_inner(self) -> None:
+        """Where two tasks touch parts of a thing with no order, that is named as not looked into. It may be no race."""
+        inner = [race for race in self.races if race.is_inner]
+        self.passed_over += [
+            PassedOver(f"{race.thing}, in no order with {race.places[1]},", race.places[0]) for race in inner
+        ]
+        self.races, self.possible, self.hidden = (
+            [race for race in races if not race.is_inner] for races in (self.races, self.possible, self.hidden)
+        )
 
     def confirm(self, keys: Collection[object]) -> None:
         """A further run has met the possible deadlocks of these keys."""
@@ -309,6 +324,7 @@ def races_of(
                 finder = _Finder(Shown(view, bar), events, rows, found, strict)
             finder.find(things)
             finder.find_deadlocks(whole.signals)
+    found.pass_over_inner()
     return found
 
 

@@ -14,11 +14,14 @@ from ..analyse.baseline import read_baseline, write_baseline
 from ..analyse.benign import Looking, read_patterns
 from ..model.readable import readable
 from ..record.collector import HOST, NoCollector
+from ..record.environment import OWN_TENANT
 from ..record.faults import WORDS_REFUSED, Fault, in_words, look, look_for_collector
 from ..record.journal import NoJournal
 from ..analyse.races import Races
 from ..processes.relay import relay
+from .ending import Ended, ends_by_signals
 from .explain import explain
+from .java import Java, JavaProgram
 from .kept_trace import KeptTrace
 from .options import NEW_SEED, parser
 from .output_files import check_outputs
@@ -33,11 +36,13 @@ from ..report.hints import missing_sources
 from ..report.report import report_of
 from ..report.screen import is_terminal
 from ..report.text import Shown
-from .system import run_system
-from .system_file import read_system
+from ..model.verdict import Verdict
+from .statuses import keep_status
+from .system import run_reporting, run_system
+from .system_file import System, read_system
 
 
-LOOKING = ("run", "system", "races")
+LOOKING = ("run", "java", "system", "races")
 """The commands that look for races."""
 EXPORT_BEGINS = b'{"events":'
 LINE_BEGINS, PAGE_BEGINS = b'{"event"', b"<!"
@@ -51,16 +56,52 @@ TO_STANDARD_OUTPUT = ("--json", "--sarif")
 """The options that take `-` for their file."""
 
 
-def _divided(words: list[str], options: Parser) -> tuple[list[str], list[str]]:
-    """The words of `run` up to the program, and the program's own."""
+def _divided(words: list[str], options: Parser, of_java: Parser) -> tuple[list[str], list[str]]:
+    """The words of `run` up to the program, and the program's own. Those of java follow its options."""
     flags, place = options.flags(), 1
     is_run = words[:1] == ["run"]
     while is_run and place < len(words) and words[place].startswith("-") and words[place] not in ("-m", "--"):
         place += 1 if words[place] in flags or "=" in words[place] else 2
-    if words[:1] != ["run"]:
+    if words[:1] == ["java"]:
+        place = _end_of_options(words, of_java)
+    elif not is_run:
         place = len(words)
     rest = words[place:]
     return words[:place], rest[1:] if rest[:1] == ["--"] else rest
+
+
+def _end_of_options(words: list[str], options: Parser) -> int:
+    """The place of the first word that is java's own: its options begin with one dash, or stand behind two."""
+    place = 1
+    while place < len(words) and words[place].startswith("-") and words[place] != "--":
+        option = words[place].partition("=")[0]
+        if option not in options.options() and not option.startswith("--"):
+            break
+        place += 1 if option in options.flags() or "=" in words[place] else 2
+    return min(place, len(words))
+
+
+def _java(words: argparse.Namespace, program: list[str]) -> int:
+    if not program:
+        raise Fault(f"java wants what runs the program, as -jar FILE or a class{_taken_as_value(words.typed)}")
+    java = Java(program, words.agent, words.watch or [], words.exclude or [])
+    java.command()
+    system = System([], OWN_TENANT, words.export, words.picture)
+    beside = None if words.export is None else f"{words.export}.journal"
+    outputs = (
+        ("--export", words.export), ("the journal of --export", beside), ("--picture", words.picture),
+        ("--status-file", words.status_file), ("--write-baseline", words.write_baseline), *words.wanted.outputs(),
+    )
+    check_outputs(outputs, _read(words))
+    try:
+        with ends_by_signals():
+            return run_reporting(
+                system, lambda port, folder: JavaProgram(java, port, system.tenant, folder), words.looking,
+                words.fail_on == "possible", words.status_file, words.wanted, words.quiet,
+            )
+    except Ended as ended:
+        say(f"itc_trace: incomplete: {ended}")
+        return keep_status(words.status_file, Verdict.INCOMPLETE, None)
 
 
 def _run(words: argparse.Namespace, program: list[str]) -> int:
@@ -229,7 +270,7 @@ def _tell_of_options_behind(program: list[str], options: Parser) -> None:
 
 def main(name: str = "python3 -m itc_trace") -> int:
     made = parser(name)
-    own, program = _divided(sys.argv[1:], made.commands["run"])
+    own, program = _divided(sys.argv[1:], made.commands["run"], made.commands["java"])
     for before, word in zip(own, own[1:]):
         if own[0] == "run" and word in OPTIONS_OF_PYTHON and before not in TO_STANDARD_OUTPUT:
             made.commands["run"].refuse(f"run takes {OPTIONS_OF_PYTHON[word]}")
@@ -253,6 +294,8 @@ def _looked(words: argparse.Namespace, program: list[str]) -> int:
     words.looking, words.wanted = _looking(words, is_first), _wanted(words, settings)
     if words.command == "run":
         status = _run(words, program)
+    elif words.command == "java":
+        status = _java(words, program)
     else:
         status = _system(words) if words.command == "system" else _races(words)
     if words.write_baseline is not None and words.looking.has_looked:

@@ -43,6 +43,21 @@ def _add_timeout(parser: Parser, ended: str) -> None:
                         help=f"after S seconds tell what each task waits for, and end {ended}")
 
 
+def _add_java(parser: Parser) -> None:
+    parser.usage = "%(prog)s [OPTIONS] [--] -jar FILE|CLASS [ARGS..]"
+    _add_file(parser, "--export", "keep the trace there, and its journal beside it")
+    _add_file(parser, "--picture", "draw the trace there")
+    _add_status_file(parser)
+    _add_fail_on(parser)
+    _add_looking(parser)
+    parser.add_argument("--quiet", action="store_true", help="write nothing where there is no race")
+    _add_file(parser, "--agent", "the agent that watches the program")
+    parser.add_argument("--watch", type=name, metavar="PACKAGE", action="append",
+                        help="watch the classes of this package alone")
+    parser.add_argument("--exclude", type=name, metavar="PACKAGE", action="append",
+                        help="leave the classes of this package as they are")
+
+
 def _add_races(parser: Parser) -> None:
     parser.usage = "%(prog)s [OPTIONS] EXPORT|--port PORT TENANT JOURNAL.."
     _add_port(parser, is_required=False)
@@ -187,7 +202,7 @@ def _seed(word: str) -> int:
 
 
 ADDING = {
-    "run": _add_run, "system": _add_system, "races": _add_races, "explain": _add_explain, "relay": _add_relay,
-    "snapshot": _add_snapshot,
+    "run": _add_run, "java": _add_java, "system": _add_system, "races": _add_races, "explain": _add_explain,
+    "relay": _add_relay, "snapshot": _add_snapshot,
 }
 """What adds the words of each command."""

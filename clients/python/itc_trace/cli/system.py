@@ -15,11 +15,11 @@ import sys
 import tempfile
 import threading
 import time
-from collections.abc import Iterable, Iterator
+from collections.abc import Callable, Iterable, Iterator
 from pathlib import Path
 from queue import Empty, SimpleQueue
 from types import FrameType
-from typing import IO, Any
+from typing import IO, Any, Protocol
 
 from ..analyse.benign import Looking
 from ..analyse.kept_sources import source_rows
@@ -47,7 +47,7 @@ from .reporting import Wanted, deliver, list_shown, next_step
 from .run import draw, draw_parts, environment_of_package, titled
 from .saying import UNWRITTEN, say
 from .ticking import ticking
-from .statuses import forget_status, keep_status, own_status
+from .statuses import OWN_STATUSES, forget_status, keep_status, own_status
 from .system_file import Described, System
 from ..model.verdict import END_OF_ALL, Cause, Unseen
 
@@ -181,6 +181,9 @@ class Running:
                 self._end_all()
                 while self._are_running():
                     self._next()
+
+    def progress(self) -> str:
+        return f"{sum(one.is_running for one in self.processes)} processes run, "
 
     def _look_at_services(self) -> None:
         """If there are services alone, nobody comes after them who would wait until they are ready."""
@@ -448,17 +451,48 @@ BORDERS = "borders"
 ENDED_AS_A_SERVICE = Unseen(Cause.KILLED, "the program was ended by SIGTERM").row()
 
 
+class Reports(Protocol):
+    """What runs and reports to a relay."""
+
+    unseen: list[Unseen]
+    status: int
+
+    def run(self) -> None:
+        """Returns once all of it has ended."""
+
+    def lines(self) -> Iterable[str]:
+        """The lines of all journals."""
+
+    def progress(self) -> str:
+        """What a line of progress begins with."""
+
+
 def run_system(
     system: System, looking: Looking, fail_on_possible: bool = False, status_file: str | None = None,
     wanted: Wanted | None = None, timeout: float | None = None,
 ) -> int:
     """The verdict's status, and where that is 0 the first status of a process that was not 0."""
+    return run_reporting(
+        system, lambda port, folder: Running(system, port, folder, timeout), looking, fail_on_possible, status_file,
+        wanted,
+    )
+
+
+def run_reporting(
+    system: System, begin: Callable[[int, str], Reports], looking: Looking, fail_on_possible: bool = False,
+    status_file: str | None = None, wanted: Wanted | None = None, is_quiet: bool = False,
+) -> int:
+    """Runs what reports to a relay of its own, whose port it gets, and keeps its journals in a folder.
+
+    Gives the verdict's status, and where that is 0 the status of what ran. If it is quiet, nothing is told where
+    there is nothing to tell.
+    """
     forget_status(status_file)
     with tempfile.TemporaryDirectory(prefix="itc_trace_") as folder, PartCollectors(system.tenant) as collectors:
         parts = RelayParts(lambda: ask_for_port(collectors.asked_at), os.path.join(folder, BORDERS))
         with Relaying(collectors.port, parts) as relay:
-            running = Running(system, relay.port, folder, timeout)
-            with ticking(sys.stderr, lambda: f"{sum(one.is_running for one in running.processes)} processes run, "):
+            running = begin(relay.port, folder)
+            with ticking(sys.stderr, running.progress):
                 running.run()
         if parts.number > 1:
             exports = system.export or (None if system.picture is None else os.path.join(folder, "export"))
@@ -470,11 +504,12 @@ def run_system(
             races = races_seen(system.tenant, collectors.port, lines, HOST, looking, Bar(sys.stderr))
             races.unseen = [*running.unseen, *races.unseen]
             picture = _keep(system, collectors.port, lines, folder, races)
-        if not any(described.is_traced for described in system.processes):
+        if system.processes and not any(described.is_traced for described in system.processes):
             say("itc_trace: no process is traced, so no race was looked for: leave out traced = false")
         report, wanted = report_of(races, looking, fail_on_possible, picture), wanted or Wanted()
         step = next_step(report, wanted, system.export, False)
-        say(list_shown(report, wanted, sys.stderr, step, own_status(report.verdict, running.status)))
+        if report.verdict or report.findings or running.status in OWN_STATUSES or not is_quiet:
+            say(list_shown(report, wanted, sys.stderr, step, own_status(report.verdict, running.status)))
         if step and is_terminal(sys.stderr):
             say(step)
         status = keep_status(status_file, report.verdict, running.status)

@@ -4,6 +4,7 @@ from __future__ import annotations
 
 COMMANDS = {
     "run": "run a Python program with tracing on, and list its races",
+    "java": "run a program of Java with tracing on, and list its races",
     "system": "run several processes, and list the races of them together",
     "races": "list the races of a trace by its journal",
     "explain": "tell the story of one race, and what would have put it in order",

@@ -5,6 +5,8 @@ from __future__ import annotations
 READ, WRITE = "read", "write"
 LOOKUP, LENGTH, KEYS, ITERATION = "lookup", "length", "keys", "iteration"
 ADDITION, REMOVAL, REPLACEMENT, REWRITE = "addition", "removal", "replacement", "rewrite"
+INNER_READ, INNER_WRITE = "inner read", "inner write"
+"""What is touched is a part of the thing, and nobody looks which."""
 MAKING = "making"
 """The thing is made here. It conflicts with nothing, and tells whose the thing was at first."""
 
@@ -29,15 +31,19 @@ _PAIRS = (
     *((KEYS, kind) for kind in (WRITE, ADDITION, REMOVAL, REWRITE)),
     *((REMOVAL, kind) for kind in (REMOVAL, READ, WRITE, LOOKUP, LENGTH, ITERATION, ADDITION, REPLACEMENT, REWRITE)),
     *((REPLACEMENT, kind) for kind in (READ, WRITE, ITERATION, REWRITE)),
+    *((INNER_WRITE, kind) for kind in (INNER_WRITE, INNER_READ)),
 )
 
 CONFLICTING: dict[str, frozenset[str]] = {
     kind: frozenset({one for pair in _PAIRS if kind in pair for one in pair if one != kind or pair == (kind, kind)})
-    for kind in (READ, WRITE, LOOKUP, LENGTH, KEYS, ITERATION, ADDITION, REMOVAL, REPLACEMENT, REWRITE, MAKING, STEP)
+    for kind in (
+        READ, WRITE, LOOKUP, LENGTH, KEYS, ITERATION, ADDITION, REMOVAL, REPLACEMENT, REWRITE, INNER_READ, INNER_WRITE,
+        MAKING, STEP,
+    )
 }
 """Of each kind those that conflict with it."""
 
-CHANGING = frozenset({WRITE, REWRITE, ADDITION, REMOVAL, REPLACEMENT})
+CHANGING = frozenset({WRITE, REWRITE, ADDITION, REMOVAL, REPLACEMENT, INNER_WRITE})
 """The kinds that change a thing. Of two kinds that conflict, one is among them."""
 
 

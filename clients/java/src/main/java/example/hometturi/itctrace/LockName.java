@@ -26,8 +26,9 @@ final class LockName {
         if (name == null) {
             name = Traced.lockName(made);
             String told = "lock (" + made + ")";
-            luck = new Gives("lock" + made.line(), "release " + told, "acquire " + told, name, Kind.LUCK);
-            guard = new Gives("lock" + made.line(), "release " + told, "acquire " + told, name, Kind.GUARD);
+            String hint = "lock" + Math.max(0, made.line()); // A class may have no lines.
+            luck = new Gives(hint, "release " + told, "acquire " + told, name, Kind.LUCK);
+            guard = new Gives(hint, "release " + told, "acquire " + told, name, Kind.GUARD);
         }
         return name;
     }

@@ -103,7 +103,7 @@ public final class Reporter implements AutoCloseable {
         long time = Row.now();
         Row.Site site = Row.Site.ofCaller().withoutFunction();
         int event = Integer.parseInt(session.request(request).get(0));
-        write(event, new Row(task, thing, kind, site, label, List.of(), null, List.of(), time));
+        write(event, new Row(task, thing, kind, site, label, List.of(), null, List.of(), time, null));
         return event;
     }
 

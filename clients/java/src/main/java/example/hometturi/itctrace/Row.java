@@ -15,7 +15,8 @@ import java.util.stream.IntStream;
 /**
  * What a journal says of one event, or of one of the touches that an event stands for. A thing is what was touched, else null. The time
  * is that of the event, in microseconds since 1970. It is 0 if another row tells it. Of a lock that was waited for with others held,
- * {@code acquired} has all of them, and that one last.
+ * {@code acquired} has all of them, and that one last. The name is what a person calls the thing, if that is not enough to tell it
+ * from others.
  */
 record Row(
         String task,
@@ -26,7 +27,8 @@ record Row(
         List<String> held,
         Handed handed,
         List<HeldLock> acquired,
-        long time) {
+        long time,
+        String name) {
     /** The last line of a journal whose process reported all that it noted. */
     static final String END = "{\"end\":true}\n";
 
@@ -139,12 +141,12 @@ record Row(
 
     /** The row of an event that touched nothing, and was then. */
     static Row at(long time, String task, String kind, Site site, String label, Handed handed) {
-        return new Row(task, null, kind, site, label, List.of(), handed, List.of(), time);
+        return new Row(task, null, kind, site, label, List.of(), handed, List.of(), time, null);
     }
 
     /** The same row, at this time. */
     Row withTime(long then) {
-        return new Row(task, thing, kind, site, label, held, handed, acquired, then);
+        return new Row(task, thing, kind, site, label, held, handed, acquired, then, name);
     }
 
     /** By the clock of this process. */
@@ -166,6 +168,9 @@ record Row(
         text.append(",\"file\":").append(quoted(site.file)).append(",\"line\":").append(site.line).append(",\"label\":").append(quoted(label));
         if ((thing != null || !acquired.isEmpty()) && !site.function.isEmpty()) {
             text.append(",\"function\":").append(quoted(site.function));
+        }
+        if (name != null) {
+            text.append(",\"name\":").append(quoted(name)).append(",\"group\":").append(quoted(name));
         }
         if (!held.isEmpty()) {
             text.append(held.stream().map(Row::quoted).collect(Collectors.joining(",", ",\"held\":[", "]")));
@@ -216,6 +221,11 @@ record Row(
     /** The line that says what was not seen, and why. */
     static String unseen(String cause, String reason) {
         return "{\"unseen\":" + quoted(cause) + ",\"text\":" + quoted(reason) + "}\n";
+    }
+
+    /** The line that names what is done at this place, which nobody looks into. */
+    static String passedOver(String what, Site site) {
+        return "{\"passed_over\":" + quoted(what) + ",\"place\":" + quoted(site.toString()) + "}\n";
     }
 
     static String quoted(String text) {

@@ -3,9 +3,12 @@ package example.hometturi.itctrace;
 import example.hometturi.itctrace.Place.Kind;
 import example.hometturi.itctrace.Place.Mark;
 import java.util.ArrayList;
+import java.util.Collections;
 import java.util.HashMap;
+import java.util.IdentityHashMap;
 import java.util.List;
 import java.util.Map;
+import java.util.Set;
 
 /**
  * A task of the program, and what it did that the collector does not know yet. All but its name and {@code here} is looked at with the
@@ -41,6 +44,9 @@ final class Task {
     Task joinedBy;
     /** By which it is told that nobody can wait for it any more. Null if nobody wants to know. */
     Gone.Watched watched;
+    /** How many stretches between two synchronizations it had. Only the task's own thread changes it. */
+    long stretches;
+
     private int many = MANY;
     private Map<Integer, Long> meant = new HashMap<>();
     private Map<Integer, Long> guards = new HashMap<>();
@@ -87,7 +93,11 @@ final class Task {
         /** Its event, once it is reported. */
         Touches event;
 
+        /** Whether the task has touched something of which no row tells yet, and maybe none ever does. */
+        boolean isWatched;
+
         long time;
+        final Stretch stretch = new Stretch(this);
         List<Row> rows = new ArrayList<>();
         private final Map<Deed, Row> seen = new HashMap<>();
 
@@ -118,15 +128,61 @@ final class Task {
         }
 
         private void absorb(Segment next) {
+            Set<Row> known = Collections.newSetFromMap(new IdentityHashMap<>());
             next.seen.forEach(
                     (deed, row) -> {
-                        if (!has(deed)) {
-                            add(deed, row);
+                        if (seen.putIfAbsent(deed, row) != null) {
+                            known.add(row);
                         }
                     });
+            List<Row> all = event == null ? rows : event.fresh;
+            next.rows.stream().filter(row -> !known.contains(row)).forEach(all::add);
+            next.stretch.into = stretch;
+            next.stretch.segment = null;
+            isWatched |= next.isWatched;
             place = next.place;
             isClosed = next.isClosed;
             time = time == 0 ? next.time : time;
+        }
+    }
+
+    /** What a task does between two synchronizations, to which a row may be added later. */
+    static final class Stretch {
+        /** Null once its event is there, or once it is a part of another one. */
+        private Segment segment;
+        private Touches event;
+        private Stretch into;
+
+        Stretch(Segment segment) {
+            this.segment = segment;
+        }
+
+        /** Its event is reported. */
+        void tell(Touches told) {
+            event = told;
+            segment = null;
+        }
+
+        private Stretch whole() {
+            Stretch whole = this;
+            while (whole.into != null) {
+                whole = whole.into;
+            }
+            if (whole != this) {
+                into = whole;
+            }
+            return whole;
+        }
+
+        /** Adds a row. Gives its event, if that is reported. */
+        Touches add(Row row) {
+            Stretch whole = whole();
+            if (whole.event == null) {
+                whole.segment.rows.add(row);
+            } else {
+                whole.event.fresh.add(row);
+            }
+            return whole.event;
         }
     }
 
@@ -136,6 +192,9 @@ final class Task {
         Row.Event event;
 
         boolean isClosed;
+        /** Whether it is looked at for rows. */
+        boolean isGrowing;
+
         List<Row> fresh = new ArrayList<>();
     }
 
@@ -155,6 +214,7 @@ final class Task {
         if (last().isClosed || last().place.hasMark()) {
             here = new Place(this);
             open.add(new Segment(here));
+            stretches++;
         }
         return last();
     }

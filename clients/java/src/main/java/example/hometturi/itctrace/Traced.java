@@ -6,10 +6,17 @@ import example.hometturi.itctrace.Place.Kind;
 import example.hometturi.itctrace.Place.Mark;
 import example.hometturi.itctrace.Place.Noted;
 import example.hometturi.itctrace.Row.Site;
+import example.hometturi.itctrace.Task.Held;
 import example.hometturi.itctrace.Task.HeldLock;
+import example.hometturi.itctrace.Task.Stretch;
 import java.io.IOException;
+import java.util.Collections;
+import java.util.IdentityHashMap;
 import java.util.List;
+import java.util.Map;
 import java.util.Optional;
+import java.util.Set;
+import java.util.WeakHashMap;
 import java.util.concurrent.BlockingQueue;
 import java.util.concurrent.CancellationException;
 import java.util.concurrent.ConcurrentMap;
@@ -40,9 +47,16 @@ public final class Traced {
     private static final ThreadLocal<Own> OWN = ThreadLocal.withInitial(Own::new);
     private static final Keyed<Givers> TOKENS = new Keyed<>();
     private static final Keyed<TracedMonitor> MONITORS = new Keyed<>();
+    /** The tasks of threads that were started by the program itself, as the agent sees. */
+    private static final Keyed<Task> STARTED = new Keyed<>();
+    /** The thread of the JVM that ends it, once main and all that it waits for are over. */
+    private static final String LAST = "DestroyJavaVM";
+    /** What each thread gives at its end that the JVM waits for. */
+    private static final Object ENDED = new Object();
 
     /** What a thread knows of itself: its task, and the locks that it holds. */
     static final class Own {
+        final Thread thread = Thread.currentThread();
         private Task task;
         private Holding holding;
         /** The last place of another task that the task has come after, to be read under a lock, and by what. */
@@ -71,6 +85,86 @@ public final class Traced {
                 kept = null;
             }
             return isKept;
+        }
+
+        /** What the task does since its last synchronization, if it is known, and which of its stretches that is. */
+        private Stretch stretch;
+
+        private long stretches;
+
+        /** The stretch of what this thread does now. Null without a trace. */
+        Stretch stretch() {
+            dropKept();
+            Task now = task();
+            if (stretch == null || !goesOn(now, stretches)) {
+                stretch = TRACER.stretch(now);
+                stretches = now.stretches;
+            }
+            return stretch;
+        }
+
+        /** Whether the task is still in the stretch of this number, and nobody can come after a place in it. */
+        boolean goesOn(Task of, long number) {
+            return of == task && of.stretches == number && !of.here.hasMark() && of.here.position == 0;
+        }
+
+        Held held() {
+            return Holding.locks(holding);
+        }
+
+        /** What the agent keeps of what the thread has touched last. */
+        Object recent;
+
+        /** The classes that the task has come to after their initialization. */
+        private final Set<Object> classes = Collections.newSetFromMap(new IdentityHashMap<>());
+
+        boolean seesFirst(Object type) {
+            return classes.add(type);
+        }
+
+        /** The job of an executor that the thread does, and what the thread was before. */
+        private Task job;
+
+        private Task beforeJob;
+        private boolean isInJob;
+
+        /** The thread does a job from now on, as a task of its own if there is one. */
+        void beginJob(Task of) {
+            isInJob = true;
+            job = of;
+            if (of != null) {
+                beforeJob = become(of);
+            }
+        }
+
+        boolean isInJob() {
+            return isInJob;
+        }
+
+        /** What stands for each variable of the thread alone, of which the jobs come in order that use it. */
+        private final Map<Object, Object> locals = new WeakHashMap<>();
+
+        private final Set<Object> usedLocals = Collections.newSetFromMap(new IdentityHashMap<>());
+
+        /** The job uses a variable that the thread has for itself. */
+        void usesLocal(Object variable) {
+            if (isInJob && job != null) {
+                Object token = locals.computeIfAbsent(variable, fresh -> new Object());
+                if (usedLocals.add(token)) {
+                    after(token);
+                }
+            }
+        }
+
+        /** The job is over, and the thread is what it was before. */
+        void endJob() {
+            isInJob = false;
+            usedLocals.forEach(Traced::before);
+            usedLocals.clear();
+            if (job != null) {
+                endUnawaited(job, beforeJob);
+                job = null;
+            }
         }
 
         boolean hasTaken(Mark mark) {
@@ -120,7 +214,13 @@ public final class Traced {
 
         Task task() {
             if (task == null) {
-                Thread thread = Thread.currentThread();
+                task = STARTED.known(thread);
+            }
+            if (task == null && thread.getName().equals(LAST)) {
+                task = TRACER.main; // It is the same thread, as the JVM ends behind all others.
+                after(ENDED);
+            }
+            if (task == null) {
                 task = thread.getName().equals("main") && thread.getId() == 1 ? TRACER.main : TRACER.stranger(thread);
             }
             return task;
@@ -241,7 +341,11 @@ public final class Traced {
         if (!Thread.holdsLock(object)) {
             throw new IllegalMonitorStateException("this thread does not have the monitor: enter it by synchronized first");
         }
-        return MONITORS.of(object, () -> new TracedMonitor(object)).enter();
+        return monitorOf(object).enter();
+    }
+
+    static TracedMonitor monitorOf(Object object) {
+        return MONITORS.of(object, () -> new TracedMonitor(object));
     }
 
     /** The executor. Each of its jobs is a task, which comes after its submission. Whoever takes the result comes after the job. */
@@ -352,6 +456,31 @@ public final class Traced {
         return isOn() ? Site.ofCaller() : Site.NONE;
     }
 
+    static Tracer tracer() {
+        return TRACER;
+    }
+
+    /** The thread is about to be started by this one. */
+    static void starts(Thread thread, Site site) {
+        STARTED.of(thread, () -> spawn(thread.getName(), site));
+    }
+
+    /** A thread that the program has started is over. */
+    static void ends(Thread thread) {
+        Task task = STARTED.known(thread);
+        if (task != null && !task.isEnded) {
+            if (!thread.isDaemon()) {
+                before(ENDED);
+            }
+            end(task);
+        }
+    }
+
+    /** The task of a thread that the program has started. Null of others. */
+    static Task started(Thread thread) {
+        return STARTED.known(thread);
+    }
+
     static Own own() {
         return OWN.get();
     }
@@ -411,6 +540,8 @@ public final class Traced {
         Task before = own.task;
         own.dropKept();
         own.task = task;
+        own.stretch = null;
+        own.classes.clear();
         own.taken = null;
         return before;
     }

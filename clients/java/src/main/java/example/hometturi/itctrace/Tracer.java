@@ -12,6 +12,7 @@ import example.hometturi.itctrace.Task.Deed;
 import example.hometturi.itctrace.Task.Held;
 import example.hometturi.itctrace.Task.HeldLock;
 import example.hometturi.itctrace.Task.Segment;
+import example.hometturi.itctrace.Task.Stretch;
 import example.hometturi.itctrace.Task.Touch;
 import example.hometturi.itctrace.Task.Touches;
 import java.io.BufferedReader;
@@ -252,7 +253,7 @@ final class Tracer {
                     String kind = writes ? "write" : "read";
                     String named = isAcross ? thing : thing + " of " + process;
                     List<String> locks = held == null ? List.of() : held.inOrder();
-                    return new Row(task.name, named, kind, site, kind + " " + thing, locks, null, List.of(), 0);
+                    return new Row(task.name, named, kind, site, kind + " " + thing, locks, null, List.of(), 0, null);
                 });
     }
 
@@ -269,7 +270,7 @@ final class Tracer {
                 () -> {
                     List<String> held = locks.subList(0, locks.size() - 1).stream().map(HeldLock::lock).toList();
                     String label = "acquire " + wanted.lock().substring(wanted.lock().indexOf(' ') + 1);
-                    return new Row(task.name, null, "local", wanted.site(), label, held, null, locks, 0);
+                    return new Row(task.name, null, "local", wanted.site(), label, held, null, locks, 0, null);
                 });
     }
 
@@ -301,16 +302,78 @@ final class Tracer {
 
     /** Reports the event of a segment, if it has touches and is not reported yet. */
     private void tellTouches(Task task, Segment segment) {
-        if (segment.event != null || segment.rows.isEmpty()) {
+        if (segment.event != null || segment.rows.isEmpty() && !segment.isWatched) {
             return;
         }
         segment.event = new Touches();
+        segment.stretch.tell(segment.event);
         task.time = Math.max(segment.time, task.time);
-        segment.rows.set(0, segment.rows.get(0).withTime(task.time));
+        if (segment.rows.isEmpty()) {
+            segment.rows.add(Row.at(task.time, task.name, "local", Site.NONE, "touch", null));
+        } else {
+            segment.rows.set(0, segment.rows.get(0).withTime(task.time));
+        }
         segment.event.fresh = segment.rows;
         segment.rows = new ArrayList<>();
-        growing.add(segment.event);
+        grows(segment.event);
         report(new Report("local " + task.name, null, segment.event, Refusable.NEVER, null));
+    }
+
+    private void grows(Touches touches) {
+        if (!touches.isGrowing) {
+            touches.isGrowing = true;
+            growing.add(touches);
+        }
+    }
+
+    /** What the task does from here to its next synchronization. It gets an event, also if no row is ever added. Null without a trace. */
+    synchronized Stretch stretch(Task task) {
+        holdBack();
+        if (stage == Stage.OVER) {
+            return null;
+        }
+        Segment segment = task.grow();
+        segment.isWatched = true;
+        if (segment.time == 0) {
+            segment.time = Row.now();
+        }
+        advance(task);
+        done(task);
+        return segment.stretch;
+    }
+
+    /** What was touched in a program that is watched as it is, what a person calls it, and how it was touched. */
+    record Watching(String thing, String name, String kind) {}
+
+    /** In the stretch the task has touched the thing, which is of this process. */
+    synchronized void touched(Task task, Stretch stretch, Watching what, Site site, Held held) {
+        if (stage == Stage.OVER) {
+            return;
+        }
+        List<String> locks = held == null ? List.of() : held.inOrder();
+        String label = what.kind() + " " + what.name();
+        Row row = new Row(task.name, what.thing() + " of " + process, what.kind(), site, label, locks, null, List.of(), 0, what.name());
+        Touches told = stretch.add(row);
+        if (told != null) {
+            grows(told);
+        }
+        if (stage == Stage.ENDING) {
+            settle();
+        }
+    }
+
+    /** What is done at this place is not followed, or not looked into. */
+    synchronized void passOver(String what, Site site) {
+        if (stage != Stage.OVER) {
+            unwritten.append(Row.passedOver(what, site));
+        }
+    }
+
+    /** A part of the program is not seen. */
+    synchronized void miss(String reason) {
+        if (stage != Stage.OVER) {
+            unwritten.append(Row.unseen("module", reason));
+        }
     }
 
     private static void close(Segment segment) {
@@ -360,6 +423,7 @@ final class Tracer {
         }
         task.here = here;
         task.open = new ArrayList<>(List.of(new Segment(here)));
+        task.stretches++;
     }
 
     /** Nobody comes after the release of a lock that is no more. So what stands before it and behind it is one event. */
@@ -830,7 +894,10 @@ final class Tracer {
                 touches.fresh = new ArrayList<>();
             }
         }
-        growing.removeIf(touches -> touches.isClosed && touches.event != null);
+        for (Touches touches : growing) {
+            touches.isGrowing = !touches.isClosed || touches.event == null;
+        }
+        growing.removeIf(touches -> !touches.isGrowing);
     }
 
     // The thread that reads replies

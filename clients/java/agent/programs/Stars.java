@@ -1,0 +1,295 @@
+import java.lang.reflect.Field;
+import java.util.ArrayList;
+import java.util.HashMap;
+import java.util.List;
+import java.util.Map;
+import java.util.concurrent.ArrayBlockingQueue;
+import java.util.concurrent.BlockingQueue;
+import java.util.concurrent.BrokenBarrierException;
+import java.util.concurrent.CompletableFuture;
+import java.util.concurrent.ConcurrentHashMap;
+import java.util.concurrent.ConcurrentMap;
+import java.util.concurrent.CyclicBarrier;
+import java.util.concurrent.ForkJoinPool;
+import java.util.concurrent.RecursiveTask;
+import java.util.concurrent.locks.Condition;
+import java.util.concurrent.locks.Lock;
+import java.util.concurrent.locks.ReadWriteLock;
+import java.util.concurrent.locks.ReentrantLock;
+import java.util.concurrent.locks.ReentrantReadWriteLock;
+import java.util.stream.IntStream;
+
+/**
+ * Programs that do what is not followed exactly. No race is told of them, and each line that says so in a comment is named as not looked
+ * into.
+ */
+public final class Stars {
+    static final class Store {
+        int left = 2;
+        String owner = "nobody";
+    }
+
+    static void both(Runnable one, Runnable other) throws InterruptedException {
+        Thread first = new Thread(one, "first");
+        Thread second = new Thread(other, "second");
+        first.start();
+        second.start();
+        first.join();
+        second.join();
+    }
+
+    private static void rest() {
+        try {
+            Thread.sleep(30);
+        } catch (InterruptedException interrupted) {
+            Thread.currentThread().interrupt();
+        }
+    }
+
+    static void sharedMap() throws InterruptedException {
+        Map<String, Integer> stock = new HashMap<>();
+        both(
+                () -> stock.put("apple", 1), // star: sharedMap
+                () -> stock.put("pear", 2)); // star: sharedMap
+    }
+
+    static void sharedList() throws InterruptedException {
+        List<String> names = new ArrayList<>();
+        both(
+                () -> names.add("one"), // star: sharedList
+                () -> {
+                    for (String name : names) { // star: sharedList
+                        System.out.println(name.length());
+                    }
+                });
+    }
+
+    static void sharedArray() throws InterruptedException {
+        int[] counts = new int[2];
+        both(
+                () -> counts[0]++, // star: sharedArray
+                () -> counts[1]++); // star: sharedArray
+        System.out.println(counts[0] + counts[1]);
+    }
+
+    static void sharedText() throws InterruptedException {
+        StringBuilder text = new StringBuilder();
+        both(
+                () -> text.append("one"), // star: sharedText
+                () -> System.out.println(text.length() >= 0)); // star: sharedText
+    }
+
+    static void concurrentMap() throws InterruptedException {
+        ConcurrentMap<String, Store> stores = new ConcurrentHashMap<>();
+        both(
+                () -> {
+                    Store store = new Store();
+                    store.left = 7;
+                    stores.put("north", store);
+                },
+                () -> {
+                    Store store = stores.get("north");
+                    while (store == null) {
+                        Thread.onSpinWait();
+                        store = stores.get("north");
+                    }
+                    System.out.println(store.left);
+                });
+    }
+
+    static void computed() throws InterruptedException {
+        ConcurrentMap<String, Store> stores = new ConcurrentHashMap<>();
+        Runnable grow =
+                () -> {
+                    for (int turn = 0; turn < 20; turn++) {
+                        stores.compute( // star: computed
+                                "north",
+                                (name, before) -> {
+                                    Store store = before == null ? new Store() : before;
+                                    store.left++;
+                                    return store;
+                                });
+                    }
+                };
+        both(grow, grow);
+    }
+
+    static void queued() throws InterruptedException {
+        BlockingQueue<Store> orders = new ArrayBlockingQueue<>(2);
+        both(
+                () -> {
+                    try {
+                        for (int turn = 0; turn < 5; turn++) {
+                            Store store = new Store();
+                            store.left = turn;
+                            orders.put(store);
+                        }
+                    } catch (InterruptedException interrupted) {
+                        Thread.currentThread().interrupt();
+                    }
+                },
+                () -> {
+                    try {
+                        for (int turn = 0; turn < 5; turn++) {
+                            Store store = orders.take();
+                            store.left++;
+                        }
+                    } catch (InterruptedException interrupted) {
+                        Thread.currentThread().interrupt();
+                    }
+                });
+    }
+
+    static void readers() throws InterruptedException {
+        ReadWriteLock lock = new ReentrantReadWriteLock();
+        Store store = new Store();
+        both(
+                () -> {
+                    for (int turn = 0; turn < 10; turn++) {
+                        lock.writeLock().lock();
+                        try {
+                            store.left++;
+                        } finally {
+                            lock.writeLock().unlock();
+                        }
+                    }
+                },
+                () -> {
+                    Lock reading = lock.readLock();
+                    for (int turn = 0; turn < 10; turn++) {
+                        reading.lock();
+                        try {
+                            System.out.println(store.left > 0);
+                        } finally {
+                            reading.unlock();
+                        }
+                    }
+                });
+    }
+
+    static void conditionOfWriters() throws InterruptedException {
+        ReentrantReadWriteLock lock = new ReentrantReadWriteLock();
+        Condition isFull = lock.writeLock().newCondition();
+        Store store = new Store();
+        both(
+                () -> {
+                    rest(); // The other one waits by then.
+                    lock.writeLock().lock();
+                    try {
+                        store.left = 9;
+                        isFull.signalAll();
+                    } finally {
+                        lock.writeLock().unlock();
+                    }
+                },
+                () -> {
+                    lock.writeLock().lock();
+                    try {
+                        while (store.left != 9) {
+                            isFull.awaitUninterruptibly();
+                        }
+                        System.out.println(store.left);
+                    } finally {
+                        lock.writeLock().unlock();
+                    }
+                });
+    }
+
+    static void completed() throws Exception {
+        Store store = new Store();
+        CompletableFuture<Integer> sold =
+                CompletableFuture.supplyAsync( // star: completed
+                        () -> {
+                            store.left--;
+                            return 1;
+                        });
+        CompletableFuture<String> told =
+                sold.thenApply(
+                                count -> {
+                                    store.owner = "bob";
+                                    return "sold " + count;
+                                })
+                        .thenCombine(CompletableFuture.supplyAsync(() -> "!"), (one, other) -> one + other);
+        System.out.println(told.join() + store.left + store.owner);
+    }
+
+    static final class Sum extends RecursiveTask<Long> {
+        private static final long serialVersionUID = 1;
+        private final int from;
+        private final int to;
+        private long sum;
+
+        Sum(int from, int to) {
+            this.from = from;
+            this.to = to;
+        }
+
+        @Override
+        protected Long compute() {
+            if (to - from < 200) {
+                for (int number = from; number < to; number++) {
+                    sum += number;
+                }
+            } else {
+                Sum left = new Sum(from, (from + to) / 2);
+                Sum right = new Sum((from + to) / 2, to);
+                left.fork();
+                right.compute();
+                left.join(); // star: forked
+                sum = left.sum + right.sum;
+            }
+            return sum;
+        }
+    }
+
+    static void forked() {
+        Sum sum = new Sum(0, 2_000);
+        new ForkJoinPool(3).invoke(sum);
+        System.out.println(sum.sum);
+    }
+
+    static void inParallel() {
+        Store store = new Store();
+        store.left = 5;
+        int sum = IntStream.range(0, 1_000).parallel().map(number -> number + store.left).sum(); // star: inParallel
+        store.left = sum;
+        System.out.println(store.left);
+    }
+
+    static void barrier() throws InterruptedException {
+        CyclicBarrier barrier = new CyclicBarrier(2);
+        Store one = new Store();
+        Store other = new Store();
+        both(() -> meet(barrier, one, other), () -> meet(barrier, other, one));
+    }
+
+    private static void meet(CyclicBarrier barrier, Store own, Store others) {
+        try {
+            own.left = 4;
+            barrier.await();
+            System.out.println(others.left);
+        } catch (InterruptedException | BrokenBarrierException failed) {
+            throw new IllegalStateException(failed);
+        }
+    }
+
+    static void reflected() throws Exception {
+        Store store = new Store();
+        Field field = Store.class.getDeclaredField("left");
+        field.setInt(store, 3); // star: reflected
+        System.out.println(store.left);
+    }
+
+    static void handedOn() {
+        ReentrantLock lock = new ReentrantLock();
+        Runnable acquire = lock::lock; // star: handedOn
+        acquire.run();
+        lock.unlock();
+    }
+
+    private Stars() {}
+
+    public static void main(String[] words) throws Exception {
+        Stars.class.getDeclaredMethod(words[0]).invoke(null);
+    }
+}

@@ -1,0 +1,103 @@
+package example.hometturi.itctrace;
+
+import jdk.internal.misc.Unsafe;
+
+/** A class that is watched: where its objects keep what is known of their variables, and who has initialized it. */
+public final class Type {
+    /** The field that is added to a class, for what is known of the variables of an object. */
+    public static final String CELLS = "itctrace$cells";
+
+    private static final Unsafe UNSAFE = Unsafe.getUnsafe();
+    private static final long UNKNOWN = -1;
+    private static final long NONE = -2;
+
+    private final String name;
+    /** How many variables an object has by this class. */
+    private int size;
+
+    private volatile long offset = UNKNOWN;
+    /** Where the variables of objects lie that have no such field. */
+    private final Keyed<Object[]> cells = new Keyed<>();
+
+    /** The end of its initialization. Null if that is not over, or does nothing. */
+    private volatile Place.Mark initialized;
+
+    /** By the name that a class file has. */
+    public Type(String name) {
+        this.name = name.replace('/', '.');
+    }
+
+    /** As a class file names it. */
+    public String internalName() {
+        return name.replace('.', '/');
+    }
+
+    public void setSize(int variables) {
+        size = variables;
+    }
+
+    /** What is known of a variable of the object. */
+    Object cellOf(Object object, Field field) {
+        Object[] known = cellsOf(object);
+        Object cell = known[field.index];
+        if (cell == null) {
+            synchronized (known) {
+                cell = known[field.index];
+                if (cell == null) {
+                    cell = field.newCell();
+                    UNSAFE.storeFence(); // Others see it whole.
+                    known[field.index] = cell;
+                }
+            }
+        }
+        return cell;
+    }
+
+    private Object[] cellsOf(Object object) {
+        long at = offset;
+        if (at == UNKNOWN) {
+            at = find(object);
+        }
+        if (at == NONE) {
+            return cells.of(object, () -> new Object[size]);
+        }
+        Object known = UNSAFE.getReference(object, at);
+        if (known == null) {
+            Object[] fresh = new Object[size];
+            known = UNSAFE.compareAndExchangeReference(object, at, null, fresh);
+            return known == null ? fresh : (Object[]) known;
+        }
+        return (Object[]) known;
+    }
+
+    private long find(Object object) {
+        for (Class<?> type = object.getClass(); type != null; type = type.getSuperclass()) {
+            if (type.getName().equals(name)) {
+                offset = offsetIn(type);
+                return offset;
+            }
+        }
+        return NONE;
+    }
+
+    private static long offsetIn(Class<?> type) {
+        try {
+            return UNSAFE.objectFieldOffset(type, CELLS);
+        } catch (InternalError missing) {
+            return NONE; // The class runs as it is.
+        }
+    }
+
+    /** This thread has initialized the class. */
+    void initialized() {
+        initialized = Traced.mark(Watched.INITIALIZED, Traced.site());
+    }
+
+    /** This thread sees a class that is initialized. */
+    void seen() {
+        Place.Mark mark = initialized;
+        if (mark != null && Traced.isOn() && Traced.own().seesFirst(this)) {
+            Traced.take(mark, Traced.site());
+        }
+    }
+}

@@ -1,0 +1,778 @@
+package example.hometturi.itctrace;
+
+import example.hometturi.itctrace.Cell.Place;
+import example.hometturi.itctrace.Place.Gives;
+import example.hometturi.itctrace.Row.Site;
+import example.hometturi.itctrace.Traced.Own;
+import java.util.Arrays;
+import java.util.ArrayDeque;
+import java.util.Date;
+import java.util.Deque;
+import java.util.Set;
+import java.util.concurrent.CompletableFuture;
+import java.util.concurrent.CountDownLatch;
+import java.util.concurrent.ForkJoinTask;
+import java.util.concurrent.FutureTask;
+import java.util.concurrent.ScheduledThreadPoolExecutor;
+import java.util.concurrent.Semaphore;
+import java.util.concurrent.ThreadPoolExecutor;
+import java.util.concurrent.TimeUnit;
+import java.util.concurrent.atomic.AtomicBoolean;
+import java.util.concurrent.atomic.AtomicInteger;
+import java.util.concurrent.atomic.AtomicLong;
+import java.util.concurrent.atomic.AtomicReference;
+import java.util.concurrent.locks.Condition;
+import java.util.concurrent.locks.Lock;
+import java.util.concurrent.locks.ReentrantLock;
+import java.util.function.BiFunction;
+import java.util.function.BinaryOperator;
+import java.util.function.Function;
+import java.util.function.Supplier;
+import java.util.function.UnaryOperator;
+
+/** What the code of a watched class calls, by the agent. No call throws anything that what stood there does not throw. */
+public final class Watched {
+    static final Gives INITIALIZED = Gives.order("class", "initialize class", "use class");
+    private static final Gives VOLATILE = Gives.order("volatile", "write volatile", "read volatile");
+    private static final Gives ATOMIC = Gives.order("atomic", "write atomic", "read atomic");
+
+    private static final int MOST_NANOSECONDS = 999_999;
+    private static final String FRAMES = "example.hometturi.itctrace.";
+    private static final String CONCURRENT = "java.util.concurrent.";
+
+    /** Those of the JDK whose orders are followed. */
+    private static final Set<Class<?>> FOLLOWED =
+            Set.of(
+                    CountDownLatch.class,
+                    Semaphore.class,
+                    ReentrantLock.class,
+                    AtomicBoolean.class,
+                    AtomicInteger.class,
+                    AtomicLong.class,
+                    AtomicReference.class,
+                    TimeUnit.class);
+
+    /** Those that tell of their orders by themselves, and what is below them. */
+    private static final Set<Class<?>> EXACT =
+            Set.of(FutureTask.class, ThreadPoolExecutor.class, CompletableFuture.class, ForkJoinTask.class);
+
+    /** Whether an object gives an order that is not followed exactly, by its class. */
+    private static final ClassValue<Boolean> IS_UNFOLLOWED =
+            new ClassValue<>() {
+                @Override
+                protected Boolean computeValue(Class<?> type) {
+                    return isUnfollowed(type);
+                }
+            };
+
+    private static final Keyed<VolatileCell> ATOMICS = new Keyed<>();
+    private static final Keyed<TracedLock> LOCKS = new Keyed<>();
+    private static final Keyed<TracedLock> CONDITIONS = new Keyed<>();
+    private static final Keyed<Deque<Task>> JOBS = new Keyed<>();
+    private static final Keyed<Shared> SHARED = new Keyed<>();
+
+    private static volatile Place[] places = new Place[0];
+    private static int placeCount;
+    private static volatile Type[] types = new Type[0];
+    private static volatile Call[] calls = new Call[0];
+
+    /** A call that is not followed exactly. It is told when it is done for the first time. */
+    private static final class Call {
+        private final String what;
+        private final Site site;
+        private volatile boolean isTold;
+
+        Call(String what, Site site) {
+            this.what = what;
+            this.site = site;
+        }
+
+        void tell() {
+            if (!isTold && Traced.isOn()) {
+                isTold = true;
+                Traced.tracer().passOver(what, site);
+            }
+        }
+    }
+
+    private Watched() {}
+
+    /** Whether the environment names a collector. */
+    public static boolean isOn() {
+        return Traced.isOn();
+    }
+
+    /** The file of a class by its package, as files of two packages may have one name. Null if the class does not say its file. */
+    public static String fileOf(String type, String name) {
+        return Site.fileOf(type.replace('/', '.'), name);
+    }
+
+    // What the agent asks for while it rewrites a class
+
+    /** The number of a place that touches a field. */
+    public static synchronized int placeOf(Field field, boolean writes, String file, int line, String function) {
+        if (placeCount == places.length) {
+            places = Arrays.copyOf(places, 2 * placeCount + 64);
+        }
+        places[placeCount] = new Place(field, writes, new Site(file, line, function));
+        return placeCount++;
+    }
+
+    /** The number of a class that has something to initialize. */
+    public static synchronized int numberOf(Type type) {
+        Type[] longer = Arrays.copyOf(types, types.length + 1);
+        longer[types.length] = type;
+        types = longer;
+        return types.length - 1;
+    }
+
+    /** The number of a call that may have to be told as not followed. */
+    public static synchronized int callOf(String what, String file, int line) {
+        Call[] longer = Arrays.copyOf(calls, calls.length + 1);
+        longer[calls.length] = new Call(what, new Site(file, line, ""));
+        calls = longer;
+        return calls.length - 1;
+    }
+
+    /** Something is not looked into. */
+    public static void passOver(String what, String file, int line) {
+        if (Traced.isOn()) {
+            Traced.tracer().passOver(what, new Site(file, line, ""));
+        }
+    }
+
+    /** The program runs as it is. */
+    public static void unwatched(String why) {
+        if (Traced.isOn()) {
+            Traced.tracer().miss("nothing of the program was watched: " + why);
+        }
+    }
+
+    /** A class runs as it is. */
+    public static void unwatched(String name, String why) {
+        if (Traced.isOn()) {
+            Traced.tracer().miss("class " + name + " was not watched: " + why);
+        }
+    }
+
+    // Fields
+
+    public static void touch(Object object, int number) {
+        if (object != null) {
+            Place place = places[number];
+            Field field = place.field();
+            ((Cell) field.type().cellOf(object, field)).touch(place);
+        }
+    }
+
+    public static void touch(int number) {
+        Place place = places[number];
+        ((Cell) place.field().cell).touch(place);
+    }
+
+    private static VolatileCell volatileOf(Object object, Place place) {
+        Field field = place.field();
+        return (VolatileCell) (field.isStatic() ? field.cell : field.type().cellOf(object, field));
+    }
+
+    /** An access to a volatile field begins. It ends at once, as nothing stands between that throws if there is an object. */
+    public static void begin(Object object, int number) {
+        Place place = places[number];
+        if (object != null || place.field().isStatic()) {
+            VolatileCell cell = volatileOf(object, place);
+            if (place.writes()) {
+                cell.beginWrite(VOLATILE, place.site());
+            } else {
+                cell.begin();
+            }
+        }
+    }
+
+    public static void end(Object object, int number) {
+        Place place = places[number];
+        VolatileCell cell = volatileOf(object, place);
+        if (place.writes()) {
+            cell.end();
+        } else {
+            cell.endRead(place.site());
+        }
+    }
+
+    public static void begin(int number) {
+        begin(null, number);
+    }
+
+    public static void end(int number) {
+        end(null, number);
+    }
+
+    // What is watched as a whole
+
+    public static void whole(Object object, int number) {
+        Wholes.touch(object, places[number]);
+    }
+
+    public static void element(Object array, int number) {
+        Wholes.touchArray(array, places[number]);
+    }
+
+    public static void derive(Object given, Object shown) {
+        Wholes.derive(given, shown);
+    }
+
+    // Classes
+
+    public static void initialized(int type) {
+        types[type].initialized();
+    }
+
+    public static void sees(int type) {
+        types[type].seen();
+    }
+
+    /** What a class declares, without what the agent has added. */
+    public static java.lang.reflect.Field[] declared(java.lang.reflect.Field[] fields) {
+        for (java.lang.reflect.Field one : fields) {
+            if (one.getName().equals(Type.CELLS)) {
+                return Arrays.stream(fields).filter(field -> !field.getName().equals(Type.CELLS)).toArray(java.lang.reflect.Field[]::new);
+            }
+        }
+        return fields;
+    }
+
+    // Monitors
+
+    public static void entered(Object object) {
+        Traced.monitorOf(object).enter();
+    }
+
+    public static void exiting(Object object) {
+        Traced.monitorOf(object).close();
+    }
+
+    public static void await(Object object) throws InterruptedException {
+        waitFor(object, 0, () -> object.wait());
+    }
+
+    public static void await(Object object, long milliseconds) throws InterruptedException {
+        waitFor(object, milliseconds, () -> object.wait(milliseconds));
+    }
+
+    public static void await(Object object, long milliseconds, int nanoseconds) throws InterruptedException {
+        boolean isRight = nanoseconds >= 0 && nanoseconds <= MOST_NANOSECONDS;
+        long time = nanoseconds > 0 && milliseconds < Long.MAX_VALUE ? milliseconds + 1 : milliseconds;
+        waitFor(object, isRight ? time : -1, () -> object.wait(milliseconds, nanoseconds));
+    }
+
+    /** A wait as the program has it. */
+    private interface Wait {
+        void run() throws InterruptedException;
+    }
+
+    /** Waits, or throws what is wrong. */
+    private static void waitFor(Object object, long milliseconds, Wait plain) throws InterruptedException {
+        try {
+            if (milliseconds < 0 || !Thread.holdsLock(object)) {
+                plain.run();
+            } else {
+                Traced.monitorOf(object).await(milliseconds);
+            }
+        } catch (InterruptedException | RuntimeException thrown) {
+            strip(thrown);
+            throw thrown;
+        }
+    }
+
+    /** The same as if the program had called the JDK by itself. */
+    private static void strip(Throwable thrown) {
+        thrown.setStackTrace(
+                Arrays.stream(thrown.getStackTrace()).filter(frame -> !frame.getClassName().startsWith(FRAMES)).toArray(StackTraceElement[]::new));
+    }
+
+    // Threads
+
+    public static void threadStarts(Thread thread) {
+        boolean isOther = thread.getClass().getName().startsWith("jdk.internal.") || thread.getName().startsWith("itctrace ");
+        if (Traced.isOn() && !isOther && thread.getState() == Thread.State.NEW) {
+            Traced.starts(thread, Traced.site());
+        }
+    }
+
+    public static void threadEnds(Thread thread) {
+        if (Traced.isOn()) {
+            Traced.ends(thread);
+        }
+    }
+
+    /** This thread may have waited for the end of the other one. */
+    public static void threadJoined(Thread thread) {
+        if (Traced.isOn() && !thread.isAlive()) {
+            Traced.join(Traced.started(thread), Traced.site());
+        }
+    }
+
+    public static boolean isAlive(Thread thread, boolean isAlive) {
+        if (!isAlive) {
+            threadJoined(thread);
+        }
+        return isAlive;
+    }
+
+    public static void interrupts(Thread thread) {
+        if (Traced.isOn()) {
+            Traced.before(thread);
+        }
+    }
+
+    /** Whether this thread was interrupted. */
+    public static boolean interrupted(boolean isInterrupted) {
+        return isInterrupted(Thread.currentThread(), isInterrupted);
+    }
+
+    public static boolean isInterrupted(Thread thread, boolean isInterrupted) {
+        return takesIf(isInterrupted, thread);
+    }
+
+    /** A handler of this thread has caught what may tell that it was interrupted. */
+    public static void caught(Object thrown) {
+        if (thrown instanceof InterruptedException) {
+            Traced.after(Thread.currentThread());
+        }
+    }
+
+    // Orders of the JDK that an object gives
+
+    public static void gives(Object token) {
+        if (token != null) {
+            Traced.before(token);
+        }
+    }
+
+    public static void takes(Object token) {
+        if (token != null) {
+            Traced.after(token);
+        }
+    }
+
+    /** The call has seen what another thread has done, if it says so. */
+    public static boolean takesIf(boolean isSeen, Object token) {
+        if (isSeen) {
+            takes(token);
+        }
+        return isSeen;
+    }
+
+    /** What a future has, if it has it. */
+    public static Object seesResult(Object future, Object result) {
+        takesIf(result != null, future);
+        return result;
+    }
+
+    /** What a task of a fork-join pool says of itself. It is below zero once it is over. */
+    public static int seesStatus(Object task, int status) {
+        takesIf(status < 0, task);
+        return status;
+    }
+
+    public static int waited(int status, Object task) {
+        return seesStatus(task, status);
+    }
+
+    /** For how many parts a task waits. This thread may be about to count one of them, or has seen the last. */
+    public static int seesPending(Object task, int pending) {
+        gives(task);
+        takesIf(pending == 0, task);
+        return pending;
+    }
+
+    public static long takesIfZero(long count, Object token) {
+        takesIf(count == 0, token);
+        return count;
+    }
+
+    // Executors
+
+    public static void submitted(ThreadPoolExecutor executor, Runnable job) {
+        if (job == null || !Traced.isOn()) {
+            return;
+        }
+        if (isSequential(executor)) {
+            Traced.before(job);
+            return;
+        }
+        Deque<Task> tasks = JOBS.of(job, ArrayDeque::new);
+        Task task = Traced.spawn("job", Traced.site());
+        if (task != null) {
+            synchronized (tasks) {
+                tasks.add(task);
+            }
+        }
+    }
+
+    /** Whether one thread does all jobs. A queue without a limit never has the executor start more threads than its core. */
+    private static boolean isSequential(ThreadPoolExecutor executor) {
+        boolean isUnlimited = executor instanceof ScheduledThreadPoolExecutor || executor.getQueue().remainingCapacity() > Integer.MAX_VALUE / 2;
+        return executor.getMaximumPoolSize() == 1 || isUnlimited && executor.getCorePoolSize() <= 1;
+    }
+
+    /** This thread uses a variable that it has for itself alone. */
+    public static void local(Object variable) {
+        if (variable != null && Traced.isOn()) {
+            Traced.own().usesLocal(variable);
+        }
+    }
+
+    public static void jobBegins(Runnable job) {
+        if (Traced.isOn()) {
+            Task task = taskOf(job);
+            if (task != null) {
+                Traced.before(job); // What the executor does in this thread before a job.
+            }
+            Traced.own().beginJob(task);
+            Traced.after(job);
+        }
+    }
+
+    private static Task taskOf(Runnable job) {
+        Deque<Task> tasks = JOBS.known(job);
+        if (tasks == null) {
+            return null;
+        }
+        synchronized (tasks) {
+            return tasks.poll();
+        }
+    }
+
+    public static void jobEnds(Object executor) {
+        if (Traced.isOn() && Traced.own().isInJob()) {
+            Traced.before(executor);
+            Traced.own().endJob();
+        }
+    }
+
+    // Locks
+
+    private static TracedLock followed(Lock lock) {
+        return lock instanceof ReentrantLock ? LOCKS.of(lock, () -> new TracedLock(new ReentrantLock())) : null;
+    }
+
+    /** A thread that only tries has not waited for the lock. */
+    private static boolean acquired(Lock lock, boolean isAcquired, boolean hasWaited) {
+        TracedLock followed = isAcquired ? followed(lock) : null;
+        if (followed != null) {
+            followed.acquired(hasWaited);
+        }
+        return isAcquired;
+    }
+
+    public static void lock(Lock lock) {
+        try {
+            lock.lock();
+        } catch (RuntimeException | Error thrown) {
+            strip(thrown);
+            throw thrown;
+        }
+        acquired(lock, true, true);
+    }
+
+    public static void lockInterruptibly(Lock lock) throws InterruptedException {
+        try {
+            lock.lockInterruptibly();
+        } catch (RuntimeException | Error | InterruptedException thrown) {
+            strip(thrown);
+            throw thrown;
+        }
+        acquired(lock, true, true);
+    }
+
+    public static boolean tryLock(Lock lock) {
+        try {
+            return acquired(lock, lock.tryLock(), false);
+        } catch (RuntimeException | Error thrown) {
+            strip(thrown);
+            throw thrown;
+        }
+    }
+
+    public static boolean tryLock(Lock lock, long time, TimeUnit unit) throws InterruptedException {
+        try {
+            return acquired(lock, lock.tryLock(time, unit), false);
+        } catch (RuntimeException | Error | InterruptedException thrown) {
+            strip(thrown);
+            throw thrown;
+        }
+    }
+
+    public static void unlock(Lock lock) {
+        try {
+            TracedLock followed = followed(lock);
+            if (followed != null) {
+                followed.releasing(false);
+            }
+            lock.unlock();
+        } catch (RuntimeException | Error thrown) {
+            strip(thrown);
+            throw thrown;
+        }
+    }
+
+    public static Condition newCondition(Lock lock) {
+        try {
+            Condition condition = lock.newCondition();
+            TracedLock followed = followed(lock);
+            if (followed != null) {
+                followed.becomeGuard();
+                CONDITIONS.of(condition, () -> followed);
+            } else if (IS_UNFOLLOWED.get(lock.getClass())) {
+                Shared shared = sharedOf(lock);
+                SHARED.of(condition, () -> shared);
+            }
+            return condition;
+        } catch (RuntimeException | Error thrown) {
+            strip(thrown);
+            throw thrown;
+        }
+    }
+
+    private static Runnable lend(Condition condition) {
+        TracedLock followed = condition == null ? null : CONDITIONS.known(condition);
+        Shared shared = condition == null || !Traced.isOn() ? null : SHARED.known(condition);
+        if (shared != null) {
+            shared.order();
+            return shared::order;
+        }
+        return followed == null ? () -> {} : followed.lend();
+    }
+
+    public static void await(Condition condition) throws InterruptedException {
+        Runnable again = lend(condition);
+        try {
+            condition.await();
+        } catch (RuntimeException | Error | InterruptedException thrown) {
+            strip(thrown);
+            throw thrown;
+        } finally {
+            again.run();
+        }
+    }
+
+    public static void awaitUninterruptibly(Condition condition) {
+        Runnable again = lend(condition);
+        try {
+            condition.awaitUninterruptibly();
+        } catch (RuntimeException | Error thrown) {
+            strip(thrown);
+            throw thrown;
+        } finally {
+            again.run();
+        }
+    }
+
+    public static boolean await(Condition condition, long time, TimeUnit unit) throws InterruptedException {
+        Runnable again = lend(condition);
+        try {
+            return condition.await(time, unit);
+        } catch (RuntimeException | Error | InterruptedException thrown) {
+            strip(thrown);
+            throw thrown;
+        } finally {
+            again.run();
+        }
+    }
+
+    public static long awaitNanos(Condition condition, long time) throws InterruptedException {
+        Runnable again = lend(condition);
+        try {
+            return condition.awaitNanos(time);
+        } catch (RuntimeException | Error | InterruptedException thrown) {
+            strip(thrown);
+            throw thrown;
+        } finally {
+            again.run();
+        }
+    }
+
+    public static boolean awaitUntil(Condition condition, Date deadline) throws InterruptedException {
+        Runnable again = lend(condition);
+        try {
+            return condition.awaitUntil(deadline);
+        } catch (RuntimeException | Error | InterruptedException thrown) {
+            strip(thrown);
+            throw thrown;
+        } finally {
+            again.run();
+        }
+    }
+
+    // Atomics: each access and its report are one
+
+    public static void beginAtomic(Object atomic) {
+        if (atomic != null) {
+            ATOMICS.of(atomic, VolatileCell::new).begin();
+        }
+    }
+
+    public static void endAtomicRead(Object atomic) {
+        ATOMICS.of(atomic, VolatileCell::new).endRead(Traced.site());
+    }
+
+    public static void endAtomicWrite(Object atomic) {
+        ATOMICS.of(atomic, VolatileCell::new).endWrite(ATOMIC, Traced.site());
+    }
+
+    public static boolean endAtomicTry(boolean isChanged, Object atomic) {
+        if (isChanged) {
+            endAtomicChange(atomic);
+        } else {
+            endAtomicRead(atomic);
+        }
+        return isChanged;
+    }
+
+    /** What is done with the atomic from here on comes after all that was done with it before, and the other way round. */
+    public static void orderAtomic(Object atomic) {
+        if (atomic != null) {
+            beginAtomic(atomic);
+            endAtomicChange(atomic);
+        }
+    }
+
+    public static void endAtomicChange(Object atomic) {
+        ATOMICS.of(atomic, VolatileCell::new).endChange(ATOMIC, Traced.site());
+    }
+
+    // What is not followed exactly
+
+    /** Such a call orders all that is done by the same object. It is told once two tasks use that. */
+    public static void calling(Object object, int call) {
+        if (object != null && Traced.isOn() && IS_UNFOLLOWED.get(object.getClass())) {
+            Shared shared = sharedOf(object);
+            if (shared.isUsedBySeveral(Traced.own().task())) {
+                calls[call].tell();
+            }
+            shared.order();
+        }
+    }
+
+    public static void called(Object object, int call) {
+        if (Traced.isOn() && IS_UNFOLLOWED.get(object.getClass())) {
+            sharedOf(object).order();
+        }
+    }
+
+    /** What a call has given may be a part of the object, as the lock of its readers is. */
+    public static void part(Object given, Object object) {
+        if (given != null && given != object && Traced.isOn() && isPart(given, object)) {
+            Shared shared = sharedOf(object);
+            SHARED.of(given, () -> shared);
+        }
+    }
+
+    private static boolean isPart(Object given, Object object) {
+        return IS_UNFOLLOWED.get(object.getClass()) && (given instanceof Condition || IS_UNFOLLOWED.get(given.getClass()));
+    }
+
+    private static Shared sharedOf(Object object) {
+        return SHARED.of(object, Shared::new);
+    }
+
+    /** An object that orders what its users do, in a way that is not followed exactly. */
+    private static final class Shared {
+        private final Object token = new Object();
+        private Task user;
+        private volatile boolean isUsedBySeveral;
+
+        synchronized boolean isUsedBySeveral(Task task) {
+            user = user == null ? task : user;
+            isUsedBySeveral |= user != task;
+            return isUsedBySeveral;
+        }
+
+        void order() {
+            Traced.after(token);
+            Traced.before(token);
+        }
+    }
+
+    /** A function that an object calls while it has others wait, or once it has seen what they did. */
+    private record Ordered(Object object) {
+        <T> T of(Supplier<T> body) {
+            order();
+            try {
+                return body.get();
+            } catch (RuntimeException | Error thrown) {
+                strip(thrown);
+                throw thrown;
+            } finally {
+                order();
+            }
+        }
+
+        private void order() {
+            if (isAtomic(object)) {
+                orderAtomic(object);
+            } else {
+                sharedOf(object).order();
+            }
+        }
+    }
+
+    private static Ordered orderedBy(Object object) {
+        boolean isOrdering = object != null && Traced.isOn() && (IS_UNFOLLOWED.get(object.getClass()) || isAtomic(object));
+        return isOrdering ? new Ordered(object) : null;
+    }
+
+    private static boolean isAtomic(Object object) {
+        return object instanceof AtomicReference;
+    }
+
+    public static <T, R> Function<T, R> ordered(Function<T, R> function, Object object) {
+        Ordered by = orderedBy(object);
+        return by == null || function == null ? function : given -> by.of(() -> function.apply(given));
+    }
+
+    public static <T, U, R> BiFunction<T, U, R> ordered(BiFunction<T, U, R> function, Object object) {
+        Ordered by = orderedBy(object);
+        return by == null || function == null ? function : (given, other) -> by.of(() -> function.apply(given, other));
+    }
+
+    public static <T> UnaryOperator<T> orderedSame(UnaryOperator<T> function, Object object) {
+        Ordered by = orderedBy(object);
+        return by == null || function == null ? function : given -> by.of(() -> function.apply(given));
+    }
+
+    public static <T> BinaryOperator<T> orderedSame(BinaryOperator<T> function, Object object) {
+        Ordered by = orderedBy(object);
+        return by == null || function == null ? function : (given, other) -> by.of(() -> function.apply(given, other));
+    }
+
+    /** This call is told, whatever it is done with. */
+    public static void passes(int call) {
+        calls[call].tell();
+    }
+
+    private static boolean isUnfollowed(Class<?> type) {
+        if (EXACT.stream().anyMatch(one -> one.isAssignableFrom(type))) {
+            return false;
+        }
+        for (Class<?> one = type; one != null; one = one.getSuperclass()) {
+            String name = one.getName();
+            if (FOLLOWED.contains(one) || name.startsWith("java.util.concurrent.Executors$") || Throwable.class == one) {
+                return false;
+            }
+            if (name.equals(CONCURRENT + "locks.AbstractQueuedSynchronizer$ConditionObject")
+                    || name.equals(CONCURRENT + "ThreadLocalRandom")) {
+                return false;
+            }
+            if (name.startsWith(CONCURRENT)
+                    || name.startsWith("java.util.Collections$Synchronized")
+                    || name.equals("java.util.Vector")
+                    || name.equals("java.util.Hashtable")
+                    || name.equals("java.lang.StringBuffer")
+                    || name.equals("java.lang.invoke.VarHandle")) {
+                return true;
+            }
+        }
+        return false;
+    }
+}

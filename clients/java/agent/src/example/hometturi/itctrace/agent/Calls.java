@@ -1,0 +1,261 @@
+package example.hometturi.itctrace.agent;
+
+import static example.hometturi.itctrace.agent.Rewriter.hook;
+import static example.hometturi.itctrace.agent.Rewriter.listOf;
+
+import example.hometturi.itctrace.Watched;
+import java.util.Arrays;
+import java.util.HashSet;
+import java.util.List;
+import java.util.Map;
+import java.util.Set;
+import org.objectweb.asm.Handle;
+import org.objectweb.asm.Opcodes;
+import org.objectweb.asm.Type;
+import org.objectweb.asm.tree.AbstractInsnNode;
+import org.objectweb.asm.tree.ClassNode;
+import org.objectweb.asm.tree.InsnList;
+import org.objectweb.asm.tree.InsnNode;
+import org.objectweb.asm.tree.InvokeDynamicInsnNode;
+import org.objectweb.asm.tree.LdcInsnNode;
+import org.objectweb.asm.tree.MethodInsnNode;
+import org.objectweb.asm.tree.MethodNode;
+
+/** Puts hooks where a method calls what the JDK has for threads. */
+final class Calls {
+    private static final String OBJECT = "Ljava/lang/Object;";
+    private static final String OF_ANY = "(" + OBJECT + ")V";
+    private static final Set<String> FUNCTIONS =
+            Set.of(
+                    "Ljava/util/function/Function;", "Ljava/util/function/BiFunction;", "Ljava/util/function/UnaryOperator;",
+                    "Ljava/util/function/BinaryOperator;");
+    private static final String CONCURRENT = "java/util/concurrent/";
+    private static final String LOCK = CONCURRENT + "locks/Lock";
+    private static final String REENTRANT = CONCURRENT + "locks/ReentrantLock";
+    private static final String CONDITION = CONCURRENT + "locks/Condition";
+
+    /** Calls in whose place stands another one, which takes the object first: by class, name and descriptor. */
+    private static final Map<String, Set<String>> REPLACED =
+            Map.of(
+                    LOCK,
+                    Set.of(
+                            "lock()V",
+                            "lockInterruptibly()V",
+                            "tryLock()Z",
+                            "tryLock(JLjava/util/concurrent/TimeUnit;)Z",
+                            "unlock()V",
+                            "newCondition()Ljava/util/concurrent/locks/Condition;"),
+                    CONDITION,
+                    Set.of(
+                            "await()V",
+                            "awaitUninterruptibly()V",
+                            "await(JLjava/util/concurrent/TimeUnit;)Z",
+                            "awaitNanos(J)J",
+                            "awaitUntil(Ljava/util/Date;)Z"));
+
+    private static final Set<String> WAITS = Set.of("wait()V", "wait(J)V", "wait(JI)V");
+    private static final Set<String> ATOMICS = new HashSet<>();
+    private static final Set<String> ATOMIC_READS =
+            Set.of("get", "getAcquire", "intValue", "longValue", "floatValue", "doubleValue");
+    private static final Set<String> ATOMIC_WRITES = Set.of("set", "lazySet", "setRelease");
+    private static final Set<String> ATOMIC_TRIES =
+            Set.of("compareAndSet", "weakCompareAndSet", "weakCompareAndSetVolatile", "weakCompareAndSetAcquire", "weakCompareAndSetRelease");
+    private static final Set<String> ATOMIC_FUNCTIONS = Set.of("updateAndGet", "getAndUpdate", "accumulateAndGet", "getAndAccumulate", "toString");
+    private static final Set<String> ATOMIC_UNORDERED = Set.of("getPlain", "getOpaque", "setPlain", "setOpaque", "weakCompareAndSetPlain");
+
+    static {
+        for (String name : List.of("Boolean", "Integer", "Long", "Reference")) {
+            ATOMICS.add(CONCURRENT + "atomic/Atomic" + name);
+        }
+    }
+
+    /** Kinds of the library, of which some objects give an order. */
+    private static final Set<String> MAYBE_CONCURRENT =
+            Set.of(
+                    "java/util/Map", "java/util/Collection", "java/util/List", "java/util/Set", "java/util/Queue", "java/util/Deque",
+                    "java/util/SortedMap", "java/util/NavigableMap", "java/util/SortedSet", "java/util/NavigableSet", "java/util/Vector",
+                    "java/util/Hashtable", "java/util/Stack", "java/util/Properties", "java/lang/StringBuffer", "java/lang/invoke/VarHandle");
+    /** What is of that package, and gives no order by itself. */
+    private static final Set<String> HARMLESS =
+            Set.of(
+                    CONCURRENT + "Executors", CONCURRENT + "TimeUnit", CONCURRENT + "ThreadLocalRandom", CONCURRENT + "Callable",
+                    CONCURRENT + "ThreadFactory", CONCURRENT + "locks/LockSupport");
+    /** Calls that do something which no hook sees: what begins so. */
+    private static final List<String> UNSEEN =
+            List.of(
+                    "java/lang/reflect/Field.get", "java/lang/reflect/Field.set", "java/util/Collection.parallelStream",
+                    "java/util/stream/BaseStream.parallel", "java/util/stream/Stream.parallel", "java/util/stream/IntStream.parallel",
+                    "java/util/stream/LongStream.parallel", "java/util/stream/DoubleStream.parallel", "sun/misc/Unsafe.",
+                    CONCURRENT + "locks/LockSupport.park", CONCURRENT + "locks/LockSupport.unpark", "java/lang/Thread.startVirtualThread",
+                    "java/lang/Thread.ofVirtual", CONCURRENT + "Executors.newVirtualThread", CONCURRENT + "Executors.newWorkStealing",
+                    CONCURRENT + "CompletableFuture.", CONCURRENT + "ForkJoin", CONCURRENT + "Recursive",
+                    "java/lang/invoke/MethodHandles$Lookup.findGetter", "java/lang/invoke/MethodHandles$Lookup.findSetter",
+                    "java/lang/invoke/MethodHandles$Lookup.findStaticGetter", "java/lang/invoke/MethodHandles$Lookup.findStaticSetter",
+                    "java/lang/invoke/MethodHandles$Lookup.unreflectGetter", "java/lang/invoke/MethodHandles$Lookup.unreflectSetter",
+                    "java/lang/invoke/MethodHandles$Lookup.defineHiddenClass", "java/io/ObjectOutputStream.writeObject",
+                    "java/io/ObjectOutputStream.defaultWriteObject", "java/io/ObjectInputStream.readObject",
+                    "java/io/ObjectInputStream.defaultReadObject");
+    private static final Set<String> OF_A_FIELD_HANDLE = Set.of("setAccessible", "getType", "getName", "getModifiers", "getAnnotation", "getAnnotations", "getGenericType");
+
+    private final Classes classes;
+    private final ClassLoader loader;
+    private final ClassNode node;
+    private final MethodNode method;
+    private final InsnList code;
+
+    Calls(Classes classes, ClassLoader loader, ClassNode node, MethodNode method) {
+        this.classes = classes;
+        this.loader = loader;
+        this.node = node;
+        this.method = method;
+        code = method.instructions;
+    }
+
+    /** The class of the JDK that the method is one of, or is above. Null if there is none but Object. */
+    void rewrite(MethodInsnNode call, String owner, int line) {
+        String named = call.name + call.desc;
+        boolean isOnObject = call.getOpcode() == Opcodes.INVOKEVIRTUAL || call.getOpcode() == Opcodes.INVOKEINTERFACE;
+        if (isOnObject && WAITS.contains(named)) {
+            replace(call, "await", "Ljava/lang/Object;");
+        } else if (owner == null || call.name.equals("<init>")) {
+            return;
+        } else if (isOnObject && owner.equals("java/lang/Class") && call.name.equals("getDeclaredFields")) {
+            code.insert(call, hook("declared", "([Ljava/lang/reflect/Field;)[Ljava/lang/reflect/Field;"));
+        } else if (isOnObject && owner.equals("java/lang/Thread") && named.equals("isAlive()Z")) {
+            code.insertBefore(call, new InsnNode(Opcodes.DUP));
+            code.insert(call, hook("isAlive", "(Ljava/lang/Thread;Z)Z"));
+        } else if (owner.equals("java/lang/Thread") && named.equals("isInterrupted()Z")) {
+            code.insertBefore(call, new InsnNode(Opcodes.DUP));
+            code.insert(call, hook("isInterrupted", "(Ljava/lang/Thread;Z)Z"));
+        } else if (owner.equals("java/lang/Thread") && named.equals("interrupted()Z")) {
+            code.insert(call, hook("interrupted", "(Z)Z"));
+        } else if (isOnObject && owner.equals("java/lang/ThreadLocal")) {
+            Kept kept = Kept.of(method, call, call.desc, true);
+            code.insertBefore(call, listOf(kept.load(-1), hook("local", OF_ANY)));
+        } else if (isUnseen(owner, call.name)) {
+            pass(call, owner, call.name, line);
+            if (isOnObject && owner.equals(CONCURRENT + "ForkJoinPool")) {
+                around(call, owner, line);
+            }
+        } else if (isOnObject && ATOMICS.contains(owner)) {
+            rewriteAtomic(call, owner);
+        } else if (isOnObject && isConcurrent(owner)) {
+            around(call, owner, line);
+            String kind = owner.equals(REENTRANT) ? LOCK : owner;
+            if (REPLACED.getOrDefault(kind, Set.of()).contains(named)) {
+                replace(call, call.name, "L" + kind + ";");
+            }
+        } else if (call.getOpcode() == Opcodes.INVOKESPECIAL && owner.startsWith(CONCURRENT)) {
+            pass(call, owner, call.name, line);
+        }
+    }
+
+    private static boolean isConcurrent(String owner) {
+        return owner.startsWith(CONCURRENT) && !HARMLESS.contains(owner) || MAYBE_CONCURRENT.contains(owner);
+    }
+
+    private static boolean isUnseen(String owner, String name) {
+        String full = owner + "." + name;
+        boolean isOfHandle = owner.equals("java/lang/reflect/Field") && OF_A_FIELD_HANDLE.stream().anyMatch(name::startsWith);
+        return !isOfHandle && UNSEEN.stream().anyMatch(full::startsWith);
+    }
+
+    /** A method of the library that is handed on by its name has no hook. */
+    void rewrite(InvokeDynamicInsnNode call, int line) {
+        for (Object argument : call.bsmArgs) {
+            if (argument instanceof Handle handle) {
+                String owner = classes.ofTheJdk(loader, handle.getOwner());
+                boolean isOfObject = handle.getTag() != Opcodes.H_INVOKESTATIC && handle.getTag() != Opcodes.H_NEWINVOKESPECIAL;
+                boolean isHooked = isOfObject && owner != null && (owner.startsWith(CONCURRENT) || owner.equals("java/util/Vector"));
+                boolean isWait = isOfObject && WAITS.contains(handle.getName() + handle.getDesc());
+                boolean isWhole = isOfObject && owner != null && WholeCalls.isWhole(owner) && !owner.equals("java/util/Map$Entry");
+                if (isHooked && !HARMLESS.contains(owner) && !FOLLOWED_ANYWHERE.contains(owner)
+                        || isWait
+                        || isWhole
+                        || owner != null && isUnseen(owner, handle.getName())) {
+                    pass(call, handle.getOwner(), handle.getName(), line);
+                }
+            }
+        }
+    }
+
+    /** Those whose own code has the hooks. */
+    private static final Set<String> FOLLOWED_ANYWHERE =
+            Set.of(
+                    CONCURRENT + "CountDownLatch", CONCURRENT + "Semaphore", CONCURRENT + "FutureTask", CONCURRENT + "ThreadPoolExecutor",
+                    CONCURRENT + "ScheduledThreadPoolExecutor");
+
+    private int numberOf(String owner, String name, int line) {
+        return Watched.callOf(owner.substring(owner.lastIndexOf('/') + 1).replace('$', '.') + "." + name, Watched.fileOf(node.name, node.sourceFile), line);
+    }
+
+    private void pass(AbstractInsnNode call, String owner, String name, int line) {
+        code.insertBefore(call, new LdcInsnNode(numberOf(owner, name, line)));
+        code.insertBefore(call, hook("passes", "(I)V"));
+    }
+
+    private void replace(MethodInsnNode call, String name, String taken) {
+        call.setOpcode(Opcodes.INVOKESTATIC);
+        call.owner = "example/hometturi/itctrace/Watched";
+        call.name = name;
+        call.desc = "(" + taken + call.desc.substring(1);
+        call.itf = false;
+    }
+
+    private void around(MethodInsnNode call, String owner, int line) {
+        int number = numberOf(owner, call.name, line);
+        Kept kept = Kept.of(method, call, call.desc, true);
+        code.insertBefore(call, listOf(kept.load(-1), new LdcInsnNode(number), hook("calling", "(" + OBJECT + "I)V")));
+        wrapFunctions(call, kept);
+        InsnList behind = listOf(kept.load(-1), new LdcInsnNode(number), hook("called", "(" + OBJECT + "I)V"));
+        if (Type.getReturnType(call.desc).getSort() == Type.OBJECT) {
+            behind.add(listOf(new InsnNode(Opcodes.DUP), kept.load(-1), hook("part", "(" + OBJECT + OBJECT + ")V")));
+        }
+        code.insert(call, behind);
+    }
+
+    /** A function that the object calls comes after what others have done with the object. */
+    private void wrapFunctions(MethodInsnNode call, Kept kept) {
+        for (int place = 0; place < kept.count(); place++) {
+            String descriptor = kept.descriptor(place);
+            if (FUNCTIONS.contains(descriptor)) {
+                code.insertBefore(
+                        call,
+                        listOf(
+                                kept.load(place),
+                                kept.load(-1),
+                                hook(descriptor.endsWith("Operator;") ? "orderedSame" : "ordered", "(" + descriptor + OBJECT + ")" + descriptor),
+                                kept.store(place)));
+            }
+        }
+        if (Arrays.stream(Type.getArgumentTypes(call.desc)).anyMatch(type -> FUNCTIONS.contains(type.getDescriptor()))) {
+            kept.pushAgain(method, call);
+        }
+    }
+
+    private void rewriteAtomic(MethodInsnNode call, String owner) {
+        if (ATOMIC_UNORDERED.contains(call.name)) {
+            return;
+        }
+        boolean isFunction = ATOMIC_FUNCTIONS.contains(call.name) || !call.owner.equals(owner); // It may run code of the program.
+        Kept kept = Kept.of(method, call, call.desc, true);
+        code.insertBefore(call, listOf(kept.load(-1), hook(isFunction ? "orderAtomic" : "beginAtomic", OF_ANY)));
+        if (isFunction) {
+            wrapFunctions(call, kept);
+        }
+        InsnList behind = listOf(kept.load(-1));
+        if (ATOMIC_TRIES.contains(call.name)) {
+            behind.add(hook("endAtomicTry", "(Z" + OBJECT + ")Z"));
+        } else {
+            behind.add(hook(isFunction ? "orderAtomic" : endOf(call.name), OF_ANY));
+        }
+        code.insert(call, behind);
+    }
+
+    private static String endOf(String name) {
+        if (ATOMIC_READS.contains(name)) {
+            return "endAtomicRead";
+        }
+        return ATOMIC_WRITES.contains(name) ? "endAtomicWrite" : "endAtomicChange";
+    }
+}
