@@ -1,9 +1,9 @@
 """Runs the small programs of `clients/java/agent/programs` as they are, watched by the agent, and looks which of their lines race.
 
-Each method of `Races` and `MoreRaces` is a program with a race, and each of `Clean` and `MoreClean` one without. A line that races says so
-in a comment of the source, as in `race: lostUpdate`. Exactly these lines have to be listed. Those of `Stars` have no race either, and each
-line with a comment as `star: sharedMap` has to be named as not looked into. The odd programs of `Odd` have to write what they write
-unwatched.
+Each method of `Races`, `MoreRaces` and `SharedRaces` is a program with a race, and each of `Clean`, `MoreClean` and `SharedClean` one
+without. A line that races says so in a comment of the source, as in `race: lostUpdate`. Exactly these lines have to be listed. Those of
+`Stars` and `SharedStars` have no race either, and each line with a comment as `star: sharedMap` has to be named as not looked into. The odd
+programs of `Odd` have to write what they write unwatched.
 
 Usage: clients/watched_java.py FOLDER, with the agent and the built programs in FOLDER. The last line is 'watched_java: N passed'.
 ITC_PROGRAM_RUNS says how often each program is run, once if it is not set.
@@ -131,7 +131,7 @@ def fault_of_odd(folder: Path, program: Program) -> str | None:
 
 FAULTS = (
     ("Races", fault_of), ("MoreRaces", fault_of), ("Clean", fault_of), ("MoreClean", fault_of), ("Stars", fault_of_starred),
-    ("Odd", fault_of_odd),
+    ("SharedRaces", fault_of), ("SharedClean", fault_of), ("SharedStars", fault_of_starred), ("Odd", fault_of_odd),
 )
 """The classes of programs, and what looks at a run of one."""
 

@@ -15,7 +15,6 @@ import java.util.concurrent.RecursiveTask;
 import java.util.concurrent.locks.Condition;
 import java.util.concurrent.locks.Lock;
 import java.util.concurrent.locks.ReadWriteLock;
-import java.util.concurrent.locks.ReentrantLock;
 import java.util.concurrent.locks.ReentrantReadWriteLock;
 import java.util.stream.IntStream;
 
@@ -70,13 +69,6 @@ public final class Stars {
                 () -> counts[0]++, // star: sharedArray
                 () -> counts[1]++); // star: sharedArray
         System.out.println(counts[0] + counts[1]);
-    }
-
-    static void sharedText() throws InterruptedException {
-        StringBuilder text = new StringBuilder();
-        both(
-                () -> text.append("one"), // star: sharedText
-                () -> System.out.println(text.length() >= 0)); // star: sharedText
     }
 
     static void concurrentMap() throws InterruptedException {
@@ -278,13 +270,6 @@ public final class Stars {
         Field field = Store.class.getDeclaredField("left");
         field.setInt(store, 3); // star: reflected
         System.out.println(store.left);
-    }
-
-    static void handedOn() {
-        ReentrantLock lock = new ReentrantLock();
-        Runnable acquire = lock::lock; // star: handedOn
-        acquire.run();
-        lock.unlock();
     }
 
     private Stars() {}

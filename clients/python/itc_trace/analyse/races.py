@@ -87,8 +87,8 @@ class Race:
 
     @property
     def is_inner(self) -> bool:
-        """Whether it is of parts of the thing that may not be the same."""
-        return self.example[0].kind in (INNER_READ, INNER_WRITE)
+        """Whether it is of parts of the thing that may not be the same, or of what may not change it."""
+        return _is_inner(self.example)
 
     @property
     def places(self) -> tuple[str, str]:
@@ -184,9 +184,10 @@ class Races:
 
     def pass_over_inner(self) -> None:
         """Where two tasks touch parts of a thing with no order, that is named as not looked into. It may be no race."""
-        inner = [race for race in self.races if race.is_inner]
         self.passed_over += [
-            PassedOver(f"{race.thing}, in no order with {race.places[1]},", race.places[0]) for race in inner
+            PassedOver(f"{race.thing}, in {order} with {race.places[1]},", race.places[0])
+            for races, order in ((self.races, "no order"), (self.possible, "order by luck alone"))
+            for race in races if race.is_inner
         ]
         self.races, self.possible, self.hidden = (
             [race for race in races if not race.is_inner] for races in (self.races, self.possible, self.hidden)
@@ -595,10 +596,14 @@ def cycles_passed_over(rows: Iterable[Row]) -> PassedOver:
 
 
 def _key(example: tuple[Row, Row]) -> object:
-    """What races are listed as one by: the same kind of thing at the same two places."""
+    """What races are listed as one by: the same kind of thing at the same two places, if it is as sure."""
     one, other = sorted(row.place for row in example)
     first = example[0]
-    return first.group or first.name or first.thing, one, other
+    return first.group or first.name or first.thing, one, other, _is_inner(example)
+
+
+def _is_inner(example: tuple[Row, Row]) -> bool:
+    return any(row.kind in (INNER_READ, INNER_WRITE) for row in example)
 
 
 def list_pair(pair: Pair, listed: dict[object, Race]) -> bool:

@@ -6,7 +6,7 @@ READ, WRITE = "read", "write"
 LOOKUP, LENGTH, KEYS, ITERATION = "lookup", "length", "keys", "iteration"
 ADDITION, REMOVAL, REPLACEMENT, REWRITE = "addition", "removal", "replacement", "rewrite"
 INNER_READ, INNER_WRITE = "inner read", "inner write"
-"""What is touched is a part of the thing, and nobody looks which."""
+"""What is touched is a part of the thing, and nobody looks which, or what is done with the thing is not known."""
 MAKING = "making"
 """The thing is made here. It conflicts with nothing, and tells whose the thing was at first."""
 
@@ -31,7 +31,8 @@ _PAIRS = (
     *((KEYS, kind) for kind in (WRITE, ADDITION, REMOVAL, REWRITE)),
     *((REMOVAL, kind) for kind in (REMOVAL, READ, WRITE, LOOKUP, LENGTH, ITERATION, ADDITION, REPLACEMENT, REWRITE)),
     *((REPLACEMENT, kind) for kind in (READ, WRITE, ITERATION, REWRITE)),
-    *((INNER_WRITE, kind) for kind in (INNER_WRITE, INNER_READ)),
+    *((INNER_WRITE, kind) for kind in (INNER_WRITE, INNER_READ, WRITE, READ)),
+    (INNER_READ, WRITE),
 )
 
 CONFLICTING: dict[str, frozenset[str]] = {

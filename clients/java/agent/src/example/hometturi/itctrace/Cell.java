@@ -21,7 +21,6 @@ final class Cell {
 
     private final String name;
     private final boolean isOnly;
-    private final boolean isWhole;
     private String thing;
     private Touch first;
     private int count;
@@ -59,28 +58,29 @@ final class Cell {
         }
     }
 
-    /** A line of the program that reads or writes a field, or what is watched as a whole. Then there is no field. */
-    record Place(Field field, boolean writes, Site site) {}
+    /**
+     * A line of the program that reads or writes a field, or an object that is watched as a whole. Then there is no field. It is inner
+     * if nobody knows which part of the object it is of, or what is done with it.
+     */
+    record Place(Field field, boolean writes, boolean isInner, Site site) {
+        private String kind() {
+            return (isInner ? "inner " : "") + (writes ? "write" : "read");
+        }
+    }
 
     /** One field of one object, or a static one, of which there is only one. */
     Cell(Field field) {
-        this(field.name(), field.isStatic(), false);
+        this(field.name(), field.isStatic());
     }
 
-    /** An object that is watched as a whole. */
-    Cell(Class<?> type) {
-        this(nameOf(type), false, true);
+    /** An object that is watched as a whole, by the name of its class. */
+    Cell(String name) {
+        this(name, false);
     }
 
-    private Cell(String name, boolean isOnly, boolean isWhole) {
+    private Cell(String name, boolean isOnly) {
         this.name = name;
         this.isOnly = isOnly;
-        this.isWhole = isWhole;
-    }
-
-    private static String nameOf(Class<?> type) {
-        String name = type.getTypeName();
-        return name.substring(name.lastIndexOf('.') + 1).replace('$', '.');
     }
 
     /** This thread touches the variable. */
@@ -178,8 +178,7 @@ final class Cell {
             if (thing == null) {
                 thing = name + (isOnly ? "" : " " + NUMBERS.incrementAndGet());
             }
-            String kind = (isWhole ? "inner " : "") + (touch.place.writes ? "write" : "read");
-            Traced.tracer().touched(touch.task, touch.waiting, new Watching(thing, name, kind), touch.place.site, touch.held);
+            Traced.tracer().touched(touch.task, touch.waiting, new Watching(thing, name, touch.place.kind()), touch.place.site, touch.held);
             touch.waiting = null;
         }
     }

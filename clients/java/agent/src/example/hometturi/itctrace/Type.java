@@ -1,5 +1,8 @@
 package example.hometturi.itctrace;
 
+import java.util.List;
+import java.util.Map;
+import java.util.concurrent.ConcurrentHashMap;
 import jdk.internal.misc.Unsafe;
 
 /** A class that is watched: where its objects keep what is known of their variables, and who has initialized it. */
@@ -11,9 +14,13 @@ public final class Type {
     private static final long UNKNOWN = -1;
     private static final long NONE = -2;
 
+    private static final Map<String, Type> KNOWN = new ConcurrentHashMap<>();
+
     private final String name;
     /** How many variables an object has by this class. */
     private int size;
+
+    private List<Field> variables = List.of();
 
     private volatile long offset = UNKNOWN;
     /** Where the variables of objects lie that have no such field. */
@@ -32,8 +39,33 @@ public final class Type {
         return name.replace('.', '/');
     }
 
-    public void setSize(int variables) {
-        size = variables;
+    /** What the objects of the class have, and may be changed. */
+    public void setVariables(List<Field> all) {
+        size = all.size();
+        variables = all;
+        KNOWN.put(name, this);
+    }
+
+    /** The object is copied field by field, as Object.clone does. Nothing is known of the copy. */
+    static void cloned(Object copy, Object object, Cell.Place place) {
+        for (Class<?> one = object.getClass(); one != null; one = one.getSuperclass()) {
+            Type type = KNOWN.get(one.getName());
+            if (type != null) {
+                type.separate(copy, object, place);
+            }
+        }
+    }
+
+    private void separate(Object copy, Object object, Cell.Place place) {
+        long at = offset == UNKNOWN ? find(object) : offset;
+        if (at != NONE) {
+            UNSAFE.putReference(copy, at, null);
+        }
+        for (Field one : variables) {
+            if (Traced.isOn() && cellOf(object, one) instanceof Cell cell) {
+                cell.touch(place);
+            }
+        }
     }
 
     /** What is known of a variable of the object. */

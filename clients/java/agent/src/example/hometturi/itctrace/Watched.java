@@ -32,6 +32,9 @@ import java.util.function.UnaryOperator;
 
 /** What the code of a watched class calls, by the agent. No call throws anything that what stood there does not throw. */
 public final class Watched {
+    /** What is in the name of each method that the agent adds to a class. */
+    public static final String OWN_METHOD = "$itctrace";
+
     static final Gives INITIALIZED = Gives.order("class", "initialize class", "use class");
     private static final Gives VOLATILE = Gives.order("volatile", "write volatile", "read volatile");
     private static final Gives ATOMIC = Gives.order("atomic", "write atomic", "read atomic");
@@ -73,6 +76,8 @@ public final class Watched {
 
     private static volatile Place[] places = new Place[0];
     private static int placeCount;
+    private static volatile Use[] uses = new Use[0];
+    private static int useCount;
     private static volatile Type[] types = new Type[0];
     private static volatile Call[] calls = new Call[0];
 
@@ -114,8 +119,19 @@ public final class Watched {
         if (placeCount == places.length) {
             places = Arrays.copyOf(places, 2 * placeCount + 64);
         }
-        places[placeCount] = new Place(field, writes, new Site(file, line, function));
+        places[placeCount] = new Place(field, writes, false, new Site(file, line, function));
         return placeCount++;
+    }
+
+    /** The number of a call of the JDK with an object of its own, or of one that it gets, which it maybe only looks into. */
+    public static synchronized int useOf(String call, boolean isOwn, boolean looksInto, boolean changes, String file, int line, String function) {
+        if (useCount == uses.length) {
+            uses = Arrays.copyOf(uses, 2 * useCount + 64);
+        }
+        int end = call.indexOf('(');
+        Use.Role role = isOwn ? Use.Role.OWNER : looksInto ? Use.Role.LOOKED_INTO : Use.Role.GIVEN;
+        uses[useCount] = new Use(call.substring(0, end), call.substring(end), role, changes, new Site(file, line, function));
+        return useCount++;
     }
 
     /** The number of a class that has something to initialize. */
@@ -209,11 +225,18 @@ public final class Watched {
     // What is watched as a whole
 
     public static void whole(Object object, int number) {
-        Wholes.touch(object, places[number]);
+        Wholes.touch(object, uses[number]);
     }
 
     public static void element(Object array, int number) {
-        Wholes.touchArray(array, places[number]);
+        Wholes.touchArray(array, uses[number]);
+    }
+
+    /** A method looks into each of what it is given. */
+    public static void elements(Object[] array, int number) {
+        if (Traced.isOn()) {
+            Wholes.touchElements(array, uses[number]);
+        }
     }
 
     public static void derive(Object given, Object shown) {
@@ -238,6 +261,12 @@ public final class Watched {
             }
         }
         return fields;
+    }
+
+    /** The same of methods. */
+    public static java.lang.reflect.Method[] declared(java.lang.reflect.Method[] methods) {
+        boolean isPlain = Arrays.stream(methods).noneMatch(one -> one.getName().contains(OWN_METHOD));
+        return isPlain ? methods : Arrays.stream(methods).filter(one -> !one.getName().contains(OWN_METHOD)).toArray(java.lang.reflect.Method[]::new);
     }
 
     // Monitors
@@ -744,6 +773,43 @@ public final class Watched {
     public static <T> BinaryOperator<T> orderedSame(BinaryOperator<T> function, Object object) {
         Ordered by = orderedBy(object);
         return by == null || function == null ? function : (given, other) -> by.of(() -> function.apply(given, other));
+    }
+
+    /** A method of the JDK that is called by reflection has no hook. It is told if it is of an object that is looked at. */
+    public static void invokes(java.lang.reflect.Method method, Object object, Object[] given, int call) {
+        if (method != null && Traced.isOn() && Kinds.isOfJdk(method.getDeclaringClass())) {
+            boolean isOfSome = isLookedAt(object) || given != null && Arrays.stream(given).anyMatch(Watched::isLookedAt);
+            if (isOfSome) {
+                calls[call].tell();
+            }
+        }
+    }
+
+    private static boolean isLookedAt(Object object) {
+        return object != null
+                && (Kinds.of(object).isLookedAt() || IS_UNFOLLOWED.get(object.getClass()) || object.getClass().getName().startsWith(CONCURRENT));
+    }
+
+    /** A handle of a method is looked for, by its class, by the method, or for an object. */
+    public static void finds(Object of, int call) {
+        Class<?> type = of instanceof Class<?> one ? one : of instanceof java.lang.reflect.Method method ? method.getDeclaringClass() : null;
+        boolean isOfSome =
+                type == null
+                        ? isLookedAt(of)
+                        : Kinds.isOfJdk(type)
+                                && type != Object.class
+                                && (type.getName().startsWith(CONCURRENT) || !Kinds.isSurelySafe(type.getName()) || type.getName().startsWith("java.util."));
+        if (isOfSome && Traced.isOn()) {
+            calls[call].tell();
+        }
+    }
+
+    // Copies
+
+    /** This thread has copied an object of the program, field by field. What is known of the fields stays with the first one. */
+    public static Object cloned(Object copy, Object object, int number) {
+        Type.cloned(copy, object, places[number]);
+        return copy;
     }
 
     /** This call is told, whatever it is done with. */

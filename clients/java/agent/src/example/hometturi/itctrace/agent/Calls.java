@@ -74,7 +74,7 @@ final class Calls {
             Set.of(
                     "java/util/Map", "java/util/Collection", "java/util/List", "java/util/Set", "java/util/Queue", "java/util/Deque",
                     "java/util/SortedMap", "java/util/NavigableMap", "java/util/SortedSet", "java/util/NavigableSet", "java/util/Vector",
-                    "java/util/Hashtable", "java/util/Stack", "java/util/Properties", "java/lang/StringBuffer", "java/lang/invoke/VarHandle");
+                    "java/util/Hashtable", "java/util/Stack", "java/util/Properties", "java/lang/StringBuffer");
     /** What is of that package, and gives no order by itself. */
     private static final Set<String> HARMLESS =
             Set.of(
@@ -84,6 +84,7 @@ final class Calls {
     private static final List<String> UNSEEN =
             List.of(
                     "java/lang/reflect/Field.get", "java/lang/reflect/Field.set", "java/util/Collection.parallelStream",
+                    "java/lang/invoke/MethodHandles.arrayElement", "jdk/internal/misc/Unsafe.",
                     "java/util/stream/BaseStream.parallel", "java/util/stream/Stream.parallel", "java/util/stream/IntStream.parallel",
                     "java/util/stream/LongStream.parallel", "java/util/stream/DoubleStream.parallel", "sun/misc/Unsafe.",
                     CONCURRENT + "locks/LockSupport.park", CONCURRENT + "locks/LockSupport.unpark", "java/lang/Thread.startVirtualThread",
@@ -93,9 +94,12 @@ final class Calls {
                     "java/lang/invoke/MethodHandles$Lookup.findStaticGetter", "java/lang/invoke/MethodHandles$Lookup.findStaticSetter",
                     "java/lang/invoke/MethodHandles$Lookup.unreflectGetter", "java/lang/invoke/MethodHandles$Lookup.unreflectSetter",
                     "java/lang/invoke/MethodHandles$Lookup.defineHiddenClass", "java/io/ObjectOutputStream.writeObject",
-                    "java/io/ObjectOutputStream.defaultWriteObject", "java/io/ObjectInputStream.readObject",
-                    "java/io/ObjectInputStream.defaultReadObject");
-    private static final Set<String> OF_A_FIELD_HANDLE = Set.of("setAccessible", "getType", "getName", "getModifiers", "getAnnotation", "getAnnotations", "getGenericType");
+                    "java/io/ObjectOutputStream.defaultWriteObject", "java/io/ObjectOutputStream.writeUnshared",
+                    "java/io/ObjectInputStream.readObject", "java/io/ObjectInputStream.defaultReadObject",
+                    "java/io/ObjectInputStream.readUnshared");
+    /** What gives a handle of a method. If that is one of the JDK, a call by it has no hook. */
+    private static final Set<String> FINDING = Set.of("findVirtual", "findSpecial", "findStatic", "bind", "unreflect", "unreflectSpecial");
+    private static final Set<String> OF_A_FIELD_HANDLE = Set.of("setAccessible", "getType", "getName", "getModifiers", "getAnnot", "getGenericType", "getDecl");
 
     private final Classes classes;
     private final ClassLoader loader;
@@ -121,6 +125,8 @@ final class Calls {
             return;
         } else if (isOnObject && owner.equals("java/lang/Class") && call.name.equals("getDeclaredFields")) {
             code.insert(call, hook("declared", "([Ljava/lang/reflect/Field;)[Ljava/lang/reflect/Field;"));
+        } else if (isOnObject && owner.equals("java/lang/Class") && call.name.equals("getDeclaredMethods")) {
+            code.insert(call, hook("declared", "([Ljava/lang/reflect/Method;)[Ljava/lang/reflect/Method;"));
         } else if (isOnObject && owner.equals("java/lang/Thread") && named.equals("isAlive()Z")) {
             code.insertBefore(call, new InsnNode(Opcodes.DUP));
             code.insert(call, hook("isAlive", "(Ljava/lang/Thread;Z)Z"));
@@ -137,6 +143,16 @@ final class Calls {
             if (isOnObject && owner.equals(CONCURRENT + "ForkJoinPool")) {
                 around(call, owner, line);
             }
+        } else if (isOnObject && isOfField(owner)) {
+            pass(call, owner, call.name, line);
+            around(call, owner, line);
+        } else if (isOnObject && owner.equals("java/lang/reflect/Method") && call.name.equals("invoke")) {
+            Kept kept = Kept.of(method, call, call.desc, true);
+            code.insertBefore(call, listOf(kept.load(-1), kept.load(0), kept.load(1), new LdcInsnNode(numberOf(owner, call.name, line))));
+            code.insertBefore(call, hook("invokes", "(Ljava/lang/reflect/Method;" + OBJECT + "[" + OBJECT + "I)V"));
+        } else if (isOnObject && owner.equals("java/lang/invoke/MethodHandles$Lookup") && FINDING.contains(call.name)) {
+            Kept kept = Kept.of(method, call, call.desc, true);
+            code.insertBefore(call, listOf(kept.load(0), new LdcInsnNode(numberOf(owner, call.name, line)), hook("finds", "(" + OBJECT + "I)V")));
         } else if (isOnObject && ATOMICS.contains(owner)) {
             rewriteAtomic(call, owner);
         } else if (isOnObject && isConcurrent(owner)) {
@@ -150,6 +166,11 @@ final class Calls {
         }
     }
 
+    /** What touches a field of the program, or an element of an array, past its hooks. */
+    private static boolean isOfField(String owner) {
+        return owner.equals("java/lang/invoke/VarHandle") || owner.startsWith(CONCURRENT + "atomic/Atomic") && owner.endsWith("FieldUpdater");
+    }
+
     private static boolean isConcurrent(String owner) {
         return owner.startsWith(CONCURRENT) && !HARMLESS.contains(owner) || MAYBE_CONCURRENT.contains(owner);
     }
@@ -160,21 +181,27 @@ final class Calls {
         return !isOfHandle && UNSEEN.stream().anyMatch(full::startsWith);
     }
 
-    /** A method of the library that is handed on by its name has no hook. */
+    /** Whether a method of the JDK that is handed on by its name wants hooks. */
+    boolean wantsHooks(Handle handle) {
+        String owner = classes.ofTheJdk(loader, handle.getOwner());
+        boolean isOfObject = handle.getTag() != Opcodes.H_INVOKESTATIC && handle.getTag() != Opcodes.H_NEWINVOKESPECIAL;
+        if (isOfObject && WAITS.contains(handle.getName() + handle.getDesc())) {
+            return true;
+        }
+        if (owner == null) {
+            return isOfObject && handle.getOwner().equals("java/lang/Object");
+        }
+        boolean isConcurrent = owner.startsWith(CONCURRENT) && !HARMLESS.contains(owner) && !FOLLOWED_ANYWHERE.contains(owner);
+        return isUnseen(owner, handle.getName())
+                || isOfObject && (isConcurrent || MAYBE_CONCURRENT.contains(owner) || WholeCalls.isWhole(owner))
+                || Arrays.stream(Type.getArgumentTypes(handle.getDesc())).anyMatch(type -> WholeCalls.isTouched(owner, handle.getName(), type.getDescriptor()));
+    }
+
+    /** A method of the JDK that is handed on by its name, and gets no method of its own that calls it. */
     void rewrite(InvokeDynamicInsnNode call, int line) {
         for (Object argument : call.bsmArgs) {
-            if (argument instanceof Handle handle) {
-                String owner = classes.ofTheJdk(loader, handle.getOwner());
-                boolean isOfObject = handle.getTag() != Opcodes.H_INVOKESTATIC && handle.getTag() != Opcodes.H_NEWINVOKESPECIAL;
-                boolean isHooked = isOfObject && owner != null && (owner.startsWith(CONCURRENT) || owner.equals("java/util/Vector"));
-                boolean isWait = isOfObject && WAITS.contains(handle.getName() + handle.getDesc());
-                boolean isWhole = isOfObject && owner != null && WholeCalls.isWhole(owner) && !owner.equals("java/util/Map$Entry");
-                if (isHooked && !HARMLESS.contains(owner) && !FOLLOWED_ANYWHERE.contains(owner)
-                        || isWait
-                        || isWhole
-                        || owner != null && isUnseen(owner, handle.getName())) {
-                    pass(call, handle.getOwner(), handle.getName(), line);
-                }
+            if (argument instanceof Handle handle && handle.getTag() >= Opcodes.H_INVOKEVIRTUAL && wantsHooks(handle)) {
+                pass(call, handle.getOwner(), handle.getName(), line);
             }
         }
     }

@@ -68,7 +68,7 @@ final class Classes {
 
         @Override
         public void visitEnd() {
-            type.setSize(size);
+            type.setVariables(fields.stream().filter(field -> !field.isStatic() && !field.isFinal()).toList());
         }
 
         /** By which the hooks name the class. */
@@ -161,6 +161,18 @@ final class Classes {
             described = of(loader, described.get().above);
         }
         return null;
+    }
+
+    /** Whether the field that code of this loader means is one of the JDK. */
+    boolean isOfJdk(ClassLoader loader, String owner, String name) {
+        String one = owner;
+        for (Optional<Described> described = of(loader, one); described.isPresent(); described = of(loader, one)) {
+            if (described.get().field(name) != null) {
+                return false;
+            }
+            one = described.get().above;
+        }
+        return Watching.isOfJdk(one);
     }
 
     /** The class of the JDK that this one is, or has above. Null if that is Object, or unknown. */

@@ -5,6 +5,7 @@ import example.hometturi.itctrace.Type;
 import example.hometturi.itctrace.Watched;
 import example.hometturi.itctrace.agent.Classes.Described;
 import java.util.HashSet;
+import java.util.List;
 import java.util.Set;
 import org.objectweb.asm.ClassReader;
 import org.objectweb.asm.ClassWriter;
@@ -30,6 +31,7 @@ final class Rewriter {
     private static final String OF_ANY = "(Ljava/lang/Object;)V";
     private static final String OF_A_PLACE = "(Ljava/lang/Object;I)V";
     private static final String OF_A_NUMBER = "(I)V";
+    private static final String CLONE = "clone()Ljava/lang/Object;";
     private static final String THROWABLE = "java/lang/Throwable";
     /** The types of handlers that catch an interruption. */
     private static final Set<String> MAY_INTERRUPT =
@@ -63,18 +65,21 @@ final class Rewriter {
     }
 
     private void rewrite() {
-        for (MethodNode method : node.methods) {
+        for (MethodNode method : List.copyOf(node.methods)) {
             if (method.instructions.size() > 0) {
                 new OfMethod(method).rewrite();
             } else if ((method.access & Opcodes.ACC_NATIVE) != 0) {
                 Watched.passOver("native " + described.simpleName + "." + method.name, file, 0);
             }
         }
-        boolean isInterface = (node.access & Opcodes.ACC_INTERFACE) != 0;
-        if (described.hasVariables() && !isInterface && (node.access & Opcodes.ACC_RECORD) == 0) {
+        if (described.hasVariables() && !isInterface() && (node.access & Opcodes.ACC_RECORD) == 0) {
             int access = Opcodes.ACC_PRIVATE | Opcodes.ACC_TRANSIENT | Opcodes.ACC_SYNTHETIC;
             node.fields.add(new FieldNode(access, Type.CELLS, "Ljava/lang/Object;", null, null));
         }
+    }
+
+    private boolean isInterface() {
+        return (node.access & Opcodes.ACC_INTERFACE) != 0;
     }
 
     /** A call of the agent's. */
@@ -104,6 +109,7 @@ final class Rewriter {
         private final InsnList code;
         private final Calls calls;
         private final WholeCalls wholes;
+        private final References references;
         private int line;
 
         OfMethod(MethodNode method) {
@@ -111,6 +117,7 @@ final class Rewriter {
             code = method.instructions;
             calls = new Calls(classes, loader, node, method);
             wholes = new WholeCalls(method, file, described.simpleName + "." + method.name);
+            references = new References(node, method, calls, made -> new OfMethod(made).rewrite());
         }
 
         private boolean has(int flag) {
@@ -134,10 +141,17 @@ final class Rewriter {
                         wholes.rewrite(call, owner, line);
                     } else if (call.owner.startsWith("[")) {
                         wholes.rewriteClone(call, line);
+                    } else if (call.owner.equals("java/lang/Object")) {
+                        wholes.rewriteOfAny(call, line);
+                    }
+                    if (call.getOpcode() == Opcodes.INVOKESPECIAL && (call.name + call.desc).equals(CLONE) && Watching.isOfJdk(call.owner)) {
+                        wholes.rewriteCopy(call, line);
                     }
                     calls.rewrite(call, owner, line);
                 } else if (one instanceof InvokeDynamicInsnNode call) {
-                    calls.rewrite(call, line);
+                    if (!references.rewrite(call, line)) {
+                        calls.rewrite(call, line);
+                    }
                     wholes.rewrite(call, line);
                 } else if (isElement(one.getOpcode())) {
                     wholes.rewriteElement(one, line);
@@ -182,6 +196,9 @@ final class Rewriter {
             boolean writes = access.getOpcode() == Opcodes.PUTFIELD || access.getOpcode() == Opcodes.PUTSTATIC;
             Field field = classes.field(loader, access.owner, access.name);
             boolean isEarly = writes && !isConstructed && access.getOpcode() == Opcodes.PUTFIELD && access.owner.equals(node.name);
+            if (field == null && !isStatic(access) && classes.isOfJdk(loader, access.owner, access.name)) {
+                wholes.rewriteField(access, line);
+            }
             if (field == null || isEarly) {
                 return;
             }
@@ -194,6 +211,10 @@ final class Rewriter {
                 rewriteAccess(access, field, writes, behind);
             }
             code.insert(access, behind);
+        }
+
+        private static boolean isStatic(FieldInsnNode access) {
+            return access.getOpcode() == Opcodes.GETSTATIC || access.getOpcode() == Opcodes.PUTSTATIC;
         }
 
         private void rewriteAccess(FieldInsnNode access, Field field, boolean writes, InsnList behind) {

@@ -1,14 +1,18 @@
 package example.hometturi.itctrace.agent;
 
 import static example.hometturi.itctrace.agent.Rewriter.hook;
+import static example.hometturi.itctrace.agent.Rewriter.listOf;
 
+import example.hometturi.itctrace.Kinds;
 import example.hometturi.itctrace.Watched;
 import java.util.ArrayList;
 import java.util.List;
 import java.util.Set;
+import org.objectweb.asm.Handle;
 import org.objectweb.asm.Opcodes;
 import org.objectweb.asm.Type;
 import org.objectweb.asm.tree.AbstractInsnNode;
+import org.objectweb.asm.tree.FieldInsnNode;
 import org.objectweb.asm.tree.InsnList;
 import org.objectweb.asm.tree.InsnNode;
 import org.objectweb.asm.tree.InvokeDynamicInsnNode;
@@ -27,22 +31,20 @@ final class WholeCalls {
                     "parallelSort", "parallelSetAll", "parallelPrefix", "read", "nextBytes", "getChars", "getBytes", "and", "or", "xor");
     /** What begins like those, and changes nothing. */
     private static final Set<String> NOT_CHANGING = Set.of("copyOf", "copyOfRange", "order");
-    /** Of other objects than collections these change nothing. */
-    private static final Set<String> READING =
-            Set.of("equals", "hashCode", "toString", "compareTo", "clone", "length", "capacity", "limit", "position", "remaining", "hasNext");
-    private static final List<String> CHANGED_BY_ALL =
-            List.of(
-                    "java/text/", "java/nio/", "java/util/Scanner", "java/util/Formatter", "java/util/StringTokenizer", "java/util/Calendar",
-                    "java/util/GregorianCalendar", "java/util/WeakHashMap", "java/util/StringJoiner");
     /** Those whose methods look into any object that they are given. */
     private static final Set<String> LOOKING =
             Set.of("java/lang/String", "java/lang/StringBuilder", "java/util/Objects", "java/io/PrintStream", "java/io/PrintWriter");
-    private static final List<String> NOT_WATCHED =
-            List.of(
-                    "java/util/concurrent/", "java/util/function/", "java/util/logging/", "java/util/Optional", "java/util/UUID",
-                    "java/util/Locale", "java/util/Random", "java/util/Timer", "java/util/regex/Pattern", "java/util/zip/", "java/util/jar/",
-                    "java/util/Comparator", "java/util/Base64", "java/util/ServiceLoader", "java/util/SplittableRandom",
-                    "java/util/stream/Collectors", "java/util/stream/Collector", "java/util/Objects", "java/util/Currency");
+    /** What looks whether there is an object, and not into it. */
+    private static final Set<String> NOT_LOOKING =
+            Set.of("requireNonNull", "requireNonNullElse", "requireNonNullElseGet", "isNull", "nonNull", "identityHashCode");
+    /** Those that look into each of an array of objects. */
+    private static final Set<String> LOOKING_INTO_EACH =
+            Set.of("java/lang/String", "java/util/Objects", "java/io/PrintStream", "java/io/PrintWriter", "java/util/Formatter", "java/text/MessageFormat");
+    /** The methods of any object that the JDK has for those that it makes. */
+    private static final Set<String> OF_ANY_OBJECT = Set.of("toString", "hashCode", "equals");
+    /** What fills an array that it is given. */
+    private static final List<String> FILLING =
+            List.of("read", "getChars", "getBytes", "nextBytes", "toArray", "inflate", "deflate", "digest", "doFinal", "fill", "receive");
 
     private final MethodNode method;
     private final InsnList code;
@@ -56,15 +58,16 @@ final class WholeCalls {
         this.function = function;
     }
 
-    /** Whether the objects of this class may be watched as a whole. */
+    /** Whether the objects of this class of the JDK may be watched as a whole. */
     static boolean isWhole(String owner) {
-        boolean isOfKind =
-                owner.startsWith("java/util/")
-                        || owner.startsWith("java/text/")
-                        || owner.startsWith("java/nio/") && owner.endsWith("Buffer")
-                        || owner.equals("java/lang/StringBuilder")
-                        || owner.equals("java/lang/Iterable");
-        return isOfKind && NOT_WATCHED.stream().noneMatch(owner::startsWith);
+        return !Kinds.isSurelySafe(owner);
+    }
+
+    /** A method that any object has. */
+    void rewriteOfAny(MethodInsnNode call, int line) {
+        if (call.getOpcode() == Opcodes.INVOKEVIRTUAL && OF_ANY_OBJECT.contains(call.name)) {
+            rewrite(call, "java/lang/Object", line);
+        }
     }
 
     /** The method of the JDK is one of this class, or of one below it. */
@@ -87,14 +90,12 @@ final class WholeCalls {
         InsnList behind = new InsnList();
         boolean mayDoMore = call.desc.contains("Ljava/util/function/") || call.desc.contains("Ljava/util/Comparator;");
         for (int place : touched) {
-            boolean writes = place < 0 ? changes(owner, call.name) : changesGiven(owner, call.name, place, given[place]);
-            before.add(touch(kept, place, writes, line));
+            before.add(touch(kept, call, owner, place, line));
             if (mayDoMore || owner.startsWith("java/util/stream/")) {
-                behind.add(touch(kept, place, writes, line));
+                behind.add(touch(kept, call, owner, place, line));
             }
         }
-        String result = Type.getReturnType(call.desc).getDescriptor();
-        if (!isMaking && (result.startsWith("Ljava/util/") || result.startsWith("Ljava/nio/") || result.equals(OBJECT))) {
+        if (!isMaking && mayShow(Type.getReturnType(call.desc).getDescriptor())) {
             behind.add(new InsnNode(Opcodes.DUP));
             behind.add(kept.load(touched.get(0)));
             behind.add(hook("derive", "(" + OBJECT + OBJECT + ")V"));
@@ -103,8 +104,20 @@ final class WholeCalls {
         code.insert(call, behind);
     }
 
-    /** A text that is made of objects looks into them. */
+    /** Whether what a call gives may be a part of what it was given. */
+    private static boolean mayShow(String result) {
+        return result.startsWith("L") && (result.equals(OBJECT) || isWhole(nameOf(result))) || result.startsWith("[") && result.length() == 2;
+    }
+
+    private static String nameOf(String descriptor) {
+        return descriptor.substring(1, descriptor.length() - 1);
+    }
+
+    /** A text that is made of objects looks into them. So does a record, by the methods that it has without a word in its source. */
     void rewrite(InvokeDynamicInsnNode call, int line) {
+        if (call.bsm.getOwner().equals("java/lang/runtime/ObjectMethods")) {
+            lookIntoRecord(call, line);
+        }
         if (!call.bsm.getOwner().equals("java/lang/invoke/StringConcatFactory")) {
             return;
         }
@@ -112,33 +125,49 @@ final class WholeCalls {
         List<Integer> touched = new ArrayList<>();
         for (int place = 0; place < given.length; place++) {
             String descriptor = given[place].getDescriptor();
-            if (isCollection(descriptor) || descriptor.equals(OBJECT)) {
+            if (descriptor.startsWith("L") && isWhole(nameOf(descriptor))) {
                 touched.add(place);
             }
         }
         if (!touched.isEmpty()) {
             Kept kept = Kept.of(method, call, call.desc, false);
-            touched.forEach(place -> code.insertBefore(call, touch(kept, place, false, line)));
+            touched.forEach(place -> code.insertBefore(call, touch(kept, place, "toString()", false, true, false, line)));
         }
     }
 
-    private static boolean isTouched(String owner, String name, String descriptor) {
-        boolean isAny = descriptor.equals(OBJECT);
-        return descriptor.startsWith("[") && !owner.startsWith("java/util/concurrent/")
-                || isCollection(descriptor) && !owner.startsWith("java/util/concurrent/")
-                || isAny && (LOOKING.contains(owner) || name.equals("equals") || owner.equals("java/lang/System"));
+    private void lookIntoRecord(InvokeDynamicInsnNode call, int line) {
+        for (Object one : call.bsmArgs) {
+            if (one instanceof Handle handle && handle.getTag() == Opcodes.H_GETFIELD && handle.getDesc().startsWith("L")) {
+                code.insertBefore(
+                        call,
+                        listOf(
+                                new VarInsnNode(Opcodes.ALOAD, 0),
+                                new FieldInsnNode(Opcodes.GETFIELD, handle.getOwner(), handle.getName(), handle.getDesc()),
+                                number("toString()", false, true, false, line),
+                                hook("whole", "(" + OBJECT + "I)V")));
+            }
+        }
     }
 
-    private static boolean isCollection(String descriptor) {
-        return descriptor.startsWith("L") && isWhole(descriptor.substring(1, descriptor.length() - 1))
-                || descriptor.equals("Ljava/lang/CharSequence;");
+    /** Whether a method touches what it is given by this descriptor. */
+    static boolean isTouched(String owner, String name, String descriptor) {
+        if (descriptor.startsWith("[")) {
+            return true;
+        }
+        if (NOT_LOOKING.contains(name)) {
+            return false;
+        }
+        if (descriptor.equals(OBJECT)) {
+            boolean isOfElements = owner.equals("java/lang/reflect/Array") && !name.equals("newInstance");
+            return LOOKING.contains(owner) || name.equals("equals") || owner.equals("java/lang/System") || isOfElements;
+        }
+        return descriptor.startsWith("L") && isWhole(nameOf(descriptor));
     }
 
+    /** Whether a method with this name changes a collection. */
     private static boolean changes(String owner, String name) {
-        if (CHANGED_BY_ALL.stream().anyMatch(owner::startsWith)) {
-            return !READING.contains(name);
-        }
-        return !NOT_CHANGING.contains(name) && CHANGING.stream().anyMatch(name::startsWith);
+        boolean isOfStream = owner.startsWith("java/util/stream/");
+        return !isOfStream && !NOT_CHANGING.contains(name) && CHANGING.stream().anyMatch(name::startsWith);
     }
 
     /** Of what is given a method that changes an object changes the first alone. Of an array it may change each. */
@@ -146,29 +175,76 @@ final class WholeCalls {
         if (owner.equals("java/lang/System")) {
             return place == 2;
         }
-        boolean isStatic = owner.equals("java/util/Collections") || owner.equals("java/util/Arrays");
         boolean isArray = given.getDescriptor().startsWith("[");
-        return (isStatic && place == 0 || !isStatic && isArray) && changes(owner, name) && !isGivingOnly(owner, name);
+        if (owner.equals("java/util/Collections") || owner.equals("java/util/Arrays")) {
+            return changes(owner, name) && (place == 0 || isArray && owner.equals("java/util/Arrays"));
+        }
+        if (owner.equals("java/lang/reflect/Array")) {
+            return name.startsWith("set");
+        }
+        if (!isArray) {
+            return name.equals("drainTo");
+        }
+        boolean isOfBuffer = owner.startsWith("java/nio/") && name.startsWith("get");
+        boolean isOfCoder = owner.startsWith("java/util/Base64") && place == 1;
+        return isOfBuffer || isOfCoder || FILLING.stream().anyMatch(name::startsWith) && !owner.equals("java/util/Arrays");
     }
 
-    /** A list that gets elements by an array, or a text, reads the array. */
-    private static boolean isGivingOnly(String owner, String name) {
-        return !name.startsWith("read") && !name.startsWith("get") && !name.startsWith("nextBytes") && !owner.equals("java/util/Arrays")
-                && !owner.equals("java/util/Collections") && !owner.startsWith("java/nio/");
-    }
-
-    private InsnList touch(Kept kept, int place, boolean writes, int line) {
-        InsnList list = new InsnList();
-        list.add(kept.load(place));
-        list.add(new LdcInsnNode(Watched.placeOf(null, writes, file, line, function)));
-        list.add(hook("whole", "(" + OBJECT + "I)V"));
+    /** Touches the object if the place is -1, else what is given. */
+    private InsnList touch(Kept kept, MethodInsnNode call, String owner, int place, int line) {
+        String named = call.name + call.desc;
+        if (place < 0) {
+            return touch(kept, place, named, true, false, changes(owner, call.name), line);
+        }
+        Type given = Type.getArgumentTypes(call.desc)[place];
+        String descriptor = given.getDescriptor();
+        boolean looksInto = descriptor.equals(OBJECT) || descriptor.equals("Ljava/lang/CharSequence;") || descriptor.equals("L" + owner + ";");
+        InsnList list = touch(kept, place, named, false, looksInto, changesGiven(owner, call.name, place, given), line);
+        if (looksIntoEach(owner, call.name, descriptor)) {
+            list.add(listOf(kept.load(place), number(named, false, true, false, line), hook("elements", "([" + OBJECT + "I)V")));
+        }
         return list;
+    }
+
+    private static boolean looksIntoEach(String owner, String name, String descriptor) {
+        boolean isOfArrays = owner.equals("java/util/Arrays") && (OF_ANY_OBJECT.contains(name) || name.startsWith("deep"));
+        boolean isOfObjects = descriptor.equals("[" + OBJECT) || descriptor.equals("[Ljava/lang/CharSequence;");
+        return isOfObjects && (isOfArrays || LOOKING_INTO_EACH.contains(owner));
+    }
+
+    private InsnList touch(Kept kept, int place, String named, boolean isOwn, boolean looksInto, boolean changes, int line) {
+        return listOf(kept.load(place), number(named, isOwn, looksInto, changes, line), hook("whole", "(" + OBJECT + "I)V"));
+    }
+
+    private LdcInsnNode number(String named, boolean isOwn, boolean looksInto, boolean changes, int line) {
+        return new LdcInsnNode(Watched.useOf(named, isOwn, looksInto, changes, file, line, function));
+    }
+
+    /** The copy of an object reads all of its fields. */
+    void rewriteCopy(MethodInsnNode call, int line) {
+        code.insertBefore(call, new InsnNode(Opcodes.DUP));
+        int place = Watched.placeOf(null, false, file, line, function);
+        code.insert(call, listOf(new InsnNode(Opcodes.SWAP), new LdcInsnNode(place), hook("cloned", "(" + OBJECT + OBJECT + "I)" + OBJECT)));
     }
 
     /** The copy of an array reads all of it. */
     void rewriteClone(MethodInsnNode call, int line) {
         code.insertBefore(call, new InsnNode(Opcodes.DUP));
         code.insertBefore(call, elementHook(false, line));
+    }
+
+    /** A read or a write of a field that the JDK has declared. */
+    void rewriteField(FieldInsnNode access, int line) {
+        boolean writes = access.getOpcode() == Opcodes.PUTFIELD;
+        boolean isWide = access.desc.equals("J") || access.desc.equals("D");
+        if (!writes) {
+            code.insertBefore(access, new InsnNode(Opcodes.DUP));
+        } else if (isWide) {
+            code.insertBefore(access, listOf(new InsnNode(Opcodes.DUP2_X1), new InsnNode(Opcodes.POP2), new InsnNode(Opcodes.DUP_X2)));
+        } else {
+            code.insertBefore(access, listOf(new InsnNode(Opcodes.DUP2), new InsnNode(Opcodes.POP)));
+        }
+        code.insertBefore(access, listOf(number(access.name + "()", false, !writes, writes, line), hook("whole", "(" + OBJECT + "I)V")));
     }
 
     /** A read or a write of an element. */
@@ -208,7 +284,7 @@ final class WholeCalls {
 
     private InsnList elementHook(boolean writes, int line) {
         InsnList list = new InsnList();
-        list.add(new LdcInsnNode(Watched.placeOf(null, writes, file, line, function)));
+        list.add(number("element()", true, false, writes, line));
         list.add(hook("element", "(" + OBJECT + "I)V"));
         return list;
     }
