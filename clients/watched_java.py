@@ -2,8 +2,9 @@
 
 Each method of `Races`, `MoreRaces` and `SharedRaces` is a program with a race, and each of `Clean`, `MoreClean` and `SharedClean` one
 without. A line that races says so in a comment of the source, as in `race: lostUpdate`. Exactly these lines have to be listed. Those of
-`Stars` and `SharedStars` have no race either, and each line with a comment as `star: sharedMap` has to be named as not looked into. The odd
-programs of `Odd` have to write what they write unwatched.
+`Stars` and `SharedStars` have no race either, and each line with a comment as `star: sharedMap` has to be named as not looked into. A run
+of those of `Children` has to be incomplete, and names where they start another JVM. The odd programs of `Odd` have to write what they
+write unwatched.
 
 Usage: clients/watched_java.py FOLDER, with the agent and the built programs in FOLDER. The last line is 'watched_java: N passed'.
 ITC_PROGRAM_RUNS says how often each program is run, once if it is not set.
@@ -24,12 +25,12 @@ from typing import Any, NamedTuple
 CLIENTS = Path(__file__).resolve().parent
 SOURCES = CLIENTS / "java/agent/programs"
 PROGRAM = re.compile(r"    static void (\w+)\(\) (?:throws \w+ )?\{")
-MARKED = re.compile(r"(?:race|star): (\w+)")
+MARKED = re.compile(r"(?:race|star|child): (\w+)")
 AT_ONCE = 2 * len(os.sched_getaffinity(0))
 """A JVM that starts waits for more than the processor."""
 RUNS = int(os.environ.get("ITC_PROGRAM_RUNS", "1"))
 MOST_SECONDS = 300
-NO_RACE, RACES = 0, 66
+NO_RACE, RACES, INCOMPLETE = 0, 66, 67
 BRIEF = ("-XX:TieredStopAtLevel=1", "-XX:+UseSerialGC")
 
 
@@ -102,6 +103,15 @@ def fault_of_starred(folder: Path, program: Program) -> str | None:
     return None
 
 
+def fault_of_parent(folder: Path, program: Program) -> str | None:
+    """What is wrong with a run of a program that starts another JVM."""
+    ran = watched(folder, [program.type, program.name])
+    due = [f"a child process was not traced: java, which was started at {file}:{line}" for file, line in program.lines]
+    if ran.status != INCOMPLETE or not due or any(one not in ran.errors for one in due):
+        return f"status {ran.status}, without {due}\n{ran.errors}"
+    return None
+
+
 def fault_of(folder: Path, program: Program) -> str | None:
     """What is wrong with a run of the program."""
     ran = watched(folder, [program.type, program.name])
@@ -131,7 +141,8 @@ def fault_of_odd(folder: Path, program: Program) -> str | None:
 
 FAULTS = (
     ("Races", fault_of), ("MoreRaces", fault_of), ("Clean", fault_of), ("MoreClean", fault_of), ("Stars", fault_of_starred),
-    ("SharedRaces", fault_of), ("SharedClean", fault_of), ("SharedStars", fault_of_starred), ("Odd", fault_of_odd),
+    ("SharedRaces", fault_of), ("SharedClean", fault_of), ("SharedStars", fault_of_starred), ("Children", fault_of_parent),
+    ("Odd", fault_of_odd),
 )
 """The classes of programs, and what looks at a run of one."""
 

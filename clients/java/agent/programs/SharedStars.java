@@ -206,6 +206,12 @@ public final class SharedStars {
         both(use, use);
     }
 
+    static void otherProcess() throws Exception {
+        Process process = new ProcessBuilder("true").start(); // star: otherProcess
+        process.waitFor();
+        Runtime.getRuntime().exec("true").waitFor(); // star: otherProcess
+    }
+
     private SharedStars() {}
 
     public static void main(String[] words) throws Exception {

@@ -804,6 +804,22 @@ public final class Watched {
         }
     }
 
+    // Processes
+
+    /** This thread starts a process. Nobody looks at what that one does. */
+    public static void startsProcess(ProcessBuilder builder) {
+        if (Traced.isOn() && !builder.command().isEmpty()) {
+            String command = builder.command().get(0);
+            String name = command.substring(command.lastIndexOf('/') + 1);
+            Site site = Traced.site();
+            if (name.equals("java") || name.equals("java.exe")) {
+                Traced.tracer().missChild("a child process was not traced: " + name + ", which was started at " + site);
+            } else {
+                Traced.tracer().passOver("child process " + name, site);
+            }
+        }
+    }
+
     // Copies
 
     /** This thread has copied an object of the program, field by field. What is known of the fields stays with the first one. */

@@ -32,6 +32,7 @@ final class OfTheJdk implements ClassFileTransformer {
                     CountDownLatch.class,
                     Semaphore.class,
                     Timer.class,
+                    ProcessBuilder.class,
                     classNamed("java.util.TimerThread"));
 
     private static final String HOOKS = "example/hometturi/itctrace/Watched";
@@ -98,6 +99,12 @@ final class OfTheJdk implements ClassFileTransformer {
                     last("java/util/concurrent/Semaphore", "tryAcquire(I)Z", "takesIf", null),
                     last("java/util/concurrent/Semaphore", "tryAcquire(JLjava/util/concurrent/TimeUnit;)Z", "takesIf", null),
                     last("java/util/concurrent/Semaphore", "tryAcquire(IJLjava/util/concurrent/TimeUnit;)Z", "takesIf", null),
+                    first(
+                            "java/lang/ProcessBuilder",
+                            "start([Ljava/lang/ProcessBuilder$Redirect;)Ljava/lang/Process;",
+                            "startsProcess",
+                            "(Ljava/lang/ProcessBuilder;)V",
+                            0),
                     first("java/util/Timer", "sched(Ljava/util/TimerTask;JJ)V", "gives", OF_ANY, 1));
 
     private static Put first(String type, String method, String hook, String descriptor, int local) {

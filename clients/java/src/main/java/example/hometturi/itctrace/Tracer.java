@@ -369,6 +369,13 @@ final class Tracer {
         }
     }
 
+    /** What a child process does is not seen. */
+    synchronized void missChild(String reason) {
+        if (stage != Stage.OVER) {
+            unwritten.append(Row.unseen("child", reason));
+        }
+    }
+
     /** A part of the program is not seen. */
     synchronized void miss(String reason) {
         if (stage != Stage.OVER) {
