@@ -14,6 +14,7 @@ import org.objectweb.asm.tree.LabelNode;
 import org.objectweb.asm.tree.LineNumberNode;
 import org.objectweb.asm.tree.MethodInsnNode;
 import org.objectweb.asm.tree.MethodNode;
+import org.objectweb.asm.tree.TypeInsnNode;
 import org.objectweb.asm.tree.VarInsnNode;
 
 /** Gives a method of the JDK that is handed on by its name, as in {@code map::put}, a method of the program that calls it, with hooks. */
@@ -42,8 +43,7 @@ final class References {
         }
         Handle handle = (Handle) call.bsmArgs[1];
         int tag = handle.getTag();
-        boolean isPlain = tag == Opcodes.H_INVOKEVIRTUAL || tag == Opcodes.H_INVOKEINTERFACE || tag == Opcodes.H_INVOKESTATIC;
-        if (!isPlain || !calls.wantsHooks(handle)) {
+        if (tag < Opcodes.H_INVOKEVIRTUAL || tag == Opcodes.H_INVOKESPECIAL || !calls.wantsHooks(handle)) {
             return false;
         }
         MethodNode made = methodOf(handle, call.desc, line);
@@ -59,32 +59,48 @@ final class References {
     }
 
     private MethodNode methodOf(Handle handle, String captured, int line) {
-        boolean isStatic = handle.getTag() == Opcodes.H_INVOKESTATIC;
-        Type[] given = Type.getArgumentTypes(handle.getDesc());
-        Type[] all = given;
-        if (!isStatic) {
-            Type[] bound = Type.getArgumentTypes(captured);
-            all = new Type[given.length + 1];
-            all[0] = bound.length > 0 ? bound[0] : Type.getObjectType(handle.getOwner());
-            System.arraycopy(given, 0, all, 1, given.length);
-        }
-        Type result = Type.getReturnType(handle.getDesc());
+        boolean isMaking = handle.getTag() == Opcodes.H_NEWINVOKESPECIAL;
+        Type owner = Type.getObjectType(handle.getOwner());
+        Type result = isMaking ? owner : Type.getReturnType(handle.getDesc());
+        Type[] given = givenTo(handle, captured);
         int access = Opcodes.ACC_PRIVATE | Opcodes.ACC_STATIC | Opcodes.ACC_SYNTHETIC;
         String name = "lambda$" + method.name.replaceAll("[<>]", "") + Watched.OWN_METHOD + node.methods.size();
-        MethodNode made = new MethodNode(access, name, Type.getMethodDescriptor(result, all), null, null);
+        MethodNode made = new MethodNode(access, name, Type.getMethodDescriptor(result, given), null, null);
         LabelNode begin = new LabelNode();
         made.instructions.add(listOf(begin, new LineNumberNode(line, begin)));
+        if (isMaking) {
+            made.instructions.add(listOf(new TypeInsnNode(Opcodes.NEW, handle.getOwner()), new InsnNode(Opcodes.DUP)));
+        }
         int local = 0;
-        for (Type one : all) {
+        for (Type one : given) {
             made.instructions.add(new VarInsnNode(one.getOpcode(Opcodes.ILOAD), local));
             local += one.getSize();
         }
-        int opcode =
-                isStatic ? Opcodes.INVOKESTATIC : handle.getTag() == Opcodes.H_INVOKEINTERFACE ? Opcodes.INVOKEINTERFACE : Opcodes.INVOKEVIRTUAL;
-        made.instructions.add(new MethodInsnNode(opcode, handle.getOwner(), handle.getName(), handle.getDesc(), handle.isInterface()));
+        made.instructions.add(new MethodInsnNode(opcodeOf(handle), handle.getOwner(), handle.getName(), handle.getDesc(), handle.isInterface()));
         made.instructions.add(new InsnNode(result.getOpcode(Opcodes.IRETURN)));
         made.maxLocals = local;
-        made.maxStack = local + 2;
         return made;
+    }
+
+    /** What the method gets: the object first, if it is one of an object. */
+    private static Type[] givenTo(Handle handle, String captured) {
+        Type[] given = Type.getArgumentTypes(handle.getDesc());
+        if (handle.getTag() == Opcodes.H_INVOKESTATIC || handle.getTag() == Opcodes.H_NEWINVOKESPECIAL) {
+            return given;
+        }
+        Type[] bound = Type.getArgumentTypes(captured);
+        Type[] all = new Type[given.length + 1];
+        all[0] = bound.length > 0 ? bound[0] : Type.getObjectType(handle.getOwner());
+        System.arraycopy(given, 0, all, 1, given.length);
+        return all;
+    }
+
+    private static int opcodeOf(Handle handle) {
+        return switch (handle.getTag()) {
+            case Opcodes.H_INVOKESTATIC -> Opcodes.INVOKESTATIC;
+            case Opcodes.H_INVOKEINTERFACE -> Opcodes.INVOKEINTERFACE;
+            case Opcodes.H_NEWINVOKESPECIAL -> Opcodes.INVOKESPECIAL;
+            default -> Opcodes.INVOKEVIRTUAL;
+        };
     }
 }
