@@ -30,6 +30,7 @@ import java.util.Map;
 import java.util.ServiceLoader;
 import java.util.WeakHashMap;
 import java.util.concurrent.atomic.AtomicIntegerFieldUpdater;
+import java.util.function.Function;
 import java.util.zip.GZIPOutputStream;
 import javax.xml.parsers.DocumentBuilderFactory;
 import org.w3c.dom.Document;
@@ -149,6 +150,32 @@ public final class SharedStars {
                     names.add("two"); // star: sharedByTheWay
                     System.out.println(others.stream().count() > 99); // star: sharedByTheWay
                     System.out.println(all[1] == null); // star: sharedByTheWay
+                });
+    }
+
+    interface Names extends List<String> {}
+
+    static final class Listed extends ArrayList<String> implements Names {
+        private static final long serialVersionUID = 1;
+    }
+
+    record Stock(List<String> names) {}
+
+    static void sharedByOthers() throws InterruptedException {
+        Names names = new Listed();
+        Stock stock = new Stock(new ArrayList<>());
+        Function<List<String>, List<String>> copy = ArrayList::new; // star: sharedByOthers
+        List<String> others = new ArrayList<>();
+        both(
+                () -> {
+                    names.add("one"); // star: sharedByOthers
+                    System.out.println(stock.toString().length() > 99);
+                    copy.apply(others);
+                },
+                () -> {
+                    System.out.println(names.size() > 99); // star: sharedByOthers
+                    stock.names().add("one"); // star: sharedByOthers
+                    others.add("one"); // star: sharedByOthers
                 });
     }
 

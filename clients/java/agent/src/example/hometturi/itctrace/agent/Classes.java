@@ -1,6 +1,7 @@
 package example.hometturi.itctrace.agent;
 
 import example.hometturi.itctrace.Field;
+import example.hometturi.itctrace.Kinds;
 import example.hometturi.itctrace.Type;
 import example.hometturi.itctrace.Watched;
 import java.io.IOException;
@@ -182,6 +183,21 @@ final class Classes {
             one = one.startsWith("[") ? null : of(loader, one).map(described -> described.above).orElse(null);
         }
         return one == null || one.equals("java/lang/Object") ? null : one;
+    }
+
+    /** An interface of the JDK that this one of the program extends, of which an object may be looked at. Null if there is none. */
+    String interfaceOfTheJdk(ClassLoader loader, String name) {
+        for (String one : of(loader, name).map(described -> described.interfaces).orElse(new String[0])) {
+            String found = !Watching.isOfJdk(one) ? interfaceOfTheJdk(loader, one) : mayMatter(one) ? one : null;
+            if (found != null) {
+                return found;
+            }
+        }
+        return null;
+    }
+
+    private static boolean mayMatter(String name) {
+        return !Kinds.isSurelySafe(name) || name.startsWith("java/util/concurrent/");
     }
 
     /** The number of a class that has something to initialize. */

@@ -137,6 +137,9 @@ final class Rewriter {
                         isConstructed |= open-- == 0;
                     }
                     String owner = classes.ofTheJdk(loader, call.owner);
+                    if (owner == null && call.getOpcode() == Opcodes.INVOKEINTERFACE) {
+                        owner = classes.interfaceOfTheJdk(loader, call.owner);
+                    }
                     if (owner != null) {
                         wholes.rewrite(call, owner, line);
                     } else if (call.owner.startsWith("[")) {
