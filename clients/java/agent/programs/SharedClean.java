@@ -81,10 +81,14 @@ public final class SharedClean {
         BitSet days = new BitSet();
         days.set(2);
         Date day = new Date(7);
+        TimeZone zone = TimeZone.getTimeZone("UTC");
         StringBuilder text = new StringBuilder("shop");
         ByteBuffer buffer = ByteBuffer.wrap("stock".getBytes(StandardCharsets.UTF_8));
         Runnable use =
                 () -> {
+                    SimpleDateFormat format = new SimpleDateFormat("yyyy");
+                    format.setTimeZone(zone);
+                    System.out.println(format.format(day) + Calendar.getInstance(zone).getTimeZone().getID() + new String(text));
                     ByteBuffer own = buffer.duplicate();
                     int sum = own.get() + buffer.get(1);
                     Iterator<Integer> each = numbers.iterator();

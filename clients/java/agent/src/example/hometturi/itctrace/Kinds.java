@@ -34,11 +34,11 @@ public final class Kinds {
 
     /**
      * Of a followed class, which methods change an object, or which ones do not, by how they begin. Those that are unsure read it, and
-     * may change it, as they work out what was not asked for before.
+     * may change it, as they work out what was not asked for before. Of some classes no method of another object changes what it gets.
      */
-    private record Methods(boolean areChanging, List<String> beginnings, List<String> unsure) {
+    private record Methods(boolean areChanging, List<String> beginnings, List<String> unsure, boolean isReadWhereGiven) {
         Methods(boolean areChanging, List<String> beginnings) {
-            this(areChanging, beginnings, List.of());
+            this(areChanging, beginnings, List.of(), false);
         }
 
         boolean change(String method) {
@@ -73,6 +73,11 @@ public final class Kinds {
             return methods.mayChange(method);
         }
 
+        /** Whether a method of another object that gets the object only reads it. */
+        boolean isReadWhereGiven() {
+            return methods.isReadWhereGiven;
+        }
+
         static boolean steps(String method) {
             return !LOOKING_ON.contains(method);
         }
@@ -87,26 +92,28 @@ public final class Kinds {
 
     private static final List<String> OF_ANY = List.of("toString", "hashCode", "equals");
     private static final Methods BY_SETTERS = changing("set");
+    private static final Methods OF_A_VALUE = new Methods(true, List.of("set"), List.of(), true);
     private static final Methods OF_A_SUM = changing("accept", "combine", "update", "reset");
     private static final Methods OF_AN_ALGORITHM = reading("get", "clone");
     private static final Methods OF_A_CODER =
             reading("charset", "maxBytesPer", "averageBytesPer", "maxCharsPer", "averageCharsPer", "malformedInput", "unmappable", "replacement");
     private static final Methods OF_A_CALENDAR =
-            new Methods(true, List.of("set", "add", "roll", "clear", "complete", "compute"), List.of("get", "before", "after", "compareTo", "toInstant"));
+            new Methods(
+                    true, List.of("set", "add", "roll", "clear", "complete", "compute"), List.of("get", "before", "after", "compareTo", "toInstant"), false);
 
     /** By the names of classes, which hold for those below them, too. */
     private static final Map<String, Methods> FOLLOWED =
             Map.ofEntries(
                     Map.entry("java.lang.StringBuilder", changing("append", "insert", "delete", "replace", "reverse", "set", "ensure", "trim")),
                     Map.entry("java.util.BitSet", changing("set", "clear", "flip", "and", "or", "xor")),
-                    Map.entry("java.util.Date", BY_SETTERS),
-                    Map.entry("java.util.TimeZone", BY_SETTERS),
+                    Map.entry("java.util.Date", OF_A_VALUE),
+                    Map.entry("java.util.TimeZone", OF_A_VALUE),
                     Map.entry("java.util.zip.ZipEntry", BY_SETTERS),
                     Map.entry("java.util.logging.LogRecord", BY_SETTERS),
                     Map.entry("java.text.ParsePosition", BY_SETTERS),
                     Map.entry("java.text.FieldPosition", BY_SETTERS),
-                    Map.entry("java.text.DecimalFormatSymbols", BY_SETTERS),
-                    Map.entry("java.text.DateFormatSymbols", BY_SETTERS),
+                    Map.entry("java.text.DecimalFormatSymbols", OF_A_VALUE),
+                    Map.entry("java.text.DateFormatSymbols", OF_A_VALUE),
                     Map.entry("java.text.ChoiceFormat", changing("set", "apply")),
                     Map.entry("java.util.StringJoiner", changing("add", "set", "merge")),
                     Map.entry("java.util.zip.CRC32", OF_A_SUM),
@@ -152,13 +159,15 @@ public final class Kinds {
                     "java.util.Collections", "java.util.Comparator", "java.util.EventListener", "java.util.stream.Collectors",
                     "java.util.stream.Collector", "java.util.stream.StreamSupport", "java.text.Collator", "java.text.CollationKey",
                     "java.text.Normalizer", "java.security.KeyPair", "java.security.CodeSource", "java.security.ProtectionDomain",
-                    "java.security.Permission", "java.security.cert.Certificate", "java.security.cert.CRL", "java.sql.DriverManager");
+                    "java.security.Permission", "java.security.cert.Certificate", "java.security.cert.CRL", "java.sql.DriverManager",
+                    "java.awt.Color", "java.awt.Font", "java.beans.PropertyChangeSupport", "javax.management.ObjectName",
+                    "javax.xml.namespace.QName");
     /** Of these packages all classes are so but those above. */
     private static final List<String> SAFE_PACKAGES =
             List.of(
                     "java.lang.", "java.time.", "java.math.", "java.util.concurrent.", "java.util.function.", "java.util.logging.",
                     "java.util.prefs.", "java.nio.file.", "java.nio.channels.", "java.nio.charset.", "java.net.",
-                    "javax.crypto.spec.", "javax.net.", "sun.nio.", "sun.util.", "jdk.internal.net.http.", "jdk.internal.reflect.",
+                    "java.security.spec.", "javax.crypto.spec.", "javax.net.", "sun.nio.", "sun.util.", "jdk.internal.net.http.", "jdk.internal.reflect.",
                     "jdk.internal.loader.", "java.util.Base64$", "java.util.Comparators$", "java.util.Collections$Reverse",
                     "java.util.ImmutableCollections", "java.util.Collections$Empty", "java.util.Collections$Singleton",
                     "java.util.Collections$Synchronized", "java.util.stream.Collectors$", "java.util.Hashtable$", "java.util.Vector$",

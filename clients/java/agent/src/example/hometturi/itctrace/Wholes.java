@@ -99,7 +99,7 @@ final class Wholes {
                     cells.position(kind.name()).touch(use.inner(true));
                 }
             }
-            case GIVEN -> cells.content.touch(use.inner(true));
+            case GIVEN -> cells.content.touch(kind.isReadWhereGiven() ? use.whole(false) : use.inner(true));
             case LOOKED_INTO -> cells.content.touch(use.whole(false));
         }
     }

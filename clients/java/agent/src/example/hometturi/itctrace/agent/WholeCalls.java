@@ -198,7 +198,7 @@ final class WholeCalls {
         }
         Type given = Type.getArgumentTypes(call.desc)[place];
         String descriptor = given.getDescriptor();
-        boolean looksInto = descriptor.equals(OBJECT) || descriptor.equals("Ljava/lang/CharSequence;") || descriptor.equals("L" + owner + ";");
+        boolean looksInto = LOOKING.contains(owner) || descriptor.equals(OBJECT) || descriptor.equals("Ljava/lang/CharSequence;") || descriptor.equals("L" + owner + ";");
         InsnList list = touch(kept, place, named, false, looksInto, changesGiven(owner, call.name, place, given), line);
         if (looksIntoEach(owner, call.name, descriptor)) {
             list.add(listOf(kept.load(place), number(named, false, true, false, line), hook("elements", "([" + OBJECT + "I)V")));
