@@ -117,7 +117,7 @@ def fork_all():
     os.waitpid(number, 0)
     os.close(terminal)
     subprocess.run(["true"], preexec_fn=os.getpid)
-    process = multiprocessing.get_context("fork").Process(target=print)
+    process = multiprocessing.get_context("fork").Process(target=int)
     process.start()
     process.join()
 fork_all()
