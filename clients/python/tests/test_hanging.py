@@ -25,7 +25,7 @@ from itc_trace import Verdict, tracing
 from itc_trace.model.lines import Line, state
 from itc_trace.model.lock_identity import LockIdentity
 from itc_trace.processes import between, hanging
-from itc_trace.processes.waits import Since, Wait, cycle_of, waits
+from itc_trace.processes.waits import Since, Wait, cycle_of, name_of, waits
 from itc_trace.record import plain
 
 from .support import PACKAGE, PROGRAM_RUNS, ProgramCase, Step, fresh_tenant, in_turn, run_traced, wait_until
@@ -505,7 +505,10 @@ class GoesOn(unittest.TestCase):
     """Tasks that are all seen as they wait may go on all the time: that nobody does is said once nothing comes of it."""
 
     def setUp(self) -> None:
-        for name, value in (("LOOK", 0.001), ("waits", lambda since: self.waits()), ("_handles_signals", lambda: False)):
+        for name, value in (
+            ("LOOK", 0.001), ("waits", lambda since: self.waits()), ("_handles_signals", lambda: False),
+            ("_say", hanging._say),
+        ):
             self.addCleanup(setattr, hanging, name, getattr(hanging, name))
             setattr(hanging, name, value)
         self.addCleanup(setattr, state, "tracer", state.tracer)
@@ -548,6 +551,23 @@ class GoesOn(unittest.TestCase):
     def test_who_asks_is_answered_at_once(self) -> None:
         self.hanging._size = -1
         self.assertFalse(self.nobody_goes_on(7))
+
+    def test_a_cycle_that_one_look_alone_has_seen_is_not_told(self) -> None:
+        """A thread that has just acquired a lock may be seen as it waits for it."""
+        lines = Line(None, "one"), Line(None, "two")
+        cycle = [
+            Wait(name_of(line), "waits for lock", "a.py:2", 1.0, line, lines[not at], LockIdentity("Lock", None), lasts=True)
+            for at, line in enumerate(lines)
+        ]
+        for later, times in (([], 0), (cycle, 1)):
+            said: list[object] = []
+            looks = chain([cycle], repeat(later))
+            hanging.waits = lambda since: next(looks)  # type: ignore[assignment]
+            hanging._say = said.append  # type: ignore[assignment]
+            self.hanging._write = said.append
+            state.tracer = SimpleNamespace(reported=None)  # type: ignore[assignment]
+            self.hanging._look_whether_stuck()
+            self.assertEqual(len(said), 2 * times, said)
 
 
 class Ended(ProgramCase):

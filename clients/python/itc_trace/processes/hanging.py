@@ -145,8 +145,11 @@ class Hanging:
         found = waits(self._since)
         self._own.look_at(found)
         cycle = cycle_of(found)
-        are_stuck = _are_endless(found) and (bool(cycle) or self._nobody_goes_on(found))
-        if not cycle and not are_stuck or state.tracer is None:
+        is_closed = self._keep(cycle)
+        are_stuck = _are_endless(found) and (is_closed or self._nobody_goes_on(found))
+        if cycle and not is_closed:
+            self._stuck = frozenset()  # A task of it has gone on as it was looked at.
+        if not is_closed and not are_stuck or state.tracer is None:
             return
         told, self._told = self._told, frozenset(map(_key, found if are_stuck else cycle))
         if told == self._told:
@@ -155,7 +158,7 @@ class Hanging:
             _say(lines_of(found, f"nobody{self._within()} goes on, as each waits for what only they could give:"))
         else:
             _say(lines_of(found, f"some{self._within()} wait for each other of"))
-        if self._keep(cycle) and self._break_off is not None:
+        if is_closed and self._break_off is not None:
             self._break_off()
 
     def _nobody_goes_on(self, found: list[Wait]) -> bool:
