@@ -13,7 +13,7 @@ from collections.abc import Callable, Container, Iterator
 from itertools import compress
 from sys import getrefcount
 from threading import get_ident
-from time import sleep
+from time import monotonic, sleep
 from typing import Any
 
 from .both_languages import LOOKED_THROUGH, MOST_HELD
@@ -30,9 +30,9 @@ through all of them.
 """
 DEEPEST = 8
 LAST_LOOKED_AT = 24
-SHORT_WAIT, MOST_WAITS = 0.0005, 40
-"""In seconds, how long and how often a thread waits for the collection of another one that has all objects in a list.
-There is a bound: the other thread may run a finalizer of the program that waits for this one.
+SHORT_WAIT, LONGEST_WAIT = 0.0005, 1.0
+"""In seconds, how long a thread waits at once, and in all, for the collection of another one that has all objects in a
+list. There is a bound: the other thread may run a finalizer of the program that waits for this one.
 """
 _collecting: set[int] = set()
 """The threads whose collections of garbage may refer to any object just now."""
@@ -112,11 +112,12 @@ class Held:
 
     def let_go_at_once(self, most: int) -> None:
         """The same until nothing goes. What is held last is looked at first: it is most often what a function made."""
-        for _ in range(MOST_WAITS):
+        end = monotonic() + LONGEST_WAIT
+        while True:
             earlier, is_beside = self._collections, _is_beside_a_collection()
             while self._let_go_of_last() or self.let_go_of_some(most):
                 pass
-            if not is_beside and earlier == self._collections:
+            if not is_beside and earlier == self._collections or monotonic() > end:
                 return
             sleep(SHORT_WAIT)
 

@@ -13,7 +13,7 @@ with tempfile.TemporaryFile("w+") as lines:
     read = []
 
     def work():
-        read.append(next(lines))  # race: write
+        read.append(next(lines, ""))  # race: write
 
     threads = [threading.Thread(target=work) for _ in range(2)]
     for thread in threads:
