@@ -6,10 +6,12 @@ import unittest
 
 from .support import run_python
 
-TRACE = ("itc_trace.sync", "itc_trace.watch", "itc_trace.api", "itc_trace.marked", "asyncio")
+TRACE = ("itc_trace.sync", "itc_trace.watch", "itc_trace.api", "itc_trace.marked")
 """What traces a program."""
 LOOK = ("itc_trace.analyse", "itc_trace.report")
 """What looks for races, and tells of them."""
+LARGE = ("asyncio", "ssl", "hashlib", "_hashlib")
+"""What takes megabytes, and is left to the program."""
 
 
 def imported(module: str, names: tuple[str, ...]) -> str:
@@ -26,6 +28,7 @@ class Imports(unittest.TestCase):
     def test_the_process_of_a_program_imports_nothing_that_looks_for_races(self) -> None:
         self.assertEqual(imported("itc_trace.cli.launch", LOOK), "")
         self.assertEqual(imported("itc_trace.cli.launch", TRACE), " ".join(sorted(TRACE)))
+        self.assertEqual(imported("itc_trace.cli.launch", LARGE), "")
 
     def test_each_public_name_is_there_and_listed(self) -> None:
         code = (

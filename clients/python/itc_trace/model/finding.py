@@ -2,7 +2,6 @@
 
 from __future__ import annotations
 
-import hashlib
 import json
 import re
 from collections.abc import Sequence
@@ -122,6 +121,8 @@ class Known:
 
     @property
     def identity(self) -> str:
+        import hashlib  # It loads OpenSSL, which a traced program does without.
+
         text = json.dumps([self.thing, [[side.kind, side.function, side.source] for side in self.sides]])
         return hashlib.sha256(text.encode()).hexdigest()[:DIGITS]
 

@@ -5,7 +5,6 @@ All of it is read from the frames of those who wait, so it costs nothing before 
 
 from __future__ import annotations
 
-import asyncio
 import dis
 import linecache
 import queue
@@ -273,6 +272,17 @@ def _has_limit(frame: FrameType) -> bool:
     return isinstance(given, (int, float)) and not isinstance(given, bool) and given >= 0
 
 
+def _kinds(name: str) -> tuple[type, ...]:
+    """The classes of this name, for threads and for the tasks of a loop."""
+    return (vars(threading)[name], *_kinds_of_loops(name))
+
+
+def _kinds_of_loops(name: str) -> tuple[type, ...]:
+    """The class of asyncio of this name, if the program has it."""
+    kind = getattr(sys.modules.get("asyncio"), name, None)
+    return () if kind is None else (kind,)
+
+
 def _what(one: Any, function: str) -> str:
     """What an object of the library is waited for, in words. Nothing of one that is not known."""
     identity = getattr(one, "_itc_identity", None)
@@ -283,15 +293,16 @@ def _what(one: Any, function: str) -> str:
         line = one.__dict__.get("_itc_line")
         name = name_of(line) if isinstance(line, Line) else one.name
         return f"the end of thread {name}" if function == "join" else ""
-    if isinstance(one, (threading.Event, asyncio.Event)):
+    if isinstance(one, _kinds("Event")):
         return "an event"
-    if isinstance(one, (threading.Condition, asyncio.Condition)):
+    if isinstance(one, _kinds("Condition")):
         return "a condition" if function in ("wait", "wait_for") else ""
-    if isinstance(one, (threading.Semaphore, asyncio.Semaphore)):
+    if isinstance(one, _kinds("Semaphore")):
         return "a permit of a semaphore"
-    if isinstance(one, (threading.Barrier, asyncio.Barrier)):
+    if isinstance(one, _kinds("Barrier")):
         return "others at a barrier"
-    if isinstance(one, (queue.Queue, asyncio.Queue)) or kind.__name__ in ("SimpleQueue", "Queue", "JoinableQueue"):
+    is_queue = isinstance(one, (queue.Queue, *_kinds_of_loops("Queue")))
+    if is_queue or kind.__name__ in ("SimpleQueue", "Queue", "JoinableQueue"):
         return {"get": "an item of a queue", "put": "room in a queue", "join": "the items of a queue to be done"}.get(
             function, "")
     if kind.__name__ == IMPORT_LOCK:
@@ -324,7 +335,7 @@ def _loop_of(frame: FrameType) -> Any:
 
 def _of_loop(loop: Any, since: Since, now: float, idle: float) -> Iterator[Wait]:
     """Its tasks. Since the loop itself waits, none of them has taken a step."""
-    for task in sorted(asyncio.all_tasks(loop), key=id):
+    for task in sorted(sys.modules["asyncio"].all_tasks(loop), key=id):
         frames = list(_frames_of(task.get_coro()))
         if not frames:
             continue
@@ -351,10 +362,10 @@ def _frames_of(coroutine: Any) -> Iterator[FrameType]:
 def _of_task(
     task: Any, inner: list[FrameType], name: str, line: Line | None, outer: FrameType | None, begun: float
 ) -> Wait:
-    awaited = getattr(task, "_fut_waiter", None)
+    awaited: Any = getattr(task, "_fut_waiter", None)
     if any(frame.f_code.co_name in ("sleep", "timeout") for frame in inner):
         wait = Wait(name, "sleeps", _place(outer), begun, line, is_endless=False)
-    elif isinstance(awaited, asyncio.Task):
+    elif isinstance(awaited, _kinds_of_loops("Task")):
         on = getattr(awaited, "_itc_line", None)
         called = name_of(on) if isinstance(on, Line) else awaited.get_name()
         wait = Wait(name, f"{WAITS}the end of task {called}", _place(outer), begun, line, on)

@@ -2,13 +2,13 @@
 
 from __future__ import annotations
 
-from asyncio.events import _get_running_loop
 from types import FrameType
 
 from ..model.frames import place
 from ..model.lines import Acquisition, Held, Line, state
 from ..model.lock_identity import QUEUE, LockIdentity
 from ..model.loop_runs import number_of_loop
+from .loops import ASYNCIO
 from .noting import line_of_now, touched
 
 ACQUIRE = "acquire"
@@ -34,7 +34,7 @@ def note_nested(held: tuple[LockIdentity, ...], has_waited: bool) -> None:
     key = (ACQUIRE, *((place.lock.serial, id(place.code), place.instruction) for place in places))
     for one in held:
         one.is_nested = True
-    loop = 0 if held[-1].kind.startswith(OF_TASKS) else number_of_loop(_get_running_loop())
+    loop = 0 if held[-1].kind.startswith(OF_TASKS) else number_of_loop(ASYNCIO.running())
     touched(key, Acquisition(places[-1], places[:-1], loop), ACQUIRE, None)
 
 
@@ -107,6 +107,6 @@ class Items:
         are_awaited = is_gift and all(one.kind.startswith(OF_TASKS) for one in held)
         wait = Acquisition(
             Held(self._identity, code, instruction), places,
-            0 if are_awaited else number_of_loop(_get_running_loop()), is_gift,
+            0 if are_awaited else number_of_loop(ASYNCIO.running()), is_gift,
         )
         touched((ACQUIRE, self._identity.serial, where), wait, ACQUIRE, None)

@@ -3,11 +3,8 @@
 from __future__ import annotations
 
 import _thread
-import asyncio
-import sys
 import threading
 from _thread import get_ident
-from asyncio.events import _get_running_loop
 from collections.abc import Callable, Hashable
 from sys import _getframe
 from types import CodeType, FrameType
@@ -19,19 +16,12 @@ from ..model.lines import MARK, RESULT, SPAWN, TAKE, TOUCH, Line, Note, Section,
 from ..model.loop_runs import number_of_loop, take_step
 from ..model.verdict import Cause, Unseen
 from ..model.stretches import STRETCHES, TURNS, Across, leave
+from .loops import ASYNCIO
 from .raised_within import is_of_program
 
 local = threading.local()
 """`line` is the thread's own line, and that of a pool's job while it runs there."""
 
-def _task_getter() -> Callable[[Any], Any]:
-    if sys.version_info < (3, 12):
-        getter: Callable[[Any], Any] = asyncio.tasks._current_tasks.get  # type: ignore[attr-defined]
-        return getter
-    return asyncio.current_task
-
-
-_task_of = _task_getter()
 _NO_LINE: Any = object()
 """What stands for the line of a task of the library's own class, which takes none."""
 
@@ -116,9 +106,9 @@ def _enclose(line: Line, other: Line) -> None:
 
 def line_of_now() -> Line:
     """The line of whatever runs now: a task of asyncio, a pool's job, or the thread."""
-    loop = _get_running_loop()
+    loop = ASYNCIO.running()
     if loop is not None:
-        task = _task_of(loop)
+        task = ASYNCIO.task_of(loop)
         if task is not None:
             line: Line | None = getattr(task, "_itc_line", None)
             if line is not None and line.tracer is state.tracer:
@@ -133,8 +123,8 @@ def line_of_now() -> Line:
 
 def who() -> int:
     """What tells whatever runs now from all else that runs, also once tracing has begun anew."""
-    loop = _get_running_loop()
-    task = None if loop is None else _task_of(loop)
+    loop = ASYNCIO.running()
+    task = None if loop is None else ASYNCIO.task_of(loop)
     if task is not None:
         return id(task)
     own = next((found for found in (one.who() for one in REPLACING) if found is not None), None)
@@ -381,7 +371,7 @@ def touched_all(touches: dict[Hashable, Touched]) -> None:
 
 def begin_stretch(note: Callable[[Note], object]) -> Stretch:
     """The stretch of this thread, which begins with the touch that is about to be noted."""
-    line, loop, thread = line_of_now(), _get_running_loop(), get_ident()
+    line, loop, thread = line_of_now(), ASYNCIO.running(), get_ident()
     number = number_of_loop(loop)
     turn = TURNS.get(thread, 0) if number else 0
     line.section = None

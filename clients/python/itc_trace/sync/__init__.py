@@ -3,8 +3,8 @@
 from __future__ import annotations
 
 from . import (
-    asynchronous, cached, callbacks, commands, descriptors, earlier, entry_queue, exits, followers, fork_warnings,
-    futures, gevent_orders, gevent_tasks, greenlets, handlers, heaps, http, importlib_bootstrap, pipes, process_pools,
+    cached, callbacks, commands, descriptors, earlier, entry_queue, exits, followers, fork_warnings, futures,
+    gevent_orders, gevent_tasks, greenlets, handlers, heaps, http, importlib_bootstrap, loops, pipes, process_pools,
     process_signals, processes, queues, shared_lists, starts, thread_pools, threads, tracebacks, trio_orders,
     trio_tasks, unfollowed, values,
 )
@@ -12,7 +12,7 @@ from ..model.lines import state
 from .base import Patches
 
 _TRACED = (
-    threads, exits, queues, futures, asynchronous, cached, handlers, heaps, processes, process_signals, thread_pools,
+    threads, exits, queues, futures, loops, cached, handlers, heaps, processes, process_signals, thread_pools,
     entry_queue, importlib_bootstrap, starts, commands, pipes, process_pools, http, values, shared_lists, unfollowed,
     callbacks, descriptors, fork_warnings, tracebacks, followers, trio_tasks, trio_orders, greenlets, gevent_tasks,
     gevent_orders,

@@ -36,7 +36,7 @@ from .base import Patches, like, name_as, named_like
 from .futures import is_settled_by_source, take_any
 from .left_behind import Outcome, begun, stays, taken
 from .locks import OnePermit, gave, is_of_condition, took
-from .queues import has_few_places, is_followed, items_of, note_done, room_of, take_done
+from .queues import add_stack, has_few_places, is_followed, items_of, note_done, room_of, take_done
 from .waiters import Waiters
 
 _PlainTask: Any = tasks.Task
@@ -924,6 +924,7 @@ def _put_queues(patches: Patches) -> None:
     patches.wrap(queue, "get_nowait", _get_nowait)
     patches.wrap(queue, "task_done", _task_done)
     patches.wrap(queue, "join", _queue_join)
+    add_stack(queues_module.LifoQueue)
 
 
 def _put_nowait(original: Any) -> Any:

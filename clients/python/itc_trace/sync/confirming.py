@@ -5,7 +5,7 @@ A task is held for a bounded time, and a place a few times at most. So a program
 
 from __future__ import annotations
 
-import asyncio
+import sys
 import threading
 from collections.abc import Iterator
 from time import monotonic, sleep
@@ -18,6 +18,7 @@ from ..model.lock_identity import LockIdentity
 from ..record import plain
 from ..record.noting import line_of_now
 from .base import like
+from .later import once_imported
 from .locks import OnePermit, TracedLock, TracedRLock, acquired_at, walk_always
 
 HOLD = 2.0
@@ -88,9 +89,12 @@ class Confirming:
             for name in ("acquire", "__enter__"):
                 original = vars(kind)[name]
                 setattr(kind, name, like(original, self._holding(original)))
+        once_imported("asyncio", self._begin_in_loops)
+
+    def _begin_in_loops(self, asyncio: Any) -> None:
         for of_a_loop in (asyncio.Lock, asyncio.Semaphore):
             original = vars(of_a_loop)["acquire"]
-            setattr(of_a_loop, "acquire", like(original, self._holding_in_loop(original)))
+            setattr(of_a_loop, "acquire", like(original, self._holding_in_loop(original, asyncio.sleep)))
 
     def _holding(self, original: Any) -> Any:
         def holding(lock: Any, *words: Any, **named: Any) -> Any:
@@ -100,11 +104,11 @@ class Confirming:
 
         return holding
 
-    def _holding_in_loop(self, original: Any) -> Any:
+    def _holding_in_loop(self, original: Any, pause: Any) -> Any:
         """The same of a task of a loop, which goes on with its others meanwhile."""
         async def holding(lock: Any) -> Any:
             for _ in self._looks(lock, frame_at(1)):
-                await asyncio.sleep(PAUSE)
+                await pause(PAUSE)
             return await original(lock)
 
         return holding
@@ -137,9 +141,14 @@ class Confirming:
                 cycle.remove(mine, step)
 
 
+def _semaphores() -> tuple[type, ...]:
+    of_loops = getattr(sys.modules.get("asyncio"), "Semaphore", None)
+    return (threading.Semaphore,) if of_loops is None else (threading.Semaphore, of_loops)
+
+
 def _identity_of(lock: Any) -> LockIdentity | None:
     """What tells the lock from others. A semaphore is one as long as it has one permit."""
-    one = lock.__dict__.get("_itc_permit") if isinstance(lock, (threading.Semaphore, asyncio.Semaphore)) else lock
+    one = lock.__dict__.get("_itc_permit") if isinstance(lock, _semaphores()) else lock
     if one is None or isinstance(one, OnePermit) and one._itc_identity.signal is not None:
         return None
     identity: LockIdentity | None = one._itc_identity

@@ -3,7 +3,6 @@
 from __future__ import annotations
 
 import _thread
-import asyncio
 import math
 import queue
 import threading
@@ -23,7 +22,8 @@ _guard = vars(_thread)["RLock"]()
 _own_steps: set[Any] = set()
 """The methods by which the queues of the library put and get."""
 _PlainSimpleQueue: Any = queue.SimpleQueue
-_STACKS = queue.LifoQueue, asyncio.LifoQueue
+_stacks: tuple[type, ...] = (queue.LifoQueue,)
+"""The classes whose items come back the last one first."""
 MOST_PLACES = 16
 """Who puts into a queue of more places comes after nobody: such a queue bounds memory,
 and to tell it would take an event an item."""
@@ -152,10 +152,16 @@ class Items:
             return token
 
 
+def add_stack(kind: type) -> None:
+    """The class is of queues whose items come back the last one first."""
+    global _stacks
+    _stacks = (*_stacks, kind)
+
+
 def items_of(one: Any) -> Items:
     items: Items | None = one.__dict__.get("_itc_items")
     if items is None:
-        items = one.__dict__.setdefault("_itc_items", Items(isinstance(one, _STACKS), _lying_in(one)))
+        items = one.__dict__.setdefault("_itc_items", Items(isinstance(one, _stacks), _lying_in(one)))
     return items
 
 

@@ -3,7 +3,6 @@ and left out silently if that does not work."""
 
 from __future__ import annotations
 
-import hashlib
 import importlib.machinery
 import importlib.util
 import os
@@ -14,6 +13,7 @@ import sysconfig
 import tempfile
 from typing import Any
 
+from ..model.digests import blake2b
 from .both_languages import header
 
 SOURCE = os.path.join(os.path.dirname(os.path.abspath(__file__)), "quick.c")
@@ -53,7 +53,7 @@ def _built() -> str | None:
         text = source.read()
     told = f"{sys.version}{sysconfig.get_config_var('SOABI')}{header()}".encode()
     name = os.path.join(
-        user_folder(), f"quick-{sysconfig.get_config_var('SOABI')}-{hashlib.sha256(text + told).hexdigest()[:24]}",
+        user_folder(), f"quick-{sysconfig.get_config_var('SOABI')}-{blake2b(text + told, digest_size=12).hexdigest()}",
     )
     if not os.path.exists(f"{name}.so") and not os.path.exists(f"{name}.failed"):
         _build(name)

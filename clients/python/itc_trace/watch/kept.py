@@ -6,7 +6,6 @@ made anew.
 
 from __future__ import annotations
 
-import hashlib
 import importlib.util
 import os
 import stat
@@ -19,6 +18,7 @@ from os import read as read_file
 from os import stat as status
 from typing import Any
 
+from ..model.digests import blake2b
 from .helper import quick, user_folder
 
 MAGIC = b"itc_trace kept 1"
@@ -44,11 +44,11 @@ _folders: dict[str, str] = {}
 
 
 def digest(*parts: bytes) -> bytes:
-    whole = hashlib.blake2b(digest_size=DIGEST)
+    whole = blake2b(digest_size=DIGEST)
     for one in parts:
         whole.update(len(one).to_bytes(8, "little"))
         whole.update(one)
-    return whole.digest()
+    return bytes(whole.digest())
 
 
 def _setting() -> bytes:

@@ -13,12 +13,12 @@ from _thread import get_ident
 from builtins import id, len, list, next, repr, type
 from collections import deque
 from collections.abc import Callable
-from hashlib import blake2b
 from sys import getrefcount
 from types import CodeType, FunctionType
 from typing import TYPE_CHECKING, Any, NamedTuple
 
 from ..model.conflicts import MAKING
+from ..model.digests import blake2b
 from ..model.frames import line_of
 from ..model.lines import Line, Touched, state
 from ..record.noting import line_of_now
