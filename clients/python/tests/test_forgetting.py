@@ -15,22 +15,23 @@ from types import SimpleNamespace
 
 from itc_trace import Verdict
 from itc_trace.model.conflicts import READ, WRITE
-from itc_trace.model.lines import GONE, MOST_PENDING, QUEUE, TOUCH, Line, Note, Stretch, Token, TouchEvent
+from itc_trace.model.lines import GONE, MARK, MOST_PENDING, QUEUE, TOUCH, Line, Note, Stretch, Token, TouchEvent
 from itc_trace.model.stretches import SITES, Site
 from itc_trace.record import order_of_tasks, tracer
+from itc_trace.record.bit_filter import BitFilter
 from itc_trace.record.journal import Aside, Places, Row, TouchTexts, read_line, read_whole
 from itc_trace.record.names import Names
 from itc_trace.record.order_of_tasks import OrderOfTasks
 from itc_trace.record.own_threads import start_thread
 from itc_trace.record.touch_journal import TouchJournal
-from itc_trace.record.touch_rows import MOST_BY_ONE, MOST_KEPT, MOST_OF_EVENT, MOST_READ, _Numbers
+from itc_trace.record.touch_rows import BITS, MOST_BY_ONE, MOST_KEPT, MOST_OF_EVENT, MOST_READ
 from itc_trace.watch.things import number_of
 
 from .support import ProgramCase, run_traced, wait_until
 
 KEYS = """
 import os, threading, time
-from itc_trace.record import journal, touch_rows
+from itc_trace.record import bit_filter, journal, touch_rows
 from itc_trace.watch import late, things
 touch_rows.MOST_KEPT = things.MOST_THINGS = late.MOST_RECIPES = 8
 PLANTED
@@ -64,7 +65,7 @@ OTHER_KEY = KEYS.replace("TOUCH", "cache[300] = 1")
 PLANTED = {
     "a key that comes again is another thing":
         "things.number_of = lambda *words: things.FIRST_NUMBER_OF_KEYS + next(things._numbers)",
-    "what was put aside is not known to have been": "touch_rows._Numbers.may_have = lambda *words: False",
+    "what was put aside is not known to have been": "bit_filter.BitFilter.may_have = lambda *words: False",
     "what was put aside is not told": "journal.TouchTexts.aside = lambda *words: ''",
 }
 
@@ -147,7 +148,7 @@ class NumbersOfKeys(unittest.TestCase):
             self.assertIsNone(number_of(1, (key,)))
 
     def test_a_number_that_was_added_is_never_missed(self) -> None:
-        numbers = _Numbers()
+        numbers = BitFilter(BITS)
         added = [number_of(1, (key,)) or 0 for key in range(20_000)]
         for number in added:
             numbers.add(number)
@@ -289,7 +290,7 @@ class Waiting(unittest.TestCase):
 
     def setUp(self) -> None:
         self.tracer = tracer.Tracer.__new__(tracer.Tracer)
-        self.tracer.notes = deque([(0.0, (TOUCH,))] * 100)
+        self.tracer.notes = deque([(0.0, (TOUCH, ()))] * 100)
         self.tracer._touches = SimpleNamespace(unanswered=0, write=lambda: None)  # type: ignore[assignment]
         self.flushed: list[int] = []
         self.reports = SimpleNamespace(is_over=False, outstanding=deque(), flush=self.flush)
@@ -307,24 +308,33 @@ class Waiting(unittest.TestCase):
         self.addCleanup(timer.join)
 
     def test_notes_that_stand_for_many_touches_count_for_more(self) -> None:
-        for touches, waiting, few in ((0, 100, tracer.FEW_WAITING), (64 * 31, 3200, tracer.FEW_WAITING // 32)):
-            self.tracer._look_how_many_wait(64, touches)
+        for touches, waiting, few in ((0, 100, tracer.FEW_WAITING), (31, 3200, tracer.FEW_WAITING // 32)):
+            self.tracer.notes = deque([(0.0, (TOUCH, range(touches)))] * 100)
+            self.tracer._look_how_many_wait()
             self.assertEqual((self.held_back.pop(), self.tracer._few_waiting), (waiting, few))
+
+    def test_of_many_notes_some_stand_for_all(self) -> None:
+        """Those that stand for touches lie among others, and at the end alone."""
+        for count in (200, 1000, 5000):
+            few, many = [(0.0, (MARK, None))] * count, [(0.0, (TOUCH, range(9)))] * count
+            self.tracer.notes = deque([note for pair in zip(few, many) for note in pair] + many)
+            self.tracer._look_how_many_wait()
+            self.assertAlmostEqual(self.held_back.pop() / (3 * count + 2 * 9 * count), 1, delta=0.3)
 
     def test_few_unanswered_reports_are_not_waited_for(self) -> None:
         self.reports.outstanding.extend([None] * tracer.MOST_UNANSWERED)
-        self.tracer._look_how_many_wait(64, 0)
+        self.tracer._look_how_many_wait()
         self.assertEqual((self.flushed, len(self.reports.outstanding)), ([], tracer.MOST_UNANSWERED))
 
     def test_most_of_many_unanswered_reports_are_waited_for(self) -> None:
         self.reports.outstanding.extend([None] * (tracer.MOST_UNANSWERED + 1))
-        self.tracer._look_how_many_wait(64, 0)
+        self.tracer._look_how_many_wait()
         self.assertEqual((self.flushed, len(self.reports.outstanding)), ([tracer.MOST_UNANSWERED + 1], 100))
 
     def test_all_reports_that_stand_for_many_touches_are_waited_for(self) -> None:
         self.tracer._touches.unanswered = tracer.MOST_UNANSWERED_TOUCHES + 1
         self.reports.outstanding.extend([None] * 101)
-        self.tracer._look_how_many_wait(64, 0)
+        self.tracer._look_how_many_wait()
         self.assertFalse(self.reports.outstanding)
 
 

@@ -325,11 +325,13 @@ class TouchEvent:
         self.is_waiting = False
         """Whether it waits for its rows to be written."""
 
-    def read_stretches(self, is_whole: bool = True) -> None:
-        """Takes over what was noted in its stretches. Of those but the last nothing more is to come.
+    def read_stretches(self, is_whole: bool = True) -> int:
+        """Takes over what was noted in its stretches, and gives how much that was.
 
-        If it need not be whole, the last one is read only once it has twice as much as before.
+        Of those but the last nothing more is to come. If it need not be whole, the last one is read only once it has
+        twice as much as before.
         """
+        before = len(self.touches)
         for stretch in self.stretches:
             if not is_whole and len(stretch) < 2 * stretch.read:
                 continue
@@ -337,6 +339,7 @@ class TouchEvent:
             self.add(stretch, islice(read.items(), stretch.read, None))
             stretch.read = len(read)
         del self.stretches[:-1]
+        return len(self.touches) - before
 
     def add(self, stretch: Stretch, touches: Iterable[tuple[Hashable, Touched]]) -> None:
         """Takes over what was touched in one of its stretches."""

@@ -57,14 +57,16 @@ class TouchJournal:
 
     def add(self, event: TouchEvent, stretch: Stretch) -> None:
         """From here on the event stands for the stretch too. It is called with `writing` held."""
-        known = len(event.touches)
-        event.read_stretches()
-        self._touches += len(event.touches) - known
-        self.taken += len(event.touches) - known
+        self._read(event)
         event.stretches.append(stretch)
         stretch.events = (*stretch.events, event)
         if self._touches > MOST_TOUCHES:
             self.write()
+
+    def _read(self, event: TouchEvent, is_whole: bool = True) -> None:
+        taken = event.read_stretches(is_whole)
+        self._touches += taken
+        self.taken += taken
 
     def new_event(self, line: Line, part: int, time: float) -> TouchEvent:
         """The event that stands for what the line touches from here on. It is called with `writing` held."""
@@ -99,7 +101,7 @@ class TouchJournal:
         ended, line.touches = line.touches, None
         assert ended is not None
         with self.writing:
-            ended.read_stretches()
+            self._read(ended)
             ended.is_open = False
         stretch = ended.stretches.pop()
         if STRETCHES.get(stretch.thread) is stretch:
@@ -110,19 +112,18 @@ class TouchJournal:
     def write(self, is_last: bool = False) -> None:
         """Brings the journal up to what was touched by now."""
         with self.writing:
-            self._touches = 0
             gone = self._things_gone if self.looked_at >= self._things_gone_before else []
             is_whole = is_last or bool(gone)
             unwritten, rows = [], []
             for event in self._events:
                 if event.is_open:
-                    event.read_stretches(is_whole)
+                    self._read(event, is_whole)
                 if event.event:
                     rows.append(self.rows.rows(event, is_last or not event.is_open))
                 event.is_waiting = event.is_open or not event.event
                 if event.is_waiting:
                     unwritten.append(event)
-            self._events = unwritten
+            self._events, self._touches = unwritten, 0
             self.unanswered = sum(len(event.touches) for event in unwritten if not event.event)
             if gone and all(event.event for event in unwritten):
                 self.rows.forget(gone)

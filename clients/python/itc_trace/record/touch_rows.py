@@ -7,6 +7,7 @@ from itertools import islice
 from typing import Any
 
 from ..model.conflicts import CHANGING
+from .bit_filter import BitFilter
 from .journal import TouchTexts
 from ..model.lines import Acquisition, Touch, TouchEvent
 from .many_jobs import ManyJobs
@@ -22,7 +23,7 @@ touches are put aside, and the thing stays."""
 MOST_OF_EVENT = 1024
 """So many touches of an event that goes on are known. One that comes again behind them may be told once more."""
 BITS = 1 << 22
-ODD = 0x9E3779B97F4A7C15
+"""Of the set of things that were put aside."""
 
 
 def part_text(part: int) -> str:
@@ -51,28 +52,6 @@ class _Alone:
         self.is_changed = False
 
 
-class _Numbers:
-    """A set of numbers, of which some that were never added may seem to be in it, too. So it never grows."""
-
-    def __init__(self) -> None:
-        self._bits: bytearray | None = None
-
-    def add(self, number: int) -> None:
-        if self._bits is None:
-            self._bits = bytearray(BITS // 8)
-        for place in self._places(number):
-            self._bits[place >> 3] |= 1 << (place & 7)
-
-    def may_have(self, number: int) -> bool:
-        bits = self._bits
-        return bits is not None and all(bits[place >> 3] >> (place & 7) & 1 for place in self._places(number))
-
-    @staticmethod
-    def _places(number: int) -> tuple[int, int]:
-        mixed = (number ^ number >> 48) * ODD
-        return mixed >> 32 & BITS - 1, mixed >> 10 & BITS - 1
-
-
 class TouchRows:
     """Makes the rows of touch events, each touch once."""
 
@@ -80,7 +59,7 @@ class TouchRows:
         self._texts = texts
         self._alone: dict[int, _Alone | None] = {}
         """Of each thing that was seen lately by its number, and None of those that are listed."""
-        self._put_aside = _Numbers()
+        self._put_aside = BitFilter(BITS)
         """Those that were seen before. A further touch of theirs is listed."""
         self._full: dict[int, _Alone] = {}
         """Those of which many touches are known."""

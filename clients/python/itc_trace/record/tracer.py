@@ -11,6 +11,7 @@ import time
 from _thread import get_ident
 from collections import deque
 from collections.abc import Callable, Hashable
+from random import Random
 from types import CodeType
 from typing import Protocol
 
@@ -38,15 +39,18 @@ from .tracer_parts import Parts
 from .waiting import ANSWER_WAIT, Waiter, release
 
 NOTES_AT_ONCE = 1024
-MOST_WAITING = 8192
-FEW_WAITING = 2048
+MOST_WAITING = 4096
+FEW_WAITING = 1024
 """Of notes, and of the touches that they are likely to stand for."""
 MOST_UNANSWERED = 1024
-MOST_UNANSWERED_TOUCHES = 4096
+MOST_UNANSWERED_TOUCHES = 2048
 """With more reports or touches on their way, the thread that reports waits for answers: they are kept until then."""
 LOOK_AFTER = 64
 TOUCHES_AFTER = 2048
 """Behind so many notes or touches it is looked how many others wait."""
+NOTES_LOOKED_AT = 256
+"""So many of those that wait are looked at, by chance: what comes at each turn of a loop would be missed else."""
+_chance = Random(1)
 LONGEST_SLOW_NOTE = 2.0
 """In seconds. A thread that holds up the reporting by what it does meanwhile goes on then."""
 REST = 0.02
@@ -360,7 +364,7 @@ class Tracer:
                 self._divide(parts)
             touches = self._touches.taken - taken
             if left - len(batch) >= LOOK_AFTER or touches >= TOUCHES_AFTER or not batch:
-                self._look_how_many_wait(left - len(batch), touches)
+                self._look_how_many_wait()
                 left, taken = len(batch), self._touches.taken
         self._touches.looked_at += size
         self._order.looked_at()
@@ -380,11 +384,13 @@ class Tracer:
         self._order.look_ahead(batch)
         return batch
 
-    def _look_how_many_wait(self, notes: int, touches: int) -> None:
-        """Once so many notes were looked at, which stood for so many touches. Those that wait are taken for alike."""
-        each = 1 + touches / notes
+    def _look_how_many_wait(self) -> None:
+        """Looks at notes that wait, and at the touches that they stand for. The others are taken for alike."""
+        waiting = list(self.notes)
+        some = waiting if len(waiting) <= NOTES_LOOKED_AT else _chance.choices(waiting, k=NOTES_LOOKED_AT)
+        each = 1 + sum(len(note[1]) for _, note in some if note[0] == TOUCH) / max(1, len(some))
         self._few_waiting = int(FEW_WAITING / each)
-        self._hold_back(int(len(self.notes) * each))
+        self._hold_back(int(len(waiting) * each))
         most = 0 if self._touches.unanswered > MOST_UNANSWERED_TOUCHES else MOST_UNANSWERED
         if len(self._reports.outstanding) > most:
             self._reports.flush()
