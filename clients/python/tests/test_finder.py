@@ -14,7 +14,7 @@ from itc_trace.model.conflicts import CHANGING, CONFLICTING, READ, WRITE
 from itc_trace.record.journal import Row
 from itc_trace.analyse.races import _Finder, _things_of
 from itc_trace.session import Refused
-from itc_trace.analyse.trace import Steps, Told, Trace
+from itc_trace.analyse.trace import LazyTrace, Steps, Told, Trace
 
 from .random_runs import LOCKS, Answers, AnswersWithoutLocks, Found, RandomRun, Run
 
@@ -29,7 +29,7 @@ def found_in(run: Run, view: Any) -> Races:
     things = [thing for thing in _things_of(run.rows) if thing.may_race]
     AnswersWithoutLocks.run = run
     with mock.patch.object(races, "WithoutLocks", AnswersWithoutLocks):
-        _Finder(view, len(run.events), run.rows, found, False).find(things)
+        _Finder(LazyTrace(view, len(run.events)), run.rows, found, False).find(things)
     return found
 
 
@@ -100,7 +100,7 @@ class Reachability(unittest.TestCase):
         self.assertEqual(replies, [f"201 {number}" for number in range(1, len(lines) + 1)])
         found = Races(events=len({row.event for row in run.rows}))
         with Session(tenant, port, "view") as view:
-            _Finder(view, len(run.events), run.rows, found, False).find([thing for thing in _things_of(run.rows) if thing.may_race])
+            _Finder(LazyTrace(view, len(run.events)), run.rows, found, False).find([thing for thing in _things_of(run.rows) if thing.may_race])
         self.assertEqual((listed(found.races), listed(found.possible)), due(run), f"run {seed}")
 
 

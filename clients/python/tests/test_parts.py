@@ -21,7 +21,9 @@ from itc_trace.record.journal import Row
 from itc_trace.record.reports import Outstanding
 from itc_trace.record.tracer import Tracer
 from itc_trace.record.waiting import Waiter
-from itc_trace.analyse.parts import Part, collected, find_in_parts
+from itc_trace.analyse.divided_journal import Part
+from itc_trace.analyse.in_part import collected, one_by_one
+from itc_trace.analyse.parts import find_in_parts
 from itc_trace.session import Refused
 from itc_trace.analyse.trace import Asked, Trace
 
@@ -102,9 +104,13 @@ def answered(requests: list[str]) -> Iterator[Asked]:
     yield Answers(run)
 
 
+def add_races(parts: list[Part], found: Races, opened: Any = answered) -> None:
+    find_in_parts(one_by_one(parts, False, frozenset(), opened), found, False, opened)
+
+
 def listed(parts: list[Part], opened: Any = answered) -> Found:
     found = Races()
-    find_in_parts(parts, found, False, opened)
+    add_races(parts, found, opened)
     return {(race.thing, *sorted(row.place for row in race.example)): race.times for race in found.races}
 
 
@@ -120,7 +126,7 @@ class Reachability(unittest.TestCase):
             run = LongRun(seed)
             parts = Divided(run, seed).parts
             found = Races()
-            find_in_parts(parts, found, False, answered)
+            add_races(parts, found)
             told = {(race.thing, *sorted(row.place for row in race.example)): race.times for race in found.races}
             self.assertEqual(told, dict(run.found(possible=False)), f"run {seed}")
             borders += len(parts) - 1
@@ -188,7 +194,7 @@ class Turns(unittest.TestCase):
             report("local" if kind == "touch" else kind, task, "" if kind == "touch" else name, name if kind == "touch" else "", 2)
         report("local", "a", touch="write", turn=3)
         found = Races()
-        find_in_parts(parts, found, False, answered)
+        add_races(parts, found)
         return found
 
     def test_it_is_not_seen_whether_another_change_came_in_between(self) -> None:

@@ -2,7 +2,8 @@
 
 A touch of an earlier part comes before an event if and only if one of the positions that know the touch does. At the
 next border the set of these positions moves on by the same rule. A touch that all live tasks know comes before all that
-may still happen, and is dropped. Touches of one line of the program that the same positions know are kept as one.
+may still happen, and is dropped. So is one whose thing no later part touches. Touches of one line of the program that
+the same positions know are kept as one.
 
 Touches that the same positions know are a group, and move on together: a border costs what there is of groups and of
 new touches, however many are kept.
@@ -11,11 +12,12 @@ new touches, however many are kept.
 from __future__ import annotations
 
 from collections import defaultdict
-from collections.abc import Iterable, Iterator
+from collections.abc import Collection, Iterable, Iterator
 from dataclasses import dataclass, field, replace
 from typing import Protocol
 
 from .bit_matrix import transposed
+from ..model.digests import number_of
 from ..model.conflicts import CHANGING, CONFLICTING, MAKING
 from ..record.dividing import Border
 from ..record.journal import Row
@@ -69,15 +71,10 @@ class AcrossParts:
     _count: int = 0
     """How many were kept, ever."""
     _reads: dict[tuple[str | None, str], Row] = field(default_factory=dict)
-    """The last read of a thing by each task of a loop that has not changed it since."""
+    """The last read of a thing by each task of a loop that goes on and has not changed it since."""
 
     def __len__(self) -> int:
         return sum(len(alike) for group in self._groups.values() for alike in group.values())
-
-    @property
-    def has_reads(self) -> bool:
-        """Whether a task of a loop may still write back what it read."""
-        return bool(self._reads)
 
     def copy(self) -> AcrossParts:
         """What is kept now, which goes on by itself."""
@@ -165,6 +162,18 @@ class AcrossParts:
             if known & live != live:
                 self._add(groups.setdefault(known, {}), row)
         self._groups = groups
+
+    def end_tasks(self, tasks: Collection[str]) -> None:
+        """These tasks have ended, and write back nothing that they have read."""
+        self._reads = {key: row for key, row in self._reads.items() if row.task not in tasks}
+
+    def forget(self, things: set[int]) -> None:
+        """Drops the touches of the things that have these numbers: no later part touches them."""
+        if things:
+            for group in self._groups.values():
+                for thing in [thing for thing in group if number_of(thing) in things]:
+                    del group[thing]
+            self._groups = {known: group for known, group in self._groups.items() if group}
 
     def _moved(self, at: list[tuple[int, Events]]) -> Iterator[tuple[_Group, Events]]:
         for known, group in self._groups.items():

@@ -49,9 +49,6 @@ class DeadlocksOfParts:
         self._needed: dict[str, frozenset[str]] = {}
         """Of each queue the locks that all hold who put into it."""
 
-    def __len__(self) -> int:
-        return len(self._across)
-
     def look_at(self, rows: list[Row], trace: Trace) -> None:
         """The next part, before its acquisitions are compared."""
         self._rows = list(_pairs(rows, self._signals))

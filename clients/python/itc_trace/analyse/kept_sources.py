@@ -101,7 +101,10 @@ def sources_of(told: Iterable[SourceText], processes: Iterable[ProcessTold] = ()
 
 def add_sources(journal: str) -> None:
     """Adds the lines of source to a journal, if its last line is whole. Without them it says the same."""
+    with open(journal, encoding="utf-8", errors="replace", newline="\n") as lines:
+        rows = [one.row() for one in source_rows(lines)]
     with open(journal, "rb+") as file:
-        lines = file.read().decode("utf-8", "replace")
-        if lines.endswith("\n"):
-            file.write("".join(one.row() for one in source_rows(lines.splitlines())).encode())
+        size = file.seek(0, os.SEEK_END)
+        file.seek(max(0, size - 1))
+        if file.read() == b"\n":
+            file.write("".join(rows).encode())

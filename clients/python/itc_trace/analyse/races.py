@@ -11,7 +11,6 @@ from bisect import bisect_left, bisect_right
 from collections import defaultdict
 from collections.abc import Collection, Iterable, Iterator
 from dataclasses import dataclass, field, replace
-from functools import cached_property
 from itertools import islice
 from typing import Protocol
 
@@ -31,7 +30,7 @@ from .queue_waits import waits_of
 from .racing_pairs import Pair, racing_pairs
 from ..model.sources import Sources
 from ..session import LONGEST_ANSWER, Refused, Session
-from .trace import Asked, Events, Steps, Trace, Unordered, lock_events, lock_that_tells, told_by_signals
+from .trace import Asked, Events, LazyTrace, Steps, Trace, Unordered, lock_events, lock_that_tells, told_by_signals
 from ..model.verdict import Cause, Left, PassedOver, Unseen, Verdict, listed, verdict_of
 from .without_locks import WithoutLocks
 
@@ -319,23 +318,23 @@ def races_of(
     if things or has_cycle(waits_of(rows, whole.signals)):
         with Session(tenant, port, "view", host, LONGEST_ANSWER) as view:
             events = view.count()[0]
-            if bar is None:
-                finder = _Finder(view, events, rows, found, strict)
-            else:
-                finder = _Finder(Shown(view, bar), events, rows, found, strict)
+            asked: Asked = view
+            if bar is not None:
+                asked = Shown(view, bar)
+            trace = LazyTrace(asked, events)
+            finder = _Finder(trace, rows, found, strict)
             finder.find(things)
             finder.find_deadlocks(whole.signals)
+            found.questions += trace.questions
     found.pass_over_inner()
     return found
 
 
-def find_in(
-    view: Asked, events: int, rows: list[Row], strict: bool, signals: frozenset[str] = frozenset()
-) -> Races:
-    """The races and the deadlocks of one trace, by its rows."""
+def find_in(trace: LazyTrace, rows: list[Row], strict: bool, signals: frozenset[str] = frozenset()) -> Races:
+    """The races and the deadlocks of one trace, by its rows. Questions for the trace itself are not counted."""
     rows = sorted(dict.fromkeys(rows), key=lambda row: row.event)
     found = Races()
-    finder = _Finder(view, events, rows, found, strict)
+    finder = _Finder(trace, rows, found, strict)
     things = [thing for thing in _things_of(rows) if thing.may_race]
     if things:
         finder.find(things)
@@ -354,21 +353,18 @@ def _things_of(rows: list[Row]) -> list[_Thing]:
 class _Finder:
     """Looks for the races of things, and for those that are possible."""
 
-    def __init__(self, view: Asked, events: int, rows: list[Row], found: Races, is_strict: bool) -> None:
-        self._view = view
-        self._events = events
+    def __init__(self, trace: LazyTrace, rows: list[Row], found: Races, is_strict: bool) -> None:
+        self._asked = trace
         self._found = found
         self._is_strict = is_strict
         self._locks = {row.event: row.lock for row in rows if row.lock is not None}
         self._rows = rows
         self._replaced = _replaced(rows)
-        self._order = Order(view)
+        self._order = Order(trace.view)
 
-    @cached_property
+    @property
     def _trace(self) -> Trace:
-        trace = Trace(self._view, self._events)
-        self._found.questions += len(trace.events)
-        return trace
+        return self._asked.whole
 
     def find(self, things: list[_Thing]) -> None:
         self._find_races(things)

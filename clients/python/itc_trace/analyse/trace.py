@@ -50,6 +50,10 @@ class Trace:
                 raise Refused(f"event {number}", reply)
             self.events.append(Event(number, words[1], words[2], words[3], tuple(map(int, words[5:]))))
 
+    def __getstate__(self) -> dict[str, object]:
+        """What comes before each event is told by which ones it follows, and takes far more room."""
+        return {"events": self.events}
+
     def __getitem__(self, number: int) -> Event:
         return self.events[number - 1]
 
@@ -80,6 +84,23 @@ class Trace:
         """The event that its own task did before, or that started the task. 0 if there is none."""
         source = self.source(event)
         return next((one for one in event.follows if source is None or one != source.number), 0)
+
+
+class LazyTrace:
+    """A trace that is asked for once it is wanted, and not again."""
+
+    def __init__(self, view: Asked, count: int) -> None:
+        self.view = view
+        self._count = count
+
+    @cached_property
+    def whole(self) -> Trace:
+        return Trace(self.view, self._count)
+
+    @property
+    def questions(self) -> int:
+        """How many questions that took."""
+        return self._count if "whole" in vars(self) else 0
 
 
 def lock_events(trace: Trace, numbers: Iterable[int]) -> set[int]:

@@ -2,6 +2,7 @@
 
 from __future__ import annotations
 
+import contextlib
 import json
 import json.encoder
 import tempfile
@@ -90,7 +91,7 @@ class Row(NamedTuple):
         return f"{self.file}:{self.line}" if self.file else "?"
 
 
-KEYS = Row._fields
+KEYS = frozenset(Row._fields)
 
 
 class Journal(NamedTuple):
@@ -130,11 +131,13 @@ def read_whole(lines: Iterable[str]) -> Journal:
                 asides.add(read)
             else:
                 rows.append(read)
-                known.add(read)
+                known.add(read.thing, read.task)
         for aside in asides.of(known):
             known.look_at(aside)
-        kept = [row for row in rows if not known.is_private(row.thing)]
-        return besides.journal([*kept, *(row for aside in asides.of(known) for _, row in known.rows(aside))])
+        private = known.private()
+        kept = [row for row in rows if row.thing not in private]
+        kept += (row for aside in asides.of(known) for _, row in known.rows(aside))
+        return besides.journal(kept, asides.unseen)
 
 
 def missing_of(lines: Iterable[str]) -> list[Unseen]:
@@ -150,6 +153,8 @@ class Besides:
     """What a journal says besides its rows."""
 
     known: Asides = field(default_factory=lambda: Asides())
+    borders: dict[int, Border] | None = None
+    """How each part begins. None where the journal is to be of a run in one part."""
     _unseen: list[Unseen] = field(default_factory=list)
     _passed_over: list[PassedOver] = field(default_factory=list)
     _signals: set[str] = field(default_factory=set)
@@ -162,16 +167,23 @@ class Besides:
 
     def of(self, lines: Iterable[str]) -> Iterator[Row | Aside]:
         """Takes over the lines. Gives those of its rows."""
-        for number, line in enumerate(lines, 1):
-            if not line.endswith("\n"):
-                break
-            read = read_line(line)
-            self._count.add(read)
-            if isinstance(read, Row | Aside):
+        for number, line in whole_lines(lines):
+            read = self.take(number, line)
+            if read is not None:
                 yield read
-            else:
-                self._add(read, number)
-        self._unseen += self._children.unseen()
+
+    def take(self, number: int, line: str) -> Row | Aside | None:
+        """Takes over the line of this number, from 1 on. Gives it if it is a row."""
+        read = read_line(line)
+        self._count.add(read)
+        if isinstance(read, Row | Aside):
+            return read
+        self._add(read, number)
+        return None
+
+    def take_row(self) -> None:
+        """A line was a row."""
+        self._count.others += 1
 
     def _add(self, read: Read | None, number: int) -> None:
         if isinstance(read, SourceText):
@@ -194,10 +206,12 @@ class Besides:
             self._signals.add(read.lock)
         elif isinstance(read, End):
             pass
+        elif isinstance(read, Begun) and self.borders is not None:
+            self.borders[read.part] = read.border
         elif read is not None and number > 1:
             text = "the journal is of a run in parts, which was looked at as one"
             self._unseen.append(Unseen(Cause.JOURNAL, text))
-        elif number == 1:
+        elif number == 1 and self.borders is None:
             raise NoJournal("its first line is none of a journal")
         else:
             self._unseen.append(Unseen(Cause.JOURNAL, f"line {number} of the journal is none"))
@@ -207,9 +221,15 @@ class Besides:
         """What no line says, once all are taken over."""
         return self._count.missing(self._unseen)
 
-    def journal(self, rows: list[Row]) -> Journal:
+    @property
+    def unseen(self) -> list[Unseen]:
+        """What was not seen, once all lines are taken over."""
+        return [*self._unseen, *self._children.unseen(), *self.missing]
+
+    def journal(self, rows: list[Row], unseen: Iterable[Unseen] = ()) -> Journal:
+        """The whole, with these rows, and what else was not seen."""
         return Journal(
-            rows, [*self._unseen, *self.missing], self.missing, self._passed_over, frozenset(self._signals),
+            rows, [*self.unseen, *unseen], self.missing, self._passed_over, frozenset(self._signals),
             tuple(self._sources), tuple(self._processes), tuple(self._deadlocks), tuple(self._left),
         )
 
@@ -258,21 +278,26 @@ def aside_of(read: dict[str, Any], line: str) -> Aside:
 
 
 class Asides:
-    """What is told of things that are put aside, and which of them other tasks have touched, too."""
+    """What is told of things that are put aside, and which of them other tasks have touched, too.
 
-    def __init__(self) -> None:
+    Whoever knows which things may be put aside says so: what is kept of a long run is of those alone.
+    """
+
+    def __init__(self, may_be_aside: Callable[[str], bool] = lambda thing: True) -> None:
+        self._may_be_aside = may_be_aside
         self._sites: dict[str, SiteTold] = {}
         self._task_of: dict[str, str | None] = {}
-        """Who has touched each thing of the other rows. None if several tasks have."""
+        """Who has touched each of these things by the other rows. None if several tasks have."""
         self._aside: set[str] = set()
         """Which of these things were put aside, too."""
 
     def add_site(self, site: SiteTold) -> None:
         self._sites[site.number] = site
 
-    def add(self, row: Row) -> None:
-        if row.thing is not None and self._task_of.setdefault(row.thing, row.task) != row.task:
-            self._task_of[row.thing] = None
+    def add(self, thing: str | None, task: str) -> None:
+        """A row tells that the task has touched the thing, if it is of one."""
+        if thing is not None and self._may_be_aside(thing) and self._task_of.setdefault(thing, task) != task:
+            self._task_of[thing] = None
 
     def counts(self, thing: str) -> bool:
         """Whether other rows tell of the thing."""
@@ -283,37 +308,52 @@ class Asides:
         if self.counts(aside.thing):
             self._aside.add(aside.thing)
             for _, row in aside.rows(self._sites):
-                self.add(row)
+                self.add(row.thing, row.task)
 
     def rows(self, aside: Aside) -> Iterator[tuple[str, Row]]:
         """Its rows, if they count."""
         is_shared = self._task_of.get(aside.thing, "") is None
         return aside.rows(self._sites) if is_shared else iter(())
 
-    def is_private(self, thing: str | None) -> bool:
-        """Whether one task alone has touched the thing, some touches of which were put aside."""
-        return thing is not None and thing in self._aside and self._task_of[thing] is not None
+    def private(self) -> set[str]:
+        """The things that one task alone has touched, and of which some touches were put aside."""
+        return {thing for thing in self._aside if self._task_of[thing] is not None}
 
 
 class AsideLines:
-    """The lines of what is put aside, in a file. Most of them never count, and a long run has many."""
+    """The lines of what is put aside, in a file. Most of them never count, and a long run has many.
+
+    If the disk is full, none of them is looked at, and `unseen` says so.
+    """
 
     def __init__(self) -> None:
         self._file = tempfile.SpooledTemporaryFile(MOST_ASIDE, "w+", encoding="utf-8", newline="\n")
+        self.unseen: list[Unseen] = []
 
     def __enter__(self) -> AsideLines:
         return self
 
     def __exit__(self, *_: object) -> None:
-        self._file.close()
+        with contextlib.suppress(OSError):  # What is not written yet is not asked for any more.
+            self._file.close()
 
     def add(self, aside: Aside) -> None:
-        self._file.write(f"{json.dumps(aside.thing)}\t{aside.line}")
+        if not self.unseen:
+            with self._or_unseen():
+                self._file.write(f"{json.dumps(aside.thing)}\t{aside.line}")
+
+    @contextlib.contextmanager
+    def _or_unseen(self) -> Iterator[None]:
+        try:
+            yield
+        except OSError as fault:
+            self.unseen.append(Unseen(Cause.JOURNAL, f"what was put aside cannot be looked at: {fault.strerror}"))
 
     def of(self, known: Asides) -> Iterator[Aside]:
         """Those of things that other rows tell of."""
-        self._file.seek(0)
-        for text in self._file:
+        with self._or_unseen():
+            self._file.seek(0)
+        for text in () if self.unseen else self._file:
             thing, _, line = text.partition("\t")
             if known.counts(json.loads(thing)):
                 yield Aside(json.loads(thing), line)
@@ -428,6 +468,14 @@ class Children:
         ]
 
 
+def whole_lines(lines: Iterable[str]) -> Iterator[tuple[int, str]]:
+    """The lines of a journal with their numbers, up to one that was cut off."""
+    for number, line in enumerate(lines, 1):
+        if not line.endswith("\n"):
+            return
+        yield number, line
+
+
 BORDER = '{"border":'
 GOING_ON = frozenset({Cause.CHILD, Cause.MODULE})
 """Why something is not seen of a run that goes on to be traced."""
@@ -475,7 +523,7 @@ def read_line(line: str) -> Read | None:
 
 
 def _row_of(read: dict[str, Any]) -> Row:
-    known = {key: read[key] for key in KEYS if key in read}
+    known = read if read.keys() <= KEYS else {key: read[key] for key in KEYS & read.keys()}
     if "held" in known:
         known["held"] = tuple(known["held"])
     if "shared" in known:
