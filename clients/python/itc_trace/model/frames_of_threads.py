@@ -10,8 +10,11 @@ from __future__ import annotations
 
 import gc
 import sys
-from types import FrameType
-from typing import Any
+from collections.abc import Iterator
+from types import AsyncGeneratorType, CoroutineType, FrameType, GeneratorType
+from typing import Any, TypeVar
+
+T = TypeVar("T")
 
 
 class _Collector:
@@ -50,6 +53,36 @@ def caller_of(frame: FrameType) -> FrameType | None:
     -_collector
     try:
         return frame.f_back
+    finally:
+        +_collector
+
+
+def frame_of(suspended: object) -> FrameType | None:
+    """The frame of a coroutine or a generator that another thread may go on with. None if it is over, or none of them.
+    """
+    kind = type(suspended)
+    what = 1 if kind is CoroutineType else 2 if kind is GeneratorType else 3 if kind is AsyncGeneratorType else 0
+    if not what:
+        return None
+    one: Any = suspended
+    is_on = ~_collector
+    if is_on:
+        -_collector
+    try:
+        found: FrameType | None = one.cr_frame if what == 1 else one.gi_frame if what == 2 else one.ag_frame
+        return found
+    finally:
+        if is_on:
+            +_collector
+
+
+def all_at_once(values: Iterator[T]) -> list[T]:
+    """What an iterator gives that is made in C alone, while no thread goes on."""
+    if not ~_collector:
+        return [*values]
+    -_collector
+    try:
+        return [*values]
     finally:
         +_collector
 

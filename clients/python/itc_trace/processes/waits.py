@@ -22,7 +22,7 @@ from typing import Any
 
 from ..model.file_names import name_of_file
 from ..model.frames import is_internal, line_of
-from ..model.frames_of_threads import caller_of, frames_now, locals_of
+from ..model.frames_of_threads import all_at_once, caller_of, frame_of, frames_now, locals_of
 from ..model.lines import Line, state
 from ..model.lock_identity import LockIdentity
 from ..record import own_threads
@@ -121,7 +121,7 @@ def _places() -> list[tuple[int, int, int]]:
     A frame that is held keeps what is in it behind its end. So one call makes all of it in C, and lets go of it: no
     thread of the program goes on meanwhile.
     """
-    return list(_places_once_asked())
+    return all_at_once(_places_once_asked())
 
 
 def _places_once_asked() -> Iterator[tuple[int, int, int]]:
@@ -352,7 +352,7 @@ def _of_loop(loop: Any, since: Since, now: float, idle: float) -> Iterator[Wait]
 def _frames_of(coroutine: Any) -> Iterator[FrameType]:
     """Those of a coroutine and of what it awaits, from the outermost one on."""
     while coroutine is not None:
-        frame = getattr(coroutine, "cr_frame", None) or getattr(coroutine, "gi_frame", None)
+        frame = frame_of(coroutine)
         if frame is None:
             return
         yield frame

@@ -10,15 +10,14 @@ import gc
 from collections.abc import Iterator
 from types import AsyncGeneratorType, CoroutineType, FrameType, GeneratorType
 
-from ..model.frames_of_threads import caller_of, frames_now
+from ..model.frames_of_threads import caller_of, frame_of, frames_now
 from . import passed_over
 from .places import LOOPS, LOOPS_OF, OF_OTHERS
 
-SUSPENDED: dict[int, tuple[str, str]] = {
-    id(GeneratorType): ("gi_frame", "gi_running"), id(CoroutineType): ("cr_frame", "cr_running"),
-    id(AsyncGeneratorType): ("ag_frame", "ag_running"),
+RUNS: dict[int, str] = {
+    id(GeneratorType): "gi_running", id(CoroutineType): "cr_running", id(AsyncGeneratorType): "ag_running",
 }
-"""What may have been left in the middle of a loop, by the type's identity, and the names of its frame.
+"""What may have been left in the middle of a loop, by the type's identity, and what says that it runs.
 
 A type of the program may hash by code of its own.
 """
@@ -51,7 +50,7 @@ def frames() -> Iterator[FrameType]:
             yield frame
             frame = caller_of(frame)
     for one in gc.get_objects():
-        names = SUSPENDED.get(id(type(one)))
-        waiting = None if names is None or getattr(one, names[1]) else getattr(one, names[0])
+        name = RUNS.get(id(type(one)))
+        waiting = None if name is None or getattr(one, name) else frame_of(one)
         if waiting is not None and waiting.f_lasti >= 0:
             yield waiting
