@@ -6,6 +6,7 @@ between share one event, which a thread of the package reports.
 
 from __future__ import annotations
 
+import itertools
 from _thread import get_ident
 from bisect import bisect_right
 from collections.abc import Callable, Mapping, Sequence
@@ -79,6 +80,9 @@ MOST_OF_STRETCH = 1024
 
 TURNS: dict[int, int] = {}
 """Of each thread that runs a loop, which of the loop's callbacks it runs now."""
+
+TURN_NUMBERS = itertools.count(1)
+"""Of the turns of loops, for whoever begins one. Two libraries may run tasks in one loop."""
 
 
 def leave() -> None:

@@ -109,7 +109,7 @@ def line_of_now() -> Line:
     loop = ASYNCIO.running()
     if loop is not None:
         task = ASYNCIO.task_of(loop)
-        if task is not None:
+        if task is not None and task is not getattr(local, "left_task", None):
             line: Line | None = getattr(task, "_itc_line", None)
             if line is not None and line.tracer is state.tracer:
                 return line
@@ -121,14 +121,32 @@ def line_of_now() -> Line:
     return own if own is not None and own.tracer is state.tracer else _adopt_thread()
 
 
-def who() -> int:
-    """What tells whatever runs now from all else that runs, also once tracing has begun anew."""
+def task_now() -> Any:
+    """The task of asyncio that takes a step in this thread, if nothing else runs within that."""
     loop = ASYNCIO.running()
     task = None if loop is None else ASYNCIO.task_of(loop)
+    return None if task is getattr(local, "left_task", None) else task
+
+
+def who() -> int:
+    """What tells whatever runs now from all else that runs, also once tracing has begun anew."""
+    task = task_now()
     if task is not None:
         return id(task)
     own = next((found for found in (one.who() for one in REPLACING) if found is not None), None)
     return get_ident() if own is None else own
+
+
+def leave_task() -> Any:
+    """From here on this thread does what is not of the task of asyncio that takes a step. Gives what was so before."""
+    before, loop = getattr(local, "left_task", None), ASYNCIO.running()
+    local.left_task = before if loop is None else ASYNCIO.task_of(loop) or before
+    return before
+
+
+def come_back(before: Any) -> None:
+    """The task goes on that `leave_task` has left."""
+    local.left_task = before
 
 
 def line_of_task(task: Any) -> Line | None:

@@ -13,7 +13,6 @@ import asyncio.locks as locks
 import asyncio.queues as queues_module
 import asyncio.tasks as tasks
 import functools
-import itertools
 import types
 from _thread import get_ident
 from collections import deque
@@ -30,7 +29,7 @@ from ..model.lock_identity import LockIdentity
 from ..model.loop_runs import BEGINS, RUNS, LoopRun, begun_here, take_step
 from ..record.noting import current, joining, line_of_task, mark, starting, take, without_own_frame
 from ..model.frames import frame_at, is_internal, place
-from ..model.stretches import STRETCHES, TURNS, leave
+from ..model.stretches import STRETCHES, TURN_NUMBERS, TURNS, leave
 from . import chains
 from .base import Patches, like, name_as, named_like
 from .futures import is_settled_by_source, take_any
@@ -48,7 +47,6 @@ _spawned: dict[int, tuple[Any, Line]] = {}
 """The lines of coroutines that another thread has handed to a loop, until their tasks are made."""
 _named: dict[int, str] = {}
 """The names that tasks of coroutines are to have, while their tasks are made."""
-_turns = itertools.count(1)
 
 
 def put(patches: Patches) -> None:
@@ -355,7 +353,7 @@ def _put_tasks(patches: Patches) -> None:
 
 _ON_BEHALF = {base_events.BaseEventLoop.run_until_complete.__code__}
 """Code of asyncio that takes a result for the thread that called it."""
-_FOR_THE_PROGRAM = {futures_module.wrap_future.__code__, tasks.shield.__code__}
+FOR_THE_PROGRAM = {futures_module.wrap_future.__code__, tasks.shield.__code__}
 """Code of asyncio that makes a future for the program to wait for."""
 
 
@@ -378,7 +376,7 @@ def _naming(original: Any) -> Any:
 def _create_future(original: Any) -> Any:
     def create_future(self: Any) -> Any:
         frame = frame_at(1)
-        if frame is not None and is_internal(frame) and frame.f_code not in _FOR_THE_PROGRAM:
+        if frame is not None and is_internal(frame) and frame.f_code not in FOR_THE_PROGRAM:
             return original(self)
         return TracedFuture(loop=self)
 
@@ -489,7 +487,7 @@ def _run_handle(original: Any) -> Any:
             return original(self)
         thread = get_ident()
         STRETCHES.pop(thread, None)
-        TURNS[thread] = next(_turns)
+        TURNS[thread] = next(TURN_NUMBERS)
         _be_in_run(thread)
         take_step(_line_of_step(self._callback))
         try:
@@ -539,7 +537,7 @@ def _run_forever(original: Any) -> Any:
     return run_forever
 
 
-_PLUMBING = frozenset({"asyncio", "_asyncio", "concurrent", "itc_trace"})
+_PLUMBING = frozenset({"asyncio", "_asyncio", "concurrent", "itc_trace", "twisted"})
 _STEPS = frozenset({"TaskStepMethWrapper", "TaskWakeupMethWrapper"})
 _name_of: Any = vars(type)["__name__"].__get__
 """The name of a type, whatever its metaclass says."""
