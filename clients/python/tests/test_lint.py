@@ -46,6 +46,8 @@ OF_THE_LIBRARY = {
     "sync.threads": "_args _cond _count _flag _is_owned _lock _target _waiters",
     "sync.trio_orders": "_borrowers _channel _closed _flag _lock _lot _owner _parked _state _sync",
     "sync.trio_tasks": "_abort_func _cancel_called _cancel_status _core _scope _shield",
+    "sync.twisted_loops": "_completionState",
+    "sync.twisted_reactors": "_asyncioEventloop",
     "sync.values": "_length_ _type_ _wrapper",
     "watch": "_get_code_from_file",
     "watch.inside": "_FIELD _field_type",

@@ -138,7 +138,7 @@ class PassedOverCase(ProgramCase):
 
     def test_tasks_that_the_package_does_not_know_of_are_named_beside_one_task_too(self) -> None:
         text = "try:\n    import IMPORTED\nexcept ImportError:\n    pass\n"
-        for imported, is_told in (("greenlet", True), ("eventlet", True), ("twisted.internet.defer", True), ("tornado.gen", True), ("json", False)):
+        for imported, is_told in (("greenlet", True), ("eventlet", True), ("twisted.internet.process", True), ("twisted.internet.defer", False), ("tornado.gen", True), ("json", False)):
             ran = run_traced(self.program(text.replace("IMPORTED", imported)))
             self.assertEqual("not looked into: tasks of " in ran.stderr, is_told, ran.stderr)
         for imports in ("__import__('NAME')", "import importlib\nimportlib.import_module('NAME')", "exec('import NAME')"):

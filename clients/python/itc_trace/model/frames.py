@@ -17,7 +17,7 @@ INTERNAL_MODULES = frozenset(
 )
 """Modules of a package that is not internal as a whole."""
 
-TRACED_LIBRARIES = frozenset({"trio", "gevent"})
+TRACED_LIBRARIES = frozenset({"trio", "gevent", "twisted"})
 """Other libraries whose promises are traced as a whole. They may be watched, too."""
 
 _internal_names: dict[Any, bool] = {}

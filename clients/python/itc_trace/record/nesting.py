@@ -12,7 +12,7 @@ from .loops import ASYNCIO
 from .noting import line_of_now, touched
 
 ACQUIRE = "acquire"
-OF_TASKS = ("asyncio.", "trio.", "gevent.")
+OF_TASKS = ("asyncio.", "trio.", "gevent.", "twisted.")
 """So begin the kinds of locks for which the tasks of a loop wait, and the loop does not."""
 MOST_KNOWN = 256
 """So many tasks and places of a queue are known. What is forgotten may be noted once more."""

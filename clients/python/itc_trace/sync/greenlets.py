@@ -56,15 +56,16 @@ class Known:
 class Base:
     """A task that only starts others. It knows nothing, and nor do they, but for what they are seen to come after."""
 
-    __slots__ = ("line",)
+    __slots__ = ("line", "_name")
 
-    def __init__(self) -> None:
+    def __init__(self, name: str = BASE) -> None:
         self.line: Line | None = None
+        self._name = name
 
     def begin(self) -> Line:
         """Its line, which a task begins that is there already."""
         if self.line is None or self.line.tracer is not state.tracer:
-            self.line = Line(state.tracer, BASE)
+            self.line = Line(state.tracer, self._name)
         return self.line
 
     def start(self, line: Line) -> None:

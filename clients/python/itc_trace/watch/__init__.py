@@ -16,7 +16,7 @@ from ..model.lines import Line, state
 from ..model.frames import INTERNAL
 from ..model.verdict import PassedOver, Unseen
 from ..model.stretches import SITES
-from ..sync import chains
+from ..sync import chains, twisted_threads
 from ..sync.base import like
 from ..sync.meeting import Meeting, Touching
 from . import begun_code, handed, held_lines, hooks, leaving, named, passed_over, things
@@ -191,7 +191,9 @@ def not_looked_into() -> list[PassedOver]:
     """
     if _finder is None:
         return []
-    all_found = [*passed_over.found, *chains.found, *passed_over.of_loaded(), *begun_code.running()]
+    all_found = [
+        *passed_over.found, *chains.found, *twisted_threads.found, *passed_over.of_loaded(), *begun_code.running(),
+    ]
     return [one for one in all_found if hooks.are_put() or one.what.startswith(passed_over.TASKS_OF)]
 
 

@@ -10,7 +10,7 @@ from collections.abc import Callable
 from ..model.stretches import SITES
 from ..model.verdict import PassedOver
 from ..record import noting
-from ..sync import gevent_tasks
+from ..sync import gevent_tasks, twisted_flows
 from .learned import Learned
 
 BUILT_IN = frozenset(("exec", "eval", "memoryview"))
@@ -23,13 +23,16 @@ _CALLERS = frozenset("enter enterabs add_signal_handler add_reader add_writer".s
 _FOLLOWED = ("concurrent.futures.", "asyncio.", "trio.", "multiprocessing.", "itertools.", "operator.")
 _FOLLOWED_ALONE = frozenset((
     "weakref.finalize", "atexit.register", "_thread.start_new_thread", "threading.Thread", "threading.Timer",
-    "functools.partial", "functools.reduce",
+    "functools.partial", "functools.reduce", "twisted.internet.threads.deferToThread",
+    "twisted.internet.reactor.callLater", "twisted.internet.reactor.callFromThread",
+    "twisted.internet.reactor.callInThread",
 ))
 _WRAPPING = frozenset(("staticmethod", "classmethod", "property"))
 """Functions of the language that make an attribute of what they are given, which whoever finds it may call."""
 FOLLOWED_METHODS = frozenset(
     "submit map apply_async map_async starmap_async add_done_callback remove_done_callback call_soon call_later "
-    "call_at call_soon_threadsafe run_in_executor callback push append appendleft add put put_nowait insert "
+    "call_at call_soon_threadsafe run_in_executor addCallback addErrback addBoth addCallbacks callLater "
+    "callFromThread callInThread callback push append appendleft add put put_nowait insert "
     "setdefault update "
     "discard remove get pop".split()
 )
@@ -38,14 +41,24 @@ REPLACING = ("unittest.mock.patch", "mock.patch", "importlib.reload")
 """Functions that replace what others use. While there is one task nobody else does."""
 _MODULES = frozenset(("ctypes", "numpy", "pandas", "multiprocessing.shared_memory"))
 _FOLLOWED_OF_MODULES = frozenset(("multiprocessing.shared_memory.ShareableList",))
-_WITH_TASKS = frozenset("greenlet eventlet twisted anyio curio stackless cffi".split())
+_WITH_TASKS = frozenset("greenlet eventlet anyio curio stackless cffi".split())
 """Libraries with tasks of their own, or with threads that no code of Python starts."""
 _LOADED = ("gevent", "eventlet", "curio", "stackless", "twisted.internet")
 """Those of them that another library imports for its own tasks. Others come along where nobody uses them."""
 BY_A_LIBRARY = "an import by a library"
-_MODULES_WITH_TASKS = frozenset(("tornado.gen", "tornado.concurrent", "asyncore", "asynchat"))
-_STARTING = frozenset("CFUNCTYPE PYFUNCTYPE WINFUNCTYPE".split())
-"""Functions of `ctypes` by which code in C calls the program, perhaps in a thread of its own."""
+_OF_TWISTED = frozenset(
+    f"twisted.internet.{one}" for one in (
+        "cfreactor gireactor glib2reactor gtk2reactor gtk3reactor inotify iocpreactor kqreactor process pyuisupport "
+        "stdio tksupport utils win32eventreactor wxreactor wxsupport _threadedselect"
+    ).split()
+)
+"""The modules of Twisted that are not followed: other reactors, and what runs processes."""
+_MODULES_WITH_TASKS = frozenset((
+    "tornado.gen", "tornado.concurrent", "asyncore", "asynchat", "twisted._threads", "twisted.trial._dist",
+    *_OF_TWISTED,
+))
+_STARTING = frozenset("CFUNCTYPE PYFUNCTYPE WINFUNCTYPE spawnProcess".split())
+"""Functions of `ctypes` by which code in C calls the program, perhaps in a thread of its own, and one of Twisted."""
 
 TASKS_OF = "tasks of "
 """Stands before what has tasks of its own. There may be several where the package knows of one."""
@@ -162,10 +175,15 @@ def _with_tasks(name: str) -> str:
     return first if first in _WITH_TASKS else whole
 
 
+_UNKNOWN = ((gevent_tasks.LIBRARY, gevent_tasks.UNKNOWN), (twisted_flows.LIBRARY, twisted_flows.UNKNOWN))
+"""The libraries of this kind that are followed, each with its modules that are not as they are known."""
+
+
 def of_loaded() -> list[PassedOver]:
     """The libraries with tasks of their own that are there, and that no watched module was seen to import."""
     told = {one.what for one in found}
-    followed = set() if gevent_tasks.UNKNOWN else {one.library for one in noting.REPLACING}
+    unknown = {name for name, modules in _UNKNOWN if modules}
+    followed = {one.library for one in noting.REPLACING} - unknown
     names = [
         f"{TASKS_OF}{name.partition('.')[0]}" for name in _LOADED if name in sys.modules and name not in followed
     ]
