@@ -285,8 +285,9 @@ if __name__ == "__main__":
     del thing
 """
 MAKERS = (
-    "multiprocessing.Barrier(1, print)", "multiprocessing.Barrier(17)", "multiprocessing.Array('i', 5000)", "shared_memory.ShareableList(range(5000))", "multiprocessing.Manager().list()", "__import__('mmap').mmap(-1, 1)", "(lambda pipe: pipe[0].send_bytes(b'x') or pipe)(multiprocessing.Pipe())",
+    "multiprocessing.Barrier(1, print)", "multiprocessing.Barrier(17)", "multiprocessing.Array('i', 5000)", "shared_memory.ShareableList(range(5000))", "__import__('multiprocessing.managers').managers.SyncManager().get_server()", "__import__('mmap').mmap(-1, 1)", "(lambda pipe: pipe[0].send_bytes(b'x') or pipe)(multiprocessing.Pipe())",
     "shared_memory.ShareableList([1]).shm", "shared_memory.SharedMemory(create=True, size=1)", "bool(shared_memory.ShareableList([1]).shm.buf)",
+    "multiprocessing.RawArray(type('S', (__import__('ctypes').Structure,), {'_fields_': [('x', __import__('ctypes').c_int)]}), 2)",
 )
 LATER = """
 import multiprocessing
@@ -847,6 +848,40 @@ if __name__ == "__main__":
     child.join()
     print(table[:1], raw[0:2], len(table), text.value, type(raw).__name__, isinstance(raw, ctypes.Array), list(table)[2], repr(table)[:70])
 """
+STRUCTURES = """
+import ctypes, multiprocessing, sys
+
+class Point(ctypes.Structure):
+    _fields_ = [("x", ctypes.c_int), ("y", ctypes.c_double)]
+    def move(self):
+        self.x += 1
+
+class Place(Point):
+    _fields_ = [("z", ctypes.c_char)]
+
+def work(held, raw, own):
+    for _ in range(2):
+        with held.get_lock():
+            held.x += 1
+            held.get_obj().y = held.y + 1
+    raw.move()
+    if own:
+        raw.y = 2.5
+    else:
+        raw.z = b"q"
+
+method = sys.argv[1]
+if __name__ == "__main__":
+    context = multiprocessing.get_context(method)
+    held, raw = context.Value(Point, 1, 2.0), context.RawValue(Place, 3)
+    assert raw.x == 3 and held.x == 1
+    children = [context.Process(target=work, args=(held, raw, own)) for own in range(2)]
+    for child in children:
+        child.start()
+    for child in children:
+        child.join()
+    print(held.x, held.y, raw.y, raw.z, isinstance(raw, Point), type(raw).__name__, ctypes.sizeof(raw), repr(raw)[:20], Place(5, 6).x)
+"""
 
 
 @unittest.skipUnless(hasattr(os, "fork"), "there is no fork here")
@@ -868,6 +903,16 @@ class Permits(ProgramCase):
                 self.assertEqual((ran.returncode, ran.stdout), (Verdict.RACES, plain.stdout), ran.stderr)
                 told = set(re.findall(r"itc_trace: race on (\w+\S*), an Array made at", ran.stderr))
                 self.assertEqual(told, {"raw[2]"}, ran.stderr)
+                self.assertNotIn("incomplete", ran.stderr)
+
+    def test_a_field_of_a_structure_is_a_thing(self) -> None:
+        for method in chosen(METHODS):
+            with self.subTest(method=method):
+                program = self.program(STRUCTURES)
+                ran, plain = run_traced(program, method), run_python(program, method)
+                self.assertEqual((ran.returncode, ran.stdout), (Verdict.RACES, plain.stdout), ran.stderr)
+                told = re.findall(r"itc_trace: race on (\S+), a Value made at \S+program\.py:\d+\n", ran.stderr)
+                self.assertEqual((told, ran.stderr.count("race on")), (["raw.x"], 1), ran.stderr)
                 self.assertNotIn("incomplete", ran.stderr)
 
 

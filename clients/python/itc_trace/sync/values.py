@@ -20,13 +20,15 @@ from ..model.lock_identity import variable_of_result
 from ..record.noting import touch_at
 from ..model.frames import place_of
 from ..model.stretches import Across
+from . import structures
 from .base import Patches
 from .later import once_imported
 
 _Simple: Any = vars(ctypes)["_SimpleCData"]
 _own = threading.local()
 OF_VARIABLE = ", an Array made at "
-"""Stands behind the name of a variable that an array was given to first."""
+OF_VALUE = ", a Value made at "
+"""They stand behind the name of a variable that an array or a structure was given to first."""
 MOST_ELEMENTS = 4096
 """A longer array is not followed."""
 _numbers: dict[str, itertools.count[int]] = {}
@@ -66,7 +68,8 @@ def _is_simple(kind: Any) -> bool:
 
 def _raw_value(original: Any, types: dict[str, Any]) -> Any:
     def RawValue(typecode_or_type: Any, *args: Any) -> Any:
-        if not _is_simple(types.get(typecode_or_type, typecode_or_type)):
+        kind = types.get(typecode_or_type, typecode_or_type)
+        if not _is_simple(kind) and not structures.is_followed(kind):
             return original(typecode_or_type, *args)
         with making():
             made = original(typecode_or_type, *args)
@@ -109,6 +112,8 @@ def _rebuild(original: Any) -> Any:
             return original(_noted_array(type_ * length), wrapper, None)
         if length is None and _is_noted_array(type_):
             return original(_noted_array(type_), wrapper, None)
+        if length is None and structures.is_followed(type_):
+            return original(_noted_structure(type_), wrapper, None)
         return original(_noted(type_) if length is None and _is_simple(type_) else type_, wrapper, length)
 
     return rebuild_ctype
@@ -186,6 +191,27 @@ def _touch_elements(array: Any, index: Any, kind: str) -> None:
 def _name_of_element(name: str, number: int) -> str:
     variable, is_there, made = name.partition(OF_VARIABLE)
     return f"{variable}[{number}]{is_there}{made}" if is_there else f"{name}, element {number}"
+
+
+# Structures
+
+
+def _noted_structure(plain: Any) -> Any:
+    if hasattr(plain, "_itc_plain"):
+        return plain
+    made = _noted_types.get(plain)
+    if made is None:
+        made = _noted_types[plain] = structures.noted(plain, _touch_field)
+    return made
+
+
+def _touch_field(one: Any, field: str, kind: str) -> None:
+    """A structure that is just being made has no name yet, and is nobody else's."""
+    name = getattr(one.__dict__.get("_wrapper"), "_itc_name", None)
+    if name is not None and (state.note is not None or state.witness is not None):
+        variable, is_there, made = name.partition(OF_VALUE)
+        told = f"{variable}.{field}{is_there}{made}" if is_there else f"{name}, field {field}"
+        touch_at(Across(told), kind, *place_of(user()))
 
 
 # Numbers
