@@ -35,6 +35,8 @@ OF_THE_LIBRARY = {
     "sync.http": "_SocketWriter _buffer",
     "sync.importlib_bootstrap": "_ModuleLock _calc___package__ _lock_unlock_module _module_locks _resolve_name",
     "sync.locks": "_is_owned",
+    "sync.managed": "_at_fork_reinit",
+    "sync.managers": "_owned_by_manager _registry",
     "sync.pipes": "_sem _semlock _unfinished_tasks",
     "sync.process_signals": "_cond _flag _lock _make_methods _semlock",
     "sync.processes": "_count _is_mine _is_zero _make_methods _registry",

@@ -13,7 +13,7 @@ INTERNAL = frozenset({
 """Library modules whose own locks and queues are not traced: what they promise is traced as a whole."""
 
 INTERNAL_MODULES = frozenset(
-    f"multiprocessing.{one}" for one in ("queues", "resource_tracker", "forkserver", "util", "heap")
+    f"multiprocessing.{one}" for one in ("queues", "resource_tracker", "forkserver", "util", "heap", "managers")
 )
 """Modules of a package that is not internal as a whole."""
 

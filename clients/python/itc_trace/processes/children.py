@@ -10,7 +10,7 @@ from typing import Any
 from ..record import own_files, plain
 from .. import watch
 from ..model.file_names import name_of_file, working_folder
-from ..record.following import not_traced, place_of_start
+from ..record.following import is_starting_server, not_traced, place_of_start
 from ..model.frames import line_of
 from ..record.journal_file import JournalFile
 from ..model.lines import state
@@ -82,8 +82,8 @@ def _wrap_start(kind: Any, tell: Callable[[Unseen], None]) -> None:
 
     def start(self: Any) -> None:
         original(self)
-        if self.__dict__.get("_itc_line") is not None:
-            return  # It is traced.
+        if self.__dict__.get("_itc_line") is not None or is_starting_server():
+            return  # It is traced, or does nothing of the program.
         method = getattr(self._popen, "method", "fork")
         tell(not_traced(method, 1))
 

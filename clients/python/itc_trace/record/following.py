@@ -10,6 +10,7 @@ import contextlib
 import itertools
 import os
 import random
+import sys
 import threading
 from collections.abc import Callable, Iterator
 from dataclasses import dataclass, field
@@ -22,7 +23,7 @@ from .noting import current
 from ..model.frames import frame_at, place_of
 from .shared_names import PREFIX, SharedNames
 from .waiting import Waiter
-from ..model.verdict import Cause, Unseen, child_begun_row, child_ended_row
+from ..model.verdict import Cause, PassedOver, Unseen, child_begun_row, child_ended_row
 
 MOST_TAG = 8
 NOWHERE = "?"
@@ -33,6 +34,7 @@ FOLLOWED_MEMORY = (f"/{PREFIX}", "/pym-")
 """The names of this package, and the memory of `multiprocessing`: who takes some of that is looked at by itself."""
 DIGITS = "0123456789abcdefghijklmnopqrstuvwxyz"
 ANSWER_SECONDS = 30.0
+NOT_ALL_SEEN = "what processes do to each other was not all seen"
 
 
 STARTING = frozenset({"multiprocessing", "concurrent", "subprocess", "os", "pty", "asyncio", "itc_trace"})
@@ -72,7 +74,7 @@ class Traced(Protocol):
     def is_child(self) -> bool:
         """Whether the process that is traced is the child of one that is traced, too."""
 
-    def tell(self, unseen: Unseen) -> None:
+    def tell(self, unseen: Unseen | PassedOver) -> None:
         """Says in the journal what of the run is not seen."""
 
     def write(self, row: str) -> None:
@@ -107,6 +109,8 @@ class _Following:
     made: dict[str, SharedNames] = field(default_factory=dict)
     """The names that this process has made, which are `names` from then on."""
     numbers: itertools.count[int] = field(default_factory=lambda: itertools.count(1))
+    passed_over: set[PassedOver] = field(default_factory=set)
+    """What was told of that is not looked into. There are no more of them than places of the program."""
 
 
 _following = _Following()
@@ -139,12 +143,26 @@ def is_not_followed(what: str) -> None:
     if traced is not None and not _following.is_unfollowed and place_of_start(2) != NOWHERE:
         _following.is_unfollowed = True
         if traced.is_child or _following.has_children:
-            traced.tell(
-                Unseen(
-                    Cause.CHILD,
-                    f"what processes do to each other was not all seen: {what} was used at {place_of_start(2)}",
-                )
-            )
+            traced.tell(Unseen(Cause.CHILD, f"{NOT_ALL_SEEN}: {what} was used at {place_of_start(2)}"))
+
+
+def tell_of_unseen(what: str) -> None:
+    """Another process does something that nobody sees, whether a child of this one is traced or not."""
+    traced = _following.traced
+    if traced is not None:
+        _following.is_unfollowed = True
+        traced.tell(Unseen(Cause.CHILD, f"{NOT_ALL_SEEN}: {what}"))
+
+
+def pass_over(what: str, frame: FrameType | None) -> None:
+    """Tells of what the program does that is not looked into, also in a process of one task."""
+    traced = _following.traced
+    if traced is None or frame is None:
+        return
+    one = PassedOver(what, f"{os.path.basename(frame.f_code.co_filename)}:{frame.f_lineno}")
+    if one not in _following.passed_over:
+        _following.passed_over.add(one)
+        traced.tell(one)
 
 
 def is_there() -> bool:
@@ -223,7 +241,7 @@ def begin(hint: str, how: str, depth: int) -> Begun | None:
     It returns once the collector has the start, so that nothing of the child comes before.
     """
     note, tracer, traced = state.note, state.tracer, _following.traced
-    if note is None or tracer is None or traced is None or not is_on():
+    if note is None or tracer is None or traced is None or is_starting_server() or not is_on():
         return None
     line, waiter = Line(tracer, hint), Waiter()
     line.is_process = True
@@ -258,6 +276,8 @@ def is_of_library(frame: FrameType | None) -> bool:
     """Whether it is code that starts processes for the program, or carries something between them."""
     if frame is None:
         return False
+    if frame.f_code.co_filename == "<string>" and "__name__" not in frame.f_globals:
+        return True  # A method that the library makes of a text has no module.
     package = str(frame.f_globals.get("__name__")).partition(".")[0]
     return package in STARTING or frame.f_code.co_filename.startswith(OWN_FOLDER)
 
@@ -270,6 +290,24 @@ def as_child_of(line: Line | None) -> Iterator[None]:
         yield
     finally:
         _own.parent = None
+
+
+@contextlib.contextmanager
+def starting_server() -> Iterator[None]:
+    """The process that this thread starts within the block serves what the library has made, and is no task.
+
+    What is done to that is noted where it is asked for.
+    """
+    _own.is_starting_server = True
+    try:
+        yield
+    finally:
+        _own.is_starting_server = False
+
+
+def is_starting_server() -> bool:
+    """Whether the process that this thread starts is such a server."""
+    return getattr(_own, "is_starting_server", False)
 
 
 def _fresh_tag(tracer: Reporter) -> str:
@@ -318,6 +356,15 @@ def beginning(process: ChildProcess) -> object:
 def program_of(command: Any, folder: str) -> str | None:
     """The program or module that a command runs in a folder, if it is one that is watched."""
     return None if _following.ways is None else _following.ways.program_of(command, folder)
+
+
+def watches(module: str) -> bool:
+    """Whether a module that is there is watched: it lies in a folder of the program, or was named."""
+    file = getattr(sys.modules.get(module), "__file__", None)
+    if file is None or _following.packages is None:
+        return False
+    is_within = any(os.path.realpath(file).startswith(os.path.realpath(one) + os.sep) for one in _following.folders)
+    return is_within or module.partition(".")[0] in _following.packages
 
 
 def has_ended(line: Line | None) -> None:

@@ -17,9 +17,9 @@ from zlib import crc32
 from . import own_files
 
 LONGEST_KEY = 32
-LONGEST_NAME = 32
+LONGEST_NAME = 128
 SLOT = LONGEST_KEY + LONGEST_NAME
-MOST_SLOTS = 4096
+MOST_SLOTS = 16384
 PREFIX = "itc_trace_names_"
 _make_lock = vars(_thread)["RLock"]
 """As it is before any program is traced. A finalizer or a handler of a signal may come again within."""

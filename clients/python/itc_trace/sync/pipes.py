@@ -72,25 +72,44 @@ def _loads(data: Any, **named: Any) -> Any:
     if state.note is not None:
         end = bytes(data[-_LENGTH:])
         if end.startswith(MARK_OF_NAME) and end.endswith(END_OF_NAME):
-            incoming_at(end[len(MARK_OF_NAME):].decode("ascii", "replace").strip(), following.frame_of_start(1))
+            _own.is_named = True
+            if not _is_silent():
+                incoming_at(end[len(MARK_OF_NAME):].decode("ascii", "replace").strip(), following.frame_of_start(1))
     return told
 
 
 def _begin() -> Sending | None:
     """Sends a message, if it may be for another process."""
-    if getattr(_own, "is_silent", False) or not following.is_there():
+    if _is_silent() or not following.is_there():
         return None
     return Sending.begin(following.frame_of_start(1))
 
 
+def _is_silent() -> bool:
+    return getattr(_own, "is_silent", False)
+
+
 @contextlib.contextmanager
-def silence() -> Iterator[None]:
-    """What this thread pickles within the block brings a message of its own."""
-    before, _own.is_silent = getattr(_own, "is_silent", False), True
+def silence(is_silent: bool = True) -> Iterator[None]:
+    """What this thread pickles within the block brings a message of its own, or needs none.
+
+    If it is not to be silent, it is as outside of such blocks.
+    """
+    before, _own.is_silent = _is_silent(), is_silent
     try:
         yield
     finally:
         _own.is_silent = before
+
+
+def begin_to_listen() -> None:
+    """From here on this thread looks whether what it unpickles brings a message."""
+    _own.is_named = False
+
+
+def has_heard() -> bool:
+    """Whether something that this thread has unpickled since then has brought a message."""
+    return getattr(_own, "is_named", False)
 
 
 # Queues: a thread of the queue pickles what was put

@@ -7,6 +7,7 @@ messages of those who gave one. A semaphore of one permit is a lock as well, as 
 
 from __future__ import annotations
 
+from collections.abc import Callable
 from types import FrameType
 from typing import Any
 
@@ -114,9 +115,13 @@ class SharedPermits:
             self.one.hold(token, has_waited, is_only)
 
     def release(self) -> None:
+        self.give(self._semlock.release)
+
+    def give(self, release: Callable[[], object]) -> None:
+        """The current task gives a permit, by this call."""
         name = _name()
         token = mark(SEMAPHORE) if self.one is None else self.one.let_go()
-        number = self._counted.give(name, self._semlock.release)
+        number = self._counted.give(name, release)
         if token is not None:
             self._given[number] = token
             self._given.pop(number - self._counted.most, None)

@@ -24,14 +24,6 @@ def _telling(patches: Patches, kind: str, tells: Callable[[Any], Any]) -> Callab
     return lambda module: patches.wrap(vars(module)[kind], "__init__", tells)
 
 
-def _tells(original: Any) -> Any:
-    def __init__(self: Any, *words: Any, **named: Any) -> None:
-        following.is_not_followed(type(self).__name__)
-        original(self, *words, **named)
-
-    return __init__
-
-
 def _tells_of_block(original: Any) -> Any:
     def __init__(self: Any, *words: Any, **named: Any) -> None:
         if not is_making():
@@ -64,8 +56,6 @@ def _tells_of_queue(original: Any) -> Any:
 _MAKING = (
     ("multiprocessing.heap", "BufferWrapper", _tells_of_memory),
     ("multiprocessing.queues", "Queue", _tells_of_queue),
-    ("multiprocessing.managers", "BaseManager", _tells),
-    ("multiprocessing.managers", "BaseProxy", _tells),
     ("multiprocessing.shared_memory", "SharedMemory", _tells_of_block),
 )
 """The modules and classes by which a program makes such things, or gets them from another process, and what tells."""

@@ -253,10 +253,5 @@ def _touch(value: Any, kind: str) -> None:
 
 
 def user() -> FrameType | None:
-    """The frame of the program. What the library makes of a text has no module."""
-    frame = following.frame_of_start(2)
-    while frame is not None and (
-        following.is_of_library(frame) or frame.f_code.co_filename == "<string>" and "__name__" not in frame.f_globals
-    ):
-        frame = frame.f_back
-    return frame
+    """The frame of the program."""
+    return following.frame_of_start(2)

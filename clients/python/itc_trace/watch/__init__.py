@@ -19,7 +19,7 @@ from ..model.stretches import SITES
 from ..sync import chains, twisted_threads
 from ..sync.base import like
 from ..sync.meeting import Meeting, Touching
-from . import begun_code, handed, held_lines, hooks, leaving, named, passed_over, things
+from . import begun_code, handed, held_lines, hooks, leaving, named, passed_over, proxied, things
 from .commands import own_program
 from .finder import UNWATCHED, Finder, Selection, look_around, with_hooks
 from .loaded import Prepare, folder_of_main, rewrite_loaded
@@ -35,6 +35,7 @@ MAIN_OF_CHILD = "__mp_main__"
 """The name of the program's main module in a process that `multiprocessing` has started anew."""
 
 handed.begin()
+proxied.begin()
 
 _finder: Finder | None = None
 _plain_line_begin: Any = None
