@@ -289,7 +289,8 @@ final class Elements {
         Run last = null;
         for (Run one = page.runs; one != null; one = one.next) {
             boolean isLeft = true;
-            if (one.isOfLine(mine)) {
+            boolean mayBeOwn = (one.mask & mask) != 0 || one.number == mine.number;
+            if (mayBeOwn && one.isOfLine(mine)) {
                 if (one.number == mine.number) {
                     one.mask |= mask;
                     own = one;

@@ -8,10 +8,12 @@ import java.time.Duration;
 import java.time.Instant;
 import java.time.LocalDate;
 import java.util.ArrayDeque;
+import java.util.ArrayList;
 import java.util.Collections;
 import java.util.Comparator;
 import java.util.Deque;
 import java.util.HashMap;
+import java.util.List;
 import java.util.Map;
 import java.util.Set;
 import java.util.SortedMap;
@@ -53,13 +55,13 @@ final class Keys {
     /** Whether what tells two keys apart is their order. */
     private final boolean isSorted;
     private final Map<Object, Numbered> numbers = new HashMap<>();
+    private final List<Numbered> inOrder = new ArrayList<>();
     private final Deque<Integer> free = new ArrayDeque<>();
     private final ReferenceQueue<Object> gone = new ReferenceQueue<>();
-    private int next;
     private long serials;
 
     /** The number of a key, and what tells the key from others that had the number before. */
-    private record Numbered(int number, long serial) {}
+    private record Numbered(int number, long serial, Object known) {}
 
     /** An object that is told by what it is. */
     private static final class Identity extends WeakReference<Object> {
@@ -113,8 +115,14 @@ final class Keys {
         Numbered one = numbers.get(known);
         if (one == null) {
             forgetGone();
-            one = new Numbered(free.isEmpty() ? next++ : free.poll(), ++serials);
+            boolean isLast = free.isEmpty();
+            one = new Numbered(isLast ? inOrder.size() : free.poll(), ++serials, known);
             numbers.put(known, one);
+            if (isLast) {
+                inOrder.add(one);
+            } else {
+                inOrder.set(one.number, one);
+            }
         }
         return one.number;
     }
@@ -129,6 +137,9 @@ final class Keys {
     synchronized int remove(Object key) {
         Object known = known(key);
         Numbered one = known == null ? null : numbers.remove(known);
+        if (one != null) {
+            inOrder.set(one.number, null);
+        }
         return one == null ? UNKNOWN : one.number;
     }
 
@@ -140,8 +151,8 @@ final class Keys {
     /** None of the keys is known any more. */
     synchronized void clear() {
         numbers.clear();
+        inOrder.clear();
         free.clear();
-        next = 0;
     }
 
     private void forgetGone() {
@@ -169,12 +180,8 @@ final class Keys {
 
     /** If no key has the number, it is the other one. */
     synchronized Named named(int number, String other) {
-        for (Map.Entry<Object, Numbered> one : numbers.entrySet()) {
-            if (one.getValue().number == number) {
-                return new Named(shown(one.getKey(), other), one.getValue().serial);
-            }
-        }
-        return new Named(other, 0);
+        Numbered one = number < inOrder.size() ? inOrder.get(number) : null;
+        return one == null ? new Named(other, 0) : new Named(shown(one.known, other), one.serial);
     }
 
     private static String shown(Object known, String other) {
