@@ -32,7 +32,7 @@ from ..model.frames import frame_at, is_internal, place
 from ..model.stretches import STRETCHES, TURN_NUMBERS, TURNS, leave
 from . import chains
 from .base import Patches, like, name_as, named_like
-from .futures import is_settled_by_source, take_any
+from .futures import FOR_THE_PROGRAM, is_settled_by_source, take_any
 from .left_behind import Outcome, begun, stays, taken
 from .locks import OnePermit, gave, is_of_condition, took
 from .queues import add_stack, has_few_places, is_followed, items_of, note_done, room_of, take_done
@@ -353,8 +353,7 @@ def _put_tasks(patches: Patches) -> None:
 
 _ON_BEHALF = {base_events.BaseEventLoop.run_until_complete.__code__}
 """Code of asyncio that takes a result for the thread that called it."""
-FOR_THE_PROGRAM = {futures_module.wrap_future.__code__, tasks.shield.__code__}
-"""Code of asyncio that makes a future for the program to wait for."""
+FOR_THE_PROGRAM.update((futures_module.wrap_future.__code__, tasks.shield.__code__))
 
 
 def _naming(original: Any) -> Any:

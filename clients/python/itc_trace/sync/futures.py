@@ -11,6 +11,7 @@ import concurrent.futures._base as base
 import concurrent.futures.thread as pools
 import weakref
 from collections.abc import Callable, Iterator
+from types import CodeType
 from typing import Any
 
 from .handed_on import called, handed_at, watched_place
@@ -25,6 +26,8 @@ from ..record.awaited import await_at_exit
 
 _DONE = {base.CANCELLED, base.CANCELLED_AND_NOTIFIED, base.FINISHED}
 _WAITING = (base.PENDING, base.RUNNING)
+FOR_THE_PROGRAM: set[CodeType] = set()
+"""Code of libraries that makes a future for the program to wait for."""
 
 
 def put(patches: Patches) -> None:

@@ -14,9 +14,8 @@ from ..model.frames import frame_at, is_internal
 from ..model.lines import CALLBACK, CALLED, RESULT, Token, state
 from ..record.noting import line_of_now, without_own_frame
 from . import chains
-from .asynchronous import FOR_THE_PROGRAM
 from .base import Patches, like, name_as
-from .futures import take_any
+from .futures import FOR_THE_PROGRAM, take_any
 from .handed_on import called, handed_at
 from .twisted_flows import (
     Call, Flow, Places, Taken, asked_by, come_after, flow_now, gives, guarded, here, is_asked_by_program,
