@@ -4,7 +4,7 @@ from __future__ import annotations
 
 import importlib
 from functools import lru_cache
-from typing import Any
+from typing import TYPE_CHECKING, Any
 
 
 def _found() -> Any:
@@ -14,7 +14,10 @@ def _found() -> Any:
         return importlib.import_module("hashlib").blake2b
 
 
-blake2b: Any = _found()
+if TYPE_CHECKING:
+    from hashlib import blake2b as blake2b
+else:
+    blake2b = _found()
 
 
 @lru_cache(1 << 14)
@@ -23,5 +26,5 @@ def number_of(text: str) -> int:
 
     Two of ten million texts have the same number once in 300000 times.
     """
-    digest: bytes = blake2b(text.encode("utf-8", "surrogatepass"), digest_size=8).digest()
+    digest = blake2b(text.encode("utf-8", "surrogatepass"), digest_size=8).digest()
     return int.from_bytes(digest, "little")

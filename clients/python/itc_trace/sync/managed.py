@@ -12,11 +12,11 @@ import os
 import threading
 from _thread import get_ident
 from collections.abc import Callable
-from hashlib import blake2b
 from types import FrameType
 from typing import Any, NamedTuple
 from weakref import WeakValueDictionary
 
+from ..model.digests import blake2b
 from ..model.conflicts import KEYS, LENGTH
 from ..model.frames import place_of
 from ..model.lines import BARRIER, EVENT, Line, Token, state

@@ -7,9 +7,9 @@ line.
 from __future__ import annotations
 
 from enum import Enum
-from hashlib import blake2b
 from typing import Any
 
+from ..model.digests import blake2b
 from ..model.conflicts import ADDITION, ITERATION, LENGTH, LOOKUP, READ, REMOVAL, REPLACEMENT, REWRITE, WRITE
 from ..record.following import pass_over
 from ..sync.managed import Ask, KeptData, touch_with
