@@ -12,8 +12,9 @@ from typing import Any
 from itc_trace.watch.keys import UNKNOWN, value_of
 
 SETUP = """
-import array, ast, asyncio, collections, dataclasses, datetime, decimal, enum, fractions, functools, ipaddress, itertools
-import logging, pathlib, queue, re, socket, string, sys, threading, types, typing, uuid, weakref, zoneinfo
+import array, ast, asyncio, collections, contextvars, dataclasses, datetime, decimal, enum, fractions, functools, http, ipaddress
+import itertools, logging, operator, os, pathlib, queue, re, signal, socket, statistics, string, sys, threading, time, types, typing
+import urllib.parse, uuid, weakref, zoneinfo, collections.abc
 from dataclasses import dataclass, field
 from datetime import timedelta, timezone
 class State(enum.Enum): A = 1; B = 2
@@ -21,6 +22,15 @@ class Level(enum.IntEnum): LOW = 1; HIGH = 2
 class Name(str, enum.Enum): A = "a"; B = "b"
 class Mode(enum.Flag): R = 1; W = 2
 class Shape(tuple, enum.Enum): A = (1, 2); B = (1, 3)
+class Kind(enum.StrEnum): A = "a"; B = "b"
+class Rights(enum.IntFlag): R = 1; W = 2
+class Maker:
+    @classmethod
+    def make(cls): pass
+class Below(Maker): pass
+T, U = typing.TypeVar("T"), typing.TypeVar("U")
+variable, variables = contextvars.ContextVar("a"), contextvars.ContextVar("a")
+getter, getters, fault, faults = operator.itemgetter(0), operator.itemgetter(0), ValueError(1), ValueError(1)
 class Plain: pass
 class Meta(type): pass
 class Made(metaclass=Meta): pass
@@ -177,6 +187,55 @@ thread | thread | threads
 threading.main_thread() | threading.main_thread() | thread
 logging.getLogger("a") | logging.getLogger("a") | logging.getLogger("b")
 letters | letters | rows
+http.HTTPStatus.OK | 200 | http.HTTPStatus.NOT_FOUND
+signal.SIGTERM | 15 | signal.SIGINT
+socket.AF_INET | int(socket.AF_INET) | socket.AF_INET6
+Kind.A | "a" | Kind.B
+Rights.R | 1 | Rights.W
+Rights.R \\| Rights.W | 3 | 1
+list[int] | list[int] | list[str]
+dict[str, int] | dict[str, int] | dict[int, str]
+(list[int], "x") | (list[int], "x") | (list[str], "x")
+list[Plain] | list[Plain] | list[Made]
+list[list[int]] | list[list[int]] | list[list[str]]
+int \\| None | None \\| int | int \\| str
+typing.Optional[int] | int \\| None | typing.Optional[str]
+typing.Union[int, str] | typing.Union[str, int] | typing.Union[int, bytes]
+typing.List[int] | typing.List[int] | typing.List[str]
+typing.Dict[str, Plain] | typing.Dict[str, Plain] | typing.Dict[str, Made]
+collections.abc.Callable[[int], str] | collections.abc.Callable[[int], str] | collections.abc.Callable[[str], str]
+typing.Tuple[int, ...] | typing.Tuple[int, ...] | typing.Tuple[str, ...]
+typing.Any | typing.Any | typing.NoReturn
+T | T | U
+list[T] | list[T] | list[U]
+variable | variable | variables
+getter | getter | getters
+fault | fault | faults
+ipaddress.ip_interface("10.0.0.1/24") | ipaddress.ip_interface("10.0.0.1/24") | ipaddress.ip_interface("10.0.0.2/24")
+ipaddress.ip_network("10.0.0.0/24") | ipaddress.ip_network("10.0.0.0/24") | ipaddress.ip_network("10.0.1.0/24")
+statistics.NormalDist(0, 1) | statistics.NormalDist(0.0, 1.0) | statistics.NormalDist(1, 1)
+collections.UserString("a") | "a" | collections.UserString("b")
+urllib.parse.urlsplit("a://b/c") | urllib.parse.urlsplit("a://b/c") | urllib.parse.urlsplit("a://b/d")
+time.struct_time(range(9)) | tuple(range(9)) | time.struct_time(range(1, 10))
+os.terminal_size((1, 2)) | (1, 2) | os.terminal_size((2, 1))
+sys.version_info | tuple(sys.version_info) | (1,)
+datetime.time(1, 2) | datetime.time(1, 2) | datetime.time(1, 3)
+timezone.utc | timezone(timedelta(0)) | far
+b"" | bytes() | b"a"
+0.0 | -0.0 | 0.5
+frozenset() | frozenset(()) | frozenset((1,))
+frozenset({frozenset({1})}) | frozenset({frozenset({1})}) | frozenset({frozenset({2})})
+((), ((),)) | ((), ((),)) | ((), ())
+(1, (2.0, "a")) | (1.0, (2, "a")) | (1, (2, "b"))
+Ellipsis | ... | NotImplemented
+type | type | object
+Server.handle | Server.handle | Server.close
+Maker.make | Maker.make | Below.make
+"".join | "".join | "a".join
+one.__str__ | one.__str__ | two.__str__
+pathlib.Path("a") | pathlib.PosixPath("a") | pathlib.Path("b")
+re.compile("a", re.I) | re.compile("a", re.I) | re.compile("a")
+fractions.Fraction(2, 1) | 2 | fractions.Fraction(1, 2)
 """
 NOT_KNOWN = """
 Equal()
@@ -191,6 +250,8 @@ EqualDay(2026, 1, 2)
 OfMeta
 datetime.datetime(2026, 1, 2, tzinfo=Zone())
 weakref.ref(one)
+list[Equal()]
+typing.Union[OfMeta, int]
 """
 
 
@@ -205,7 +266,7 @@ class Keys(unittest.TestCase):
 
     def test_equal_keys_are_one_key_and_others_are_not(self) -> None:
         rows = KNOWN.strip().splitlines()
-        self.assertGreater(len(rows), 70)
+        self.assertGreater(len(rows), 110)
         for row in rows:
             with self.subTest(row=row):
                 one, same, other = (evaluated(text, self.names) for text in row.replace("\\|", "\0").replace(" | ", "\1").replace("\0", "|").split("\1"))

@@ -9,13 +9,15 @@ from builtins import (
 )
 from collections.abc import Callable
 from enum import Enum
-from types import BuiltinMethodType, MethodType, ModuleType
+from types import (
+    BuiltinMethodType, GenericAlias, MethodType, MethodWrapperType, ModuleType, UnionType, WrapperDescriptorType,
+)
 from typing import Any
 
 from ..sync.earlier import FollowedRLock
 from ..sync.locks import TracedLock
 from . import passed_over
-from .decisions import class_with, ids_of, is_made, is_of, name_of, value_of_field, vars_of
+from .decisions import class_with, fields_of, ids_of, is_made, is_of, name_of, value_of_field, vars_of
 
 SIMPLE = ids_of((str, int, bytes, float, bool, type(None)))
 MOST_PARTS = 32
@@ -23,7 +25,10 @@ LIBRARY = {
     "datetime": ("date", "datetime", "time", "timedelta", "timezone"), "decimal": ("Decimal",),
     "fractions": ("Fraction",), "uuid": ("UUID",),
     "pathlib": ("PurePosixPath", "PureWindowsPath", "PosixPath", "WindowsPath"), "builtins": ("complex", "range"),
-    "ipaddress": ("IPv4Address", "IPv6Address", "IPv4Network", "IPv6Network"), "zoneinfo": ("ZoneInfo",),
+    "ipaddress": (
+        "IPv4Address", "IPv6Address", "IPv4Network", "IPv6Network", "IPv4Interface", "IPv6Interface",
+    ),
+    "zoneinfo": ("ZoneInfo",), "statistics": ("NormalDist",), "collections": ("UserString",),
     "re": ("Pattern",),
 }
 """Types of the library whose values are compared by code of the library alone."""
@@ -69,12 +74,15 @@ def value_of(key: Any) -> Any:
     kind = type(key)
     if id(kind) in SIMPLE or _is_of_library(key, kind):
         return key
-    if kind is MethodType or kind is BuiltinMethodType:
+    if kind is MethodType or kind is BuiltinMethodType or kind is MethodWrapperType:
         return _value_of_method(key)
     if _is_by_identity(kind):
         return OBJECT, id(key)
     if any([is_of(kind, one) for one in _STANDING]):
         return OBJECT, id(key._lock)
+    alias = _value_of_alias(key, kind)
+    if alias is not None:
+        return alias
     plain = _plain_value(key, kind)
     if plain is UNKNOWN:
         plain = _value_below_library(key, kind)
@@ -107,7 +115,40 @@ def _is_by_identity(kind: type) -> bool:
 
     So it is of functions, modules, classes, members of an `Enum`, and most objects.
     """
-    return all([any([class_with(kind, name) is one for one in kinds]) for name, kinds in BY_IDENTITY_OF.items()])
+    owners = {name: class_with(kind, name) for name in BY_IDENTITY_OF}
+    is_of_c = type(vars_of(owners["__hash__"])["__hash__"]) is WrapperDescriptorType
+    return all([
+        any([owners[name] is one for one in kinds]) or is_of_c and name == "__hash__"
+        for name, kinds in BY_IDENTITY_OF.items()
+    ])
+
+
+UNION, ALIAS = "union", "alias"
+_args_of: Any = vars(GenericAlias)["__args__"].__get__
+_origin_of: Any = vars(GenericAlias)["__origin__"].__get__
+_args_of_union: Any = vars(UnionType)["__args__"].__get__
+
+
+def _value_of_alias(key: Any, kind: type) -> Any:
+    """What a type with parameters is known by, as `list[int]`, `int | None` or `typing.Optional[int]`.
+
+    None, if it is none. The order of a union does not matter.
+    """
+    if is_of(kind, GenericAlias) and class_with(kind, "__eq__") is GenericAlias:
+        return _of_parts((ALIAS, value_of(_origin_of(key)), _parts(_args_of(key), tuple)))
+    if kind is UnionType:
+        return _of_parts((UNION, _parts(_args_of_union(key), frozenset)))
+    typing = sys.modules.get("typing", sys)
+    if kind is vars(typing).get("_UnionGenericAlias") or kind is vars(typing).get("_GenericAlias"):
+        fields = fields_of(key)
+        if fields["__origin__"] is vars(typing)["Union"]:
+            return _of_parts((UNION, _parts(fields["__args__"], frozenset)))
+        return _of_parts((f"typing {ALIAS}", value_of(fields["__origin__"]), _parts(fields["__args__"], tuple)))
+    return None
+
+
+def _of_parts(values: tuple[Any, ...]) -> Any:
+    return UNKNOWN if any([value is UNKNOWN for value in values]) else values
 
 
 def _plain_value(key: Any, kind: type) -> Any:
