@@ -1813,15 +1813,17 @@ def _run_all(modules: list[ModuleType], step: str, faults: dict[str, str], done:
     done.append(step)
 
 
-def races_of(chosen: list[Pair], lock: str, faults: dict[str, str]) -> tuple[set[str], Races]:
-    """The modules of which a race is told, if one thread does the first step of each, and then another one the second."""
+def races_of(
+    chosen: list[Pair], lock: str, faults: dict[str, str], steps: tuple[str, ...] = ("first", "second"),
+) -> tuple[set[str], Races]:
+    """The modules of which a race is told, if one thread does the first of these steps of each, and then another one the next."""
     hooks.put(False)
     modules = [_load(pair, f"pair_{number}", lock) for number, pair in enumerate(chosen)]
     done: list[str] = []
     with tracing(watched=None) as traced:
         hooks.put(True)
         threads = []
-        for step in ("first", "second"):
+        for step in steps:
             threads.append(threading.Thread(target=_run_all, args=(modules, step, faults, done)))
             threads[-1].start()
             while step not in done:  # Nothing that is traced tells so.

@@ -11,13 +11,14 @@ import decimal
 import functools
 import io
 import itertools
+import sys
 import threading
 import types
 import weakref
 from array import array
 from builtins import (
-    any, dict, enumerate, filter, frozenset, id, int, issubclass, iter, list, map, next, reversed, set, str, tuple,
-    type, zip,
+    any, dict, enumerate, filter, frozenset, id, int, issubclass, iter, list, map, next, property, reversed, set, str,
+    tuple, type, zip,
 )
 from collections import OrderedDict, deque
 from collections.abc import Iterable
@@ -69,6 +70,8 @@ _BY_ELEMENTS: tuple[type, ...] = (
 )
 BY_ELEMENTS = ids_of(_BY_ELEMENTS)
 """Views and iterators that look at the elements of a container, and not at the keys of a dictionary alone."""
+OF_VALUES = ids_of((type({}.values()), type(OrderedDict().values())))
+"""Views of the values of a dictionary alone."""
 VIEWS = ids_of((*_BY_KEYS, *_BY_ELEMENTS))
 """Types whose objects refer to the one container that they look at."""
 
@@ -100,9 +103,12 @@ FILES = ids_of((io.TextIOWrapper,))
 """Files of text, which go on by lines. Those of bytes have a lock of their own."""
 STEPPED = (VIEWS - _UNCHANGED) | _OF_VALUES | COMPOSED | FILES | ids_of((types.GeneratorType,))
 """Iterators: each step changes how far they have come."""
+RESUMED = STEPPED | ids_of((types.CoroutineType, types.AsyncGeneratorType))
+"""The same, and what goes on where somebody sends it a value, or awaits it."""
 
 _kept_mro_of: Any = vars(type)["__mro__"].__get__
 _kept_vars_of: Any = vars(type)["__dict__"].__get__
+_kept_module_of: Any = vars(type)["__module__"].__get__
 _NOTHING: Any = types.MappingProxyType({})
 
 
@@ -270,6 +276,38 @@ def field_inside(kind: type) -> str:
     return name
 
 
+def is_other_container(kind: type) -> bool:
+    """Whether it is a container of a library, whose elements are stored by code that has no hooks."""
+    if id(kind) in PLAIN or family_of(kind) is not None or field_inside(kind) or issubclass(kind, types.ModuleType):
+        return False
+    known, key = _own_methods.setdefault(id(kind), {}), OTHER_CONTAINER
+    if key not in known:
+        _remember(kind)
+        owner = class_with(kind, "__setitem__")
+        known[key] = owner is not None and not is_watched_class(owner) and not (
+            is_of_the_package(kind) or _top_of(owner) in _FOLLOWED
+        )
+    return known[key]
+
+
+OTHER_CONTAINER = "other container"
+_FOLLOWED = frozenset(("asyncio", "concurrent", "multiprocessing"))
+"""Modules of the library whose classes are followed by other means."""
+
+
+def is_of_library(kind: type) -> bool:
+    """Whether it is a class of the standard library."""
+    return _top_of(kind) in sys.stdlib_module_names
+
+
+def _top_of(kind: type) -> str:
+    return _module_of(kind).partition(".")[0]
+
+
+def _module_of(kind: type) -> str:
+    return str(_kept_module_of(kind))
+
+
 def fields_of(one: Any) -> Any:
     """The object's own attributes, by the descriptor that the language made for them."""
     kind = type(one)
@@ -376,7 +414,7 @@ def _decide(kind: type, name: str, kinds: str) -> int:
     owner = class_with(kind, name)
     if _finds_keys(kind, kinds, owner is None):
         return AS_KEY
-    if owner is not None and _is_plain_field(owner, name):
+    if owner is not None and (_is_plain_field(owner, name) or _is_field_of_library(owner, name)):
         return FIELD
     if _has(kind, "__getattribute__"):
         return OWN_FIELD
@@ -424,6 +462,23 @@ def is_stored_in_class(name: str) -> bool:
 def _may_be_replaced(owner: type, name: str, kinds: str) -> bool:
     """Whether a method or a property that is looked up may be another one by then: a module stores such a name."""
     return kinds == "r" and name in STORED_FIELDS and id(owner) not in BARE and is_watched_class(owner)
+
+
+_SET_IN_C = frozenset((("xml.etree.ElementTree", "Element"),))
+"""Classes of the library, by module and name, whose attributes in C may be set."""
+
+
+def _is_field_of_library(owner: type, name: str) -> bool:
+    """Whether it is a property of a class without hooks that may be set, and some module stores such a name.
+
+    Whoever sets it and whoever asks for it touch a field, as far as anybody can see from outside.
+    """
+    if name not in STORED_FIELDS or is_watched_class(owner) or _top_of(owner) in _FOLLOWED:
+        return False
+    value = _vars_of(owner)[name]
+    if type(value) is property:
+        return value.fset is not None
+    return type(value) is types.GetSetDescriptorType and (_module_of(owner), name_of(owner)) in _SET_IN_C
 
 
 def _decide_of_class(kind: type, owner: type, name: str, kinds: str) -> int:

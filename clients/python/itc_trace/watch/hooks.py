@@ -18,9 +18,11 @@ import sys
 import types
 from array import array
 from builtins import (
-    BaseException, any, enumerate, getattr, id, issubclass, iter, len, list, map, next, setattr, type, zip,
+    BaseException, any, enumerate, getattr, id, issubclass, iter, len, list, map, memoryview, next, set, setattr, type,
+    zip,
 )
 from _thread import get_ident
+from abc import ABCMeta
 from collections import defaultdict, deque
 from collections.abc import Callable, Iterable, Iterator
 from functools import partial
@@ -28,7 +30,9 @@ from operator import itemgetter
 from sys import _getframe, getrefcount
 from typing import Any, NamedTuple
 
-from ..model.conflicts import ADDITION, ITERATION, KEYS, LENGTH, REMOVAL, REPLACEMENT, REWRITE, STEP, WRITE
+from ..model.conflicts import (
+    ADDITION, INNER_READ, INNER_WRITE, ITERATION, KEYS, LENGTH, REMOVAL, REPLACEMENT, REWRITE, STEP, WRITE,
+)
 from ..sync.handed_on import HANDED, Calling, Place, called, is_of_container
 from ..model.lines import state
 from ..record.noting import begin_stretch, lost, touched_all
@@ -40,23 +44,22 @@ from .both_languages import (
 )
 from .decisions import (
     AS_KEY, BY_ELEMENTS, COMPOSED, FIELD, FILES, OF_CLASS, OF_METHOD, OF_MODULE, OF_SUPER, OF_TYPE, OWN_FIELD, PLAIN,
-    SKIP, STEPPED, VIEWS, WATCHED, class_with, decision, family_of, field_inside, fields_of, has_own_method, has_setter,
-    has_watched_method, ids_of,
-    is_bound_by_code, is_made, is_of, is_watched_class, mro_of, name_of, value_of_element, value_of_field, vars_of,
-    without_own,
+    RESUMED, SKIP, STEPPED, VIEWS, WATCHED, class_with, decision, family_of, field_inside, fields_of, forget_decisions,
+    has_own_method, has_setter, has_watched_method, ids_of, is_bound_by_code, is_made, is_of, is_of_library,
+    is_other_container, is_watched_class, mro_of, name_of, value_of_element, value_of_field, vars_of, without_own,
 )
 from .as_fields import FIELDS_OF, keep_fields_of, object_of
+from .comparing import compared_in
 from .given_away import hand_over, has_inside, toucher
 from .held_lines import PREFIX_OF_HELD
 from .helper import quick
 from .inside import OWN_STEPS, behind, fields_looked_at, inside_of, is_by_own_method, nested_in
-from .learned import STORED_FIELDS
+from .learned import OF_CLASSES, STORED_FIELDS
 from .keys import SIMPLE, UNKNOWN, tell_of_unknown, value_of
 from .kinds import DEEP as DEEP_SITES
 from .kinds import (
-    BUFFER, BY_FIELDS, COMPARED, DECLARED, DEPTHS_OF_METHODS, DEQUE, DICT, IN_PLACE_METHODS, KEYED, LIST, OF_FILE,
-    OF_GENERATOR,
-    ORDERED, SHOWN, TRUTH, VARIABLES, WHOLE, WRITTEN,
+    BUFFER, BY_FIELDS, CHANGING_METHODS, COMPARED, DECLARED, DEPTHS_OF_METHODS, DEQUE, DICT, IN_PLACE_METHODS, KEYED,
+    LIST, MAPS, METHODS, OF_FILE, OF_GENERATOR, ORDERED, SHOWN, TRUTH, VARIABLES, WHOLE, WITHOUT_ELEMENTS, WRITTEN,
 )
 from .late import ADDED, FOUND, LOOKING, NOTHING, READ_ONLY, again, by_kinds, note_shared, saw, share, shorten
 from .late import cell as cell_late
@@ -68,7 +71,7 @@ from .late import shape as shape_late
 from .matching import Matching, Touching
 from .passed_over import handed_on, keep_site
 from .places import ACCESSES, CASES, LOOPS, MADE_HERE, OF_BASE, SKIPPED, STATE_OF_PROCESS, Access
-from .rewrite import FINALIZER, OF_OBJECT, ON, PREFIX
+from .rewrite import FINALIZER, OF_OBJECT, ON, PREFIX, REGISTERING
 from .seen import NEVER
 from .templates import Path, field_paths
 from .things import (
@@ -190,10 +193,39 @@ def hook_before_named_attribute(one: Any, name: Any, site: int) -> Any:
             if access.words == OF_BASE:
                 _touch_past_class(one, name, access.kinds, site)
                 return one
+            if WRITTEN_FIELD in access.kinds:
+                _learn_stored(one, name, site)
             _touch_field(one, site, Access("named", access.kinds, name, "", access.module))
         except Exception as fault:
             lost(fault)
     return one
+
+
+def _learn_stored(one: Any, name: str, site: int) -> None:
+    """Something is stored in a class, or before what the class of an object has, by a name that no source tells.
+
+    From here on who looks it up is seen. Who has done so before was not, and that is named.
+    """
+    is_class = issubclass(type(one), type)
+    kind, is_stored = one if is_class else type(one), name in STORED_FIELDS
+    if is_stored and (not is_class or OF_CLASSES + name in STORED_FIELDS) or not is_watched_class(kind):
+        return
+    is_replaced = class_with(kind, name) is not None
+    if not is_class and not is_replaced:
+        return
+    if len(_LEARNED_LATE) >= MOST_LEARNED_LATE:
+        keep_site(f"attributes of {name_of(kind)} as they are stored", site)
+        return
+    _LEARNED_LATE.add(name)
+    STORED_FIELDS.update((name, OF_CLASSES + name) if is_class else (name,))
+    forget_decisions()
+    if is_replaced and not is_stored:
+        keep_site(f"{name} as it is stored", site)
+
+
+MOST_LEARNED_LATE = 256
+_LEARNED_LATE: set[str] = set()
+"""Names that were stored in classes by no source. Each has all decisions taken anew."""
 
 
 _of_super: Any = vars(super)["__self__"].__get__
@@ -209,6 +241,8 @@ def _touch_past_class(one: Any, name: str, kinds: str, site: int) -> None:
         _touch_field(one, site, Access("named", kinds, name, "", ""))
     elif "w" in kinds or name in fields_of(one) or value_of_field(one, name) is not None:
         owner = class_with(kind, name)
+        if owner is not None and WRITTEN_FIELD in kinds:
+            _learn_stored(one, name, site)
         if owner is None or not has_setter(vars_of(owner)[name]):
             _touch_by_name(one, name, kinds, site)
 
@@ -269,6 +303,8 @@ def _touch_module(one: Any, name: str, kinds: str, mark: Any, site: int) -> None
 
 def _touch_type(one: Any, name: str, kinds: str, mark: Any, site: int) -> None:
     """A class, or the one of its bases where it finds what it has not itself, or its metaclass."""
+    if _is_by_property_of_metaclass(one, name):
+        return
     holder = class_with(one, name) if kinds == READ_ONLY else one
     if holder is not one:
         _touch_classes_before(one, holder, name, mark, site)
@@ -281,6 +317,12 @@ def _touch_type(one: Any, name: str, kinds: str, mark: Any, site: int) -> None:
     saw(owner_of(holder, ""), mark, (field_late, mark, name_of(holder), name, kinds, site))
     if holder is not one and not is_watched_class(one):
         saw(owner_of(one, ""), mark, NOTHING)
+
+
+def _is_by_property_of_metaclass(one: Any, name: str) -> bool:
+    """Whether code of the metaclass stands before what the class itself has by this name. It has hooks there."""
+    meta = class_with(type(one), name)
+    return meta is not None and is_watched_class(meta) and has_setter(vars_of(meta)[name])
 
 
 def _touch_classes_before(one: Any, holder: Any, name: str, mark: Any, site: int) -> None:
@@ -336,11 +378,18 @@ hook_before_named_attribute_local = hook_before_named_attribute
 
 
 def hook_before_made_constructor(one: Any, site: int) -> Any:
-    """Before the constructor of an object is called by its name. One that `dataclass` made has no hooks itself."""
+    """Before the constructor of an object is called by its name.
+
+    One that `dataclass` made has no hooks itself, and one of a container makes it anew.
+    """
     try:
-        if is_made(type(one), CONSTRUCTOR):
+        kind = type(one)
+        family = family_of(kind)
+        if is_made(kind, CONSTRUCTOR):
             for name in fields_looked_at(one, DECLARED, False):
                 _touch_by_name(one, name, WRITTEN_FIELD, site)
+        elif family is not None and not has_own_method(kind, CONSTRUCTOR):
+            _touch_shape(owner_of(one, ACCESSES[site].text), REWRITE, site)
     except Exception as fault:
         lost(fault)
     return one
@@ -363,18 +412,44 @@ def hook_before_level(one: Any, site: int) -> Any:
 
 
 hook_before_level_local = hook_before_level
+_KEEPING = ids_of((types.SimpleNamespace, types.FunctionType))
+"""Types whose objects only keep what the program stores in them."""
 
 
 def hook_before_handed(value: Any, one: Any, site: int) -> Any:
-    """A method of a container that is handed to a method of an object. One of the library calls it without a word."""
+    """A method of a container that is handed to a method of an object, or stored in a field of it.
+
+    One of the library calls it without a word.
+    """
     try:
         kind = type(one)
-        is_kept = family_of(kind) is not None or issubclass(kind, types.ModuleType) or is_watched_class(kind)
+        is_kept = id(kind) in _KEEPING or family_of(kind) is not None or is_watched_class(kind)
+        is_kept = is_kept or issubclass(kind, types.ModuleType)
         if type(value) in HANDED and is_of_container(value) and not is_kept and not _is_class_of_program(one):
             keep_site(handed_on(ACCESSES[site].name), site)
     except Exception as fault:
         lost(fault)
     return value
+
+
+def hook_before_registering(one: Any, site: int) -> Any:
+    """Before a function or a class is given what it is asked for later, by code of the library: `register`.
+
+    Functions of `singledispatch` and abstract classes have such a method.
+    """
+    try:
+        kind = type(one)
+        if kind is types.FunctionType:
+            method = value_of_field(one, REGISTERING)
+            is_of_functools = type(method) is types.FunctionType and method.__globals__.get("__name__") == "functools"
+        else:
+            is_of_functools = kind is functools.singledispatchmethod
+        is_abstract = issubclass(kind, ABCMeta) and class_with(one, REGISTERING) is None
+        if is_of_functools or is_abstract:
+            keep_site(REGISTERING, site)
+    except Exception as fault:
+        lost(fault)
+    return one
 
 
 def _is_class_of_program(one: Any) -> bool:
@@ -486,7 +561,9 @@ def _touch_whole(one: Any, site: int, limit: int) -> None:
     if _is_by_own_method(kind, ACCESSES[site]):
         return
     if family is None:
-        if id(kind) not in STEPPED:
+        if is_other_container(kind) and (OWNERS.get(id(one)) is not None or getrefcount(one) > limit):
+            _touch_other(one, INNER_READ, site)
+        if id(kind) not in RESUMED:
             _touch_whole_inside(one, site)
         elif _goes_on_by(kind, ACCESSES[site]):
             is_reached = OWNERS.get(id(one)) is not None or getrefcount(one) > limit
@@ -516,6 +593,7 @@ def _touch_whole_inside(one: Any, site: int) -> None:
         for container in inside_of(one):
             _touch_by_view(container, kind, access.kinds, site)
     else:
+        _touch_maps(one, site)
         for container in inside_of(one):
             _touch_whole(container, site, ANYBODY)
     depth = _depth_of(access)
@@ -523,6 +601,48 @@ def _touch_whole_inside(one: Any, site: int) -> None:
         _touch_nested(one, site)
     if depth in BY_FIELDS:
         _touch_fields(one, site, False)
+
+
+# Containers that nobody knows
+
+
+def _touch_other(one: Any, kind: str, site: int) -> None:
+    """A container of a library, whose parts nobody looks at. If tasks change it in no order, that is named."""
+    saw(owner_of(one, ACCESSES[site].text), (site, kind), (shape_late, (site, kind), kind, site))
+
+
+def _kind_of_other(kind: type, access: Access) -> str | None:
+    """What a place does to such a container. None, if nothing is known of that."""
+    if access.what == "element":
+        ways = without_own(kind, access.kinds)
+        return None if not ways else INNER_READ if set(ways) <= LOOKING else INNER_WRITE
+    is_known = access.name in METHODS and is_of_library(kind) and class_with(kind, access.name) is not None
+    if not is_known or has_watched_method(kind, access.name):
+        return None
+    return INNER_WRITE if access.name in CHANGING_METHODS else INNER_READ
+
+
+def _touch_element_of_other(one: Any, access: Access, site: int, is_reached: bool) -> None:
+    """An element of such a container. A view of memory is named wherever it is, since it has what another one has."""
+    words = _kind_of_other(type(one), access)
+    if type(one) is memoryview:
+        keep_site(MEMORY, site)
+    elif words is None and access.what == "method":
+        _touch_field(one, site)
+    elif words is not None and is_reached:
+        _touch_other(one, words, site)
+
+
+MEMORY = memoryview.__name__
+
+
+def _touch_maps(one: Any, site: int) -> None:
+    """The list in which a chain has its dictionaries is looked at, if some source asks for that list."""
+    if MAPS in STORED_FIELDS and field_inside(type(one)) == MAPS:
+        maps = value_of_field(one, MAPS)
+        if type(maps) is list:
+            mark = site, MAPS
+            saw(owner_of(maps, f"{ACCESSES[site].text}.{MAPS}"), mark, (shape_late, mark, ITERATION, site))
 
 
 def _depth_of(access: Access) -> str:
@@ -729,8 +849,8 @@ def _kind_of(kind: str, family: int | None) -> str:
 
 
 def _is_passed_over(family: int, access: Access) -> bool:
-    """Whether it looks at no more of a buffer than that it is there."""
-    return family == BUFFER and (access.kinds == LENGTH or access.name in _BY_IDENTITY)
+    """Whether it looks at no more than that it is there, of what has no elements."""
+    return family in WITHOUT_ELEMENTS and (access.kinds == LENGTH or access.name in _BY_IDENTITY)
 
 
 _BY_IDENTITY = frozenset((SHOWN, WRITTEN, COMPARED, ORDERED))
@@ -800,8 +920,12 @@ def _stepping(one: Any, site: int, limit: int) -> Any:
     family = family_of(kind)
     if family is None:
         inside = next(inside_of(one), None)
-        if inside is None or has_watched_method(kind, "__iter__"):
+        is_own = has_watched_method(kind, "__iter__")
+        if not is_own and is_other_container(kind) and (OWNERS.get(id(one)) is not None or getrefcount(one) > limit):
+            _touch_other(one, INNER_READ, site)
+        if inside is None or is_own:
             return one
+        _touch_maps(one, site)
         if id(kind) in VIEWS:
             return _stepping_by_view(one, kind, inside, site)
         return _steps(one, owner_of(inside, ACCESSES[site].text), site, _kind_of(KEYS, family_of(type(inside))))
@@ -1015,6 +1139,8 @@ def _touch_keyed(one: Any, key: Any, site: int, limit: int, ways: str | None = N
     if family is None:
         if id(kind) in STEPPED and access.kinds == "c":
             _touch_iterator(one, site, True)
+        elif is_other_container(kind):
+            _touch_element_of_other(one, access, site, OWNERS.get(id(one)) is not None or getrefcount(one) > limit)
         elif not _touch_inside(one, key, access, site) and access.what == "method":
             _touch_field(one, site)
         return
@@ -1022,7 +1148,10 @@ def _touch_keyed(one: Any, key: Any, site: int, limit: int, ways: str | None = N
     if of_fields is not None:
         by_method = KEYED.get(access.name, {}).get(DICT, "")
         kinds = ways or (access.kinds if access.what == "element" else by_method)
-        _touch_by_name(of_fields, key, _KINDS_OF_WAYS.get(kinds, READ_ONLY), site)
+        kinds = _KINDS_OF_WAYS.get(kinds, READ_ONLY)
+        if WRITTEN_FIELD in kinds and type(key) is str:
+            _learn_stored(of_fields, key, site)
+        _touch_by_name(of_fields, key, kinds, site)
         return
     if access.what == "element":
         if access.words:
@@ -1038,12 +1167,31 @@ def _touch_keyed(one: Any, key: Any, site: int, limit: int, ways: str | None = N
     by_method = KEYED.get(access.name, {}).get(family, "")
     kinds = ways or (AT_ONCE if access.name == SETDEFAULT and access.what != "element" else by_method)
     is_repeated = ways is None or ways == access.kinds  # Else it depends on what has the container inside, too.
+    if kinds == "c" or access.name == REMOVING:
+        _touch_compared(one, key, site, access.name == COUNTING)
     if not kinds or family == BUFFER:
         _touch_shape(owner, WHOLE[family].get(access.name or "__contains__"), site)
     elif family == LIST or family == DEQUE:
         _touch_index(one, owner, key, kinds, family, site, is_repeated)
     else:
         _touch_key(one, owner, key, kinds, family, site, is_repeated)
+
+
+REMOVING, COUNTING = "remove", "count"
+
+
+def _touch_compared(one: Any, value: Any, site: int, is_counting: bool) -> None:
+    """The elements that a value is compared with, as it is looked for in a list."""
+    fields, access = fields_looked_at(value, COMPARED, True), ACCESSES[site]
+    for found in compared_in(one, value, fields, is_counting):
+        part, kind = found.one, name_of(type(found.one))
+        for name in fields:
+            mark = site, name
+            saw(owner_of(part, ""), mark, (field_late, mark, kind, name, READ_ONLY, site))
+        if not fields:
+            words = LENGTH if found.is_by_length else ITERATION
+            mark = site, words
+            saw(owner_of(part, f"{access.text}[..]"), mark, (shape_late, mark, words, site))
 
 
 def _touch_inside(one: Any, key: Any, access: Access, site: int) -> bool:
@@ -1057,6 +1205,7 @@ def _touch_inside(one: Any, key: Any, access: Access, site: int) -> bool:
         ways = "rw"
     if ways == "" or access.what == "method" and has_watched_method(kind, access.name):
         return False
+    _touch_maps(one, site)
     for inside in inside_of(one, ways or access.name):
         if id(kind) in BY_ELEMENTS:
             _touch_by_view(inside, kind, ITERATION, site)
@@ -1168,7 +1317,8 @@ def _touch_method(one: Any, site: int, limit: int) -> None:
     family = family_of(kind)
     access = ACCESSES[site]
     if family is None:
-        _touch_method_of_object(one, access, site)
+        is_reached = OWNERS.get(id(one)) is not None or getrefcount(one) > limit
+        _touch_method_of_object(one, access, site, is_reached)
         return
     if access.what == "method" and has_own_method(kind, access.name):
         return
@@ -1188,6 +1338,7 @@ def _touch_fields_by_method(one: Any, access: Access, site: int) -> None:
     """What a method of the dictionary of its fields does to an object. An update may name the fields."""
     if access.name == "update" and access.words is not None:
         for name in access.words:
+            _learn_stored(one, name, site)
             _touch_by_name(one, name, "w", site)
     else:
         _touch_all_fields(one, site, _kind_of_method(access.name, DICT))
@@ -1199,20 +1350,25 @@ def _kind_of_method(name: str, family: int) -> str | None:
     return REMOVAL if kind is None and KEYED.get(name, {}).get(family) else kind
 
 
-def _touch_method_of_object(one: Any, access: Access, site: int) -> None:
+def _touch_method_of_object(one: Any, access: Access, site: int, is_reached: bool = True) -> None:
     """A method of what is no container itself: it may have one inside, or the name may be that of a field."""
     kind = type(one)
-    if id(kind) in STEPPED and _is_step_method(kind, access.name):
+    if id(kind) in RESUMED and _is_step_method(kind, access.name):
         _touch_iterator(one, site, True)
         return
     is_own = access.what == "method" and has_watched_method(kind, access.name)
     inside = [] if is_own else [*inside_of(one, access.name)]
+    if inside:
+        _touch_maps(one, site)
     for container in inside:
         if id(kind) in VIEWS and kind is not types.MappingProxyType:
             _touch_by_view(container, kind, KEYS, site)
         else:
             _touch_method(container, site, ANYBODY)
-    if access.what == "method" and not inside:
+    words = _kind_of_other(kind, access) if not is_own and is_other_container(kind) else None
+    if words is not None and is_reached:
+        _touch_other(one, words, site)
+    elif words is None and access.what == "method" and not inside:
         _touch_field(one, site)
 
 
@@ -1405,7 +1561,13 @@ def _what_of_object(kind: type, access: Access, site: int) -> What:
     """A method or an element of what is no container itself."""
     if field_inside(kind):
         return LEFT_TO_PYTHON
-    if id(kind) in STEPPED and _is_step_method(kind, access.name):
+    if kind is memoryview and access.what == "element":
+        keep_site(MEMORY, site)
+        return NOT_TOUCHED
+    words = _kind_of_other(kind, access) if is_other_container(kind) else None
+    if words is not None:
+        return OF_SHAPE, (shape_late, site, words, site), access.text, ""
+    if id(kind) in RESUMED and _is_step_method(kind, access.name):
         return LEFT_TO_PYTHON if id(kind) in COMPOSED else (OF_SHAPE, (shape_late, site, WRITE, site), access.text, "")
     if id(kind) in STEPPED and access.kinds == "c":
         return OTHER, None, access.text, ""
@@ -1427,6 +1589,8 @@ def _what_of_steps(kind: type, family: int | None, access: Access, site: int) ->
         if id(kind) in COMPOSED:
             return OTHER, None, "", ""
         return OF_STEPS, (shape_late, site, WRITE, site), access.text, ""
+    if family is None and is_other_container(kind) and not has_watched_method(kind, "__iter__"):
+        return OTHER, None, access.text, ""
     if family is None or has_own_method(kind, "__iter__"):
         return NOT_TOUCHED
     return OF_STEPS, (shape_late, site, _kind_of(KEYS, family), site), access.text, ""
@@ -1440,14 +1604,17 @@ def _what_of_whole(kind: type, family: int | None, access: Access, site: int) ->
             return NOT_TOUCHED
         what = DEEP if _depth_of(access) in DEEP_SITES else OF_SHAPE
         return what, (shape_late, site, _kind_of(access.kinds, family), site), access.text, ""
-    if id(kind) in STEPPED:
+    if id(kind) in RESUMED:
         if not _goes_on_by(kind, access):
             return NOT_TOUCHED
         return LEFT_TO_PYTHON if field_inside(kind) else (OTHER, None, "", "")
     is_looked_into = is_watched_class(kind) or kind is types.SimpleNamespace or issubclass(
         kind, (tuple, frozenset, BaseException)
     )
-    return LEFT_TO_PYTHON if field_inside(kind) or _depth_of(access) and is_looked_into else NOT_TOUCHED
+    if field_inside(kind) or _depth_of(access) and is_looked_into:
+        return LEFT_TO_PYTHON
+    is_other = is_other_container(kind)
+    return (OF_SHAPE, (shape_late, site, INNER_READ, site), access.text, "") if is_other else NOT_TOUCHED
 
 
 def _what_of_method(family: int, access: Access, site: int) -> What:

@@ -20,12 +20,12 @@ from types import BuiltinMethodType, MemberDescriptorType, SimpleNamespace
 from typing import Any, NamedTuple
 
 from .decisions import (
-    COMPOSED, ROWS_OF_ITERATORS, STEPPED, VIEWS, class_with, family_of, field_inside, fields_of, has_watched_method,
-    ids_of, is_made, is_watched_class, mro_of, name_of, value_of_field, vars_of,
+    COMPOSED, OF_VALUES, ROWS_OF_ITERATORS, STEPPED, VIEWS, class_with, family_of, field_inside, fields_of, ids_of,
+    has_watched_method, is_made, is_watched_class, mro_of, name_of, value_of_field, vars_of,
 )
 from .kinds import (
-    COMPARED, CONTENT, DECLARED, HASHED, MAPS, OF_ELEMENTS, ORDERED, REFERRED, SHOWN, STATE, WRITER, WRITTEN,
-    WRITTEN_TO,
+    COMPARED, CONTENT, DECLARED, DICT, EXITS, HASHED, MAPS, OF_ELEMENTS, ORDERED, RANKED, REFERRED, SHOWN, STATE,
+    WRITER, WRITTEN, WRITTEN_TO,
 )
 from .learned import STORED_FIELDS
 
@@ -37,7 +37,7 @@ MOST_INSIDE = 16
 def inside_of(one: Any, way: str = "") -> Iterator[Any]:
     """The containers that have what such an object has."""
     name = field_inside(type(one))
-    if not name:
+    if not name or name == EXITS and not way:
         return
     if name == REFERRED:
         yield from (part for part in get_referents(one) if family_of(type(part)) is not None)
@@ -130,7 +130,7 @@ _TEXT_METHODS = ("__str__", "__format__")
 
 _OWN_METHODS = {
     SHOWN: ("__repr__",), WRITTEN: ("__repr__",), COMPARED: ("__eq__",), ORDERED: ("__eq__", "__lt__"),
-    HASHED: ("__hash__",),
+    HASHED: ("__hash__",), RANKED: ("__lt__", "__gt__"),
     STATE: _STATE_METHODS,
 }
 """The methods by which what is inside of something else is looked at.
@@ -160,20 +160,30 @@ def nested_in(one: Any, name: str, depth: str) -> Iterator[tuple[Any, str]]:
 
 def _parts_inside(one: Any, name: str, is_inside: bool, depth: str) -> Iterator[tuple[Any, str]]:
     kind = type(one)
-    if is_by_own_method(kind, depth) and is_inside or id(kind) in STEPPED:
+    if is_by_own_method(kind, depth) and is_inside or id(kind) in STEPPED or depth == RANKED and _has_ranked_keys(kind):
         return
     of_elements = name if name.endswith(_OF_ELEMENT) else name + _OF_ELEMENT
     if family_of(kind) is not None or issubclass(kind, (tuple, frozenset)):
-        yield from ((part, of_elements) for part in _elements_of(one))
+        yield from ((part, of_elements) for part in _looked_at(_elements_of(one), depth))
     elif field_inside(kind):
         for part in inside_of(one) if depth not in (SHOWN, WRITTEN) or id(kind) not in _BY_ADDRESS else ():
             if depth in OF_ELEMENTS:
-                yield from ((inner, of_elements) for inner in _elements_of(part))
+                yield from ((inner, of_elements) for inner in _looked_at(_elements_of(part), depth))
             else:
                 yield part, name
     elif depth not in OF_ELEMENTS:
         fields = fields_looked_at(one, depth, is_inside)
         yield from ((value_of_field(one, field), f"{name_of(kind)}.{field}") for field in fields)
+
+
+def _looked_at(elements: list[Any], depth: str) -> list[Any]:
+    """The elements that are looked at. One alone is compared with none."""
+    return [] if depth == RANKED and len(elements) < 2 else elements
+
+
+def _has_ranked_keys(kind: type) -> bool:
+    """Whether it is gone through by its keys, whose values are not compared: pairs with unequal keys are told apart."""
+    return family_of(kind) == DICT or id(kind) in VIEWS and id(kind) not in OF_VALUES
 
 
 _OF_ELEMENT = "[..]"
@@ -195,7 +205,7 @@ def _elements_of(one: Any) -> list[Any]:
 
 _MADE_FOR = {
     SHOWN: ("__repr__", "repr"), WRITTEN: ("__repr__", "repr"), COMPARED: ("__eq__", "compare"),
-    ORDERED: ("__lt__", "compare"), HASHED: ("__hash__", "compare"),
+    ORDERED: ("__lt__", "compare"), HASHED: ("__hash__", "compare"), RANKED: ("__lt__", "compare"),
 }
 """The method that `dataclass` makes for such a look, and what it asks each field for."""
 

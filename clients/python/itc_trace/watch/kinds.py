@@ -8,9 +8,11 @@ or function is one row here.
 from __future__ import annotations
 
 import _csv
+import contextlib
 import csv
 import io
 import os
+import random
 import tempfile
 import weakref
 from array import array
@@ -18,22 +20,26 @@ from collections import ChainMap, Counter, OrderedDict, UserDict, UserList, defa
 from collections.abc import Iterator
 from typing import NamedTuple
 
-from ..model.conflicts import ADDITION, ITERATION, KEYS, LENGTH, REMOVAL, REWRITE
+from ..model.conflicts import ADDITION, CHANGING, ITERATION, KEYS, LENGTH, LOOKUP, REMOVAL, REWRITE
 
 # Kinds of containers
 
-LIST, DICT, SET, DEQUE, BUFFER = range(5)
+LIST, DICT, SET, DEQUE, BUFFER, CHANCE = range(6)
 TYPES: dict[int, tuple[type, ...]] = {
     DICT: (dict, defaultdict, OrderedDict, Counter), LIST: (list, bytearray, array), SET: (set,), DEQUE: (deque,),
-    BUFFER: (io.StringIO, io.BytesIO),
+    BUFFER: (io.StringIO, io.BytesIO), CHANCE: (random.Random,),
 }
 """The types of each kind. A class below one of these is of the same kind.
 
 A buffer is a text or bytes in memory. What is written stands at its end mostly, and who reads moves its position. Rows
-come by a writer of `csv`.
+come by a writer of `csv`. A generator of chance has no elements. Whoever draws looks at it: draws may come in any
+order.
 """
+WITHOUT_ELEMENTS = frozenset((BUFFER, CHANCE))
+"""Kinds of which a test for truth, a text and a comparison look at nothing."""
 
 MAPS, VARIABLES, WRITER, REFERRED, WRITTEN_TO = "maps", "_data", "writer", "referred", "written to"
+EXITS = "_exit_callbacks"
 WITH_ONE_INSIDE: tuple[tuple[type, str], ...] = (
     (UserDict, "data"),
     (UserList, "data"),
@@ -41,6 +47,8 @@ WITH_ONE_INSIDE: tuple[tuple[type, str], ...] = (
     (weakref.WeakKeyDictionary, "data"),
     (weakref.WeakSet, "data"),
     (tempfile.SpooledTemporaryFile, "_file"),
+    (contextlib.ExitStack, EXITS),
+    (contextlib.AsyncExitStack, EXITS),
     (ChainMap, MAPS),
     (type(os.environ), VARIABLES),
     (csv.DictWriter, WRITER),
@@ -53,13 +61,14 @@ A writer of rows has what it writes to.
 
 # How deep something is looked at
 
-SHOWN, WRITTEN, COMPARED, ORDERED, HASHED = "shown", "written", "compared", "ordered", "hashed"
+SHOWN, WRITTEN, COMPARED, ORDERED, HASHED, RANKED = "shown", "written", "compared", "ordered", "hashed", "ranked"
 DECLARED, STATE, FIELDS, EACH, TRUTH, CONTENT = "declared", "state", "fields", "each", "truth", "content"
 """How deep a function looks at what it is given: at all that its text has, or its text for a programmer, at what is
-compared for being equal or greater, at all fields that its class declares, at all of its state, at its own fields, at
-each element, at whether each has elements, or at all that containers have inside, and at no field of an object."""
-OF_ELEMENTS = frozenset((EACH, TRUTH))
-BY_FIELDS = frozenset((SHOWN, WRITTEN, COMPARED, ORDERED, HASHED, DECLARED, STATE, FIELDS))
+compared for being equal or greater, at each element as far as another one is less, at all fields that its class
+declares, at all of its state, at its own fields, at each element, at whether each has elements, or at all that
+containers have inside, and at no field of an object."""
+OF_ELEMENTS = frozenset((EACH, TRUTH, RANKED))
+BY_FIELDS = frozenset((SHOWN, WRITTEN, COMPARED, ORDERED, HASHED, RANKED, DECLARED, STATE, FIELDS))
 DEEP = (BY_FIELDS - {FIELDS}) | OF_ELEMENTS | {CONTENT}
 
 # What methods do
@@ -93,8 +102,13 @@ _OF_BYTES = (
     "replace translate upper lower title capitalize swapcase center ljust rjust zfill expandtabs removeprefix "
     "removesuffix isalnum isalpha isascii isdigit islower isspace istitle isupper"
 )
+_DRAWING = (
+    "random getstate uniform randint randrange randbytes getrandbits choice choices sample shuffle triangular gauss "
+    "normalvariate betavariate expovariate gammavariate lognormvariate vonmisesvariate paretovariate weibullvariate"
+)
 _METHODS = (
-    Methods((LIST, DEQUE), f"{_OF_ALL} index count __iter__ __reversed__ __add__ __mul__ __rmul__", ITSELF, ITERATION),
+    Methods((LIST, DEQUE), f"{_OF_ALL} __iter__ __reversed__ __add__ __mul__ __rmul__", ITSELF, ITERATION),
+    Methods((LIST, DEQUE), "index count", KEY, "c"),
     Methods((LIST, DEQUE, DICT, SET), "__len__", ITSELF, LENGTH),
     Methods((LIST, DEQUE), "__iadd__", ITSELF, ADDITION),
     Methods((LIST, DEQUE), "__imul__", ITSELF, REWRITE),
@@ -141,6 +155,14 @@ _METHODS = (
     Methods((DEQUE,), "rotate reverse clear", ITSELF, REWRITE),
     Methods((DEQUE,), "__contains__", KEY, "c"),
 
+    # What is left to be done at the end of a block stands in a deque.
+    Methods((DEQUE,), "callback push enter_context", ITSELF, ADDITION, when=LATE),
+    Methods((DEQUE,), "push_async_callback push_async_exit enter_async_context", ITSELF, ADDITION, when=LATE),
+    Methods((DEQUE,), "close pop_all aclose", ITSELF, REWRITE),
+
+    Methods((CHANCE,), "seed setstate", ITSELF, REWRITE),
+    Methods((CHANCE,), _DRAWING, ITSELF, LOOKUP),
+
     Methods((BUFFER,), "write writelines writerow writerows writeheader", ITSELF, ADDITION),
     Methods((BUFFER,), "getvalue getbuffer", ITSELF, ITERATION),
     Methods((BUFFER,), "tell", ITSELF, LENGTH),
@@ -158,6 +180,8 @@ _METHODS = (
     Methods((), "format format_map substitute safe_substitute", GIVEN, ITERATION, SHOWN),
     Methods((), "write writelines writerow from_bytes unpack unpack_from iter_unpack", GIVEN, ITERATION),
     Methods((), "writerows", GIVEN, ITERATION, EACH),
+    Methods((), "dump", GIVEN, ITERATION, STATE),
+    Methods((), "encode iterencode", GIVEN, ITERATION, CONTENT),
     Methods((), "shuffle readinto readinto1 recv_into recvfrom_into pack_into", GIVEN, REWRITE),
 )
 
@@ -187,7 +211,8 @@ _FUNCTIONS = (
     Functions(BUILTINS, "str format print", ITERATION, SHOWN),
     Functions(BUILTINS, "repr ascii", ITERATION, WRITTEN),
     Functions(BUILTINS, "hash", ITERATION, HASHED),
-    Functions(BUILTINS, "list tuple set frozenset sorted sum min max any all next iter reversed", KEYS),
+    Functions(BUILTINS, "list tuple set frozenset sum any all next iter reversed anext", KEYS),
+    Functions(BUILTINS, "sorted min max", KEYS, RANKED),
     Functions(BUILTINS, "enumerate zip map filter", KEYS, argument=STEPS),
     Functions("array", "array", ITERATION),
     Functions("asyncio", "wait as_completed", ITERATION),
@@ -212,6 +237,7 @@ _FUNCTIONS = (
     Functions("heapq", "heappush heappop heapify heapreplace heappushpop", REWRITE),
     Functions("heapq", "nlargest nsmallest merge", ITERATION),
     Functions("html", ALL, ITERATION),
+    Functions("inspect", "getmembers getmembers_static", ITERATION, FIELDS),
     Functions("io", "BytesIO", ITERATION),
     Functions("itertools", ALL, ITERATION),
     Functions(
@@ -274,6 +300,12 @@ CONSUMING = {name: row.words for row, name in _methods(GIVEN)}
 """Methods that look at the containers which they are given, unless a class of the program has them."""
 DEPTHS_OF_METHODS = {name: row.inside for row, name in _methods(GIVEN) if row.inside}
 """How deep a method looks at what it is given."""
+_OF_CONTAINERS = (LIST, DICT, SET, DEQUE)
+CHANGING_METHODS = frozenset(
+    [name for kind in _OF_CONTAINERS for name, words in WHOLE[kind].items() if words in CHANGING]
+    + [name for name, ways in KEYED.items() if any(ways.get(kind) in ("w", "d", "rw") for kind in _OF_CONTAINERS)]
+)
+"""Methods by which some kind of container is changed. The others look at it."""
 LATE_METHODS = frozenset(name for touched in (ITSELF, KEY) for _, name in _methods(touched, LATE))
 """Those that change a container after all of their arguments are there."""
 IN_PLACE_METHODS: dict[str, tuple[str, ...]] = {
@@ -282,7 +314,7 @@ IN_PLACE_METHODS: dict[str, tuple[str, ...]] = {
 }
 """Those that an assignment as `+=` calls, by what it does to a container."""
 
-OF_GENERATOR = frozenset(("send", "throw", "close", "__next__"))
+OF_GENERATOR = frozenset("send throw close __next__ asend athrow aclose __anext__".split())
 """Methods by which a generator goes on."""
 OF_FILE = frozenset("read readline readlines __next__ seek truncate".split())
 """Methods by which a file of text goes on."""
@@ -291,9 +323,14 @@ METHODS = frozenset(name for names in WHOLE.values() for name in names) | frozen
 READERS = {name: row.words for row in _FUNCTIONS if row.module == BUILTINS for name in row.names.split()}
 """Functions of the language that look at what they are given."""
 SHOWING = {
-    name: row.inside for row in _FUNCTIONS if row.module == BUILTINS and row.inside for name in row.names.split()
+    name: row.inside for row in _FUNCTIONS if row.module == BUILTINS and row.inside not in ("", RANKED)
+    for name in row.names.split()
 }
 """Those that show what is inside, too, and how."""
+RANKING = frozenset(
+    name for row in _FUNCTIONS if row.module == BUILTINS and row.inside == RANKED for name in row.names.split()
+)
+"""Those that compare elements with each other, unless they are given a key."""
 STEPPERS = frozenset(
     name for row in _FUNCTIONS if row.module == BUILTINS and row.argument == STEPS for name in row.names.split()
 )

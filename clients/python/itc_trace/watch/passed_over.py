@@ -14,7 +14,7 @@ from ..sync import gevent_tasks, twisted_flows
 from .learned import Learned
 
 BUILT_IN = frozenset(("exec", "eval", "memoryview"))
-_FUNCTIONS = frozenset(("mmap.mmap", "weakref.proxy"))
+_FUNCTIONS = frozenset(("mmap.mmap", "weakref.proxy", "string.Formatter"))
 _CHANGING = frozenset(
     "append appendleft extend extendleft insert add discard remove pop popleft popitem update setdefault clear".split()
 )
@@ -68,11 +68,14 @@ found: dict[PassedOver, None] = {}
 
 
 def look_at_call(
-    node: ast.Call, learned: Learned, is_builtin: Callable[[str], bool], name: str | None, is_in_function: bool,
+    node: ast.Call, learned: Learned, is_builtin: Callable[[str], bool], name: str | None, stored_in: str | None,
 ) -> None:
-    """Keeps a call of what is not looked into. The name is the dotted one of what is imported."""
-    if is_in_function and isinstance(node.func, ast.Name) and node.func.id in _STORING and is_builtin(node.func.id):
-        _look_at_stored(node, learned)
+    """Keeps a call of what is not looked into. The names are the dotted ones of what is imported.
+
+    One is that of what an attribute is stored in by its name, within a function. Others have none.
+    """
+    if stored_in is not None and isinstance(node.func, ast.Name) and is_builtin(node.func.id):
+        _look_at_stored(node, learned, stored_in)
     called = node.func.attr if isinstance(node.func, ast.Attribute) else getattr(node.func, "id", "")
     if called in _STARTING:
         learned.passed_over.append((f"{TASKS_OF}{called}", node.lineno))
@@ -82,14 +85,14 @@ def look_at_call(
         learned.passed_over.append((str(name).rpartition(".")[2], node.lineno))
 
 
-_STORING = frozenset(("setattr", "delattr"))
+STORING = frozenset(("setattr", "delattr"))
 
 
-def _look_at_stored(node: ast.Call, learned: Learned) -> None:
+def _look_at_stored(node: ast.Call, learned: Learned, stored_in: str) -> None:
     """Keeps what is stored by its name, and is looked at by the interpreter itself."""
     name = node.args[1] if len(node.args) > 1 else None
     stored = name.value if isinstance(name, ast.Constant) else None
-    if type(stored) is str and (_is_special(stored) or stored == "__dict__"):
+    if type(stored) is str and (_is_special(stored) or stored == "__dict__" or stored_in == "builtins"):
         learned.passed_over.append((stored, node.lineno))
 
 
@@ -99,11 +102,25 @@ def look_at_handed(node: ast.Call, learned: Learned, is_foreign: Callable[[ast.e
     is_method = isinstance(node.func, ast.Attribute) and node.func.attr in _CALLERS
     is_wrapping = isinstance(node.func, ast.Name) and node.func.id in _WRAPPING and is_foreign(node.func)
     is_followed = name is not None and (name.startswith(_FOLLOWED) or name in _FOLLOWED_ALONE)
-    if is_followed or not (is_method or is_wrapping) and (name is None or not is_foreign(node.func)):
+    words = [*node.args, *(keyword.value for keyword in node.keywords if keyword.arg != "key")]
+    if is_followed:
+        words = [keyword.value for keyword in node.keywords if keyword.arg == INITIALIZER]
+    elif not (is_method or is_wrapping) and (name is None or not is_foreign(node.func)):
         return
-    for one in (*node.args, *(keyword.value for keyword in node.keywords if keyword.arg != "key")):
+    for one in words:
         if is_changing(one):
             learned.passed_over.append((handed_on(one.attr), one.lineno))  # type: ignore[attr-defined]
+
+
+INITIALIZER = "initializer"
+"""The word for what a pool begins each of its threads with, which nobody follows."""
+
+
+def look_at_kept(node: ast.Assign, learned: Learned, is_foreign: Callable[[ast.expr], bool]) -> None:
+    """Keeps a method that changes a container, and that a module of the library is given to call it."""
+    for one in node.targets:
+        if is_changing(node.value) and isinstance(one, ast.Attribute) and is_foreign(one.value):
+            learned.passed_over.append((handed_on(node.value.attr), node.lineno))  # type: ignore[attr-defined]
 
 
 def is_changing(node: ast.expr) -> bool:

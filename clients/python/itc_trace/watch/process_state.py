@@ -12,7 +12,8 @@ from typing import NamedTuple
 class Kept(NamedTuple):
     """A thing that a module of the library keeps, and the functions that change it, that look at it, or do either.
 
-    A function that changes it if it is given so many words looks at it if it is given fewer.
+    A function that changes it if it is given so many words looks at it if it is given fewer. A variable of the module
+    may have it, too.
     """
 
     name: str
@@ -20,6 +21,7 @@ class Kept(NamedTuple):
     changing: str
     looking: str = ""
     words: int = 0
+    variable: str = ""
 
 
 _KEPT = (
@@ -34,7 +36,27 @@ _KEPT = (
     Kept("the priority of the process", "os", "nice setpriority", "getpriority"),
     Kept("the processors of the process", "os", "sched_setaffinity", "sched_getaffinity"),
     Kept("sys.stdout", "contextlib", "redirect_stdout"),
+    Kept("sys.stdout", "sys", "", variable="stdout"),
     Kept("sys.stderr", "contextlib", "redirect_stderr"),
+    Kept("sys.stderr", "sys", "", variable="stderr"),
+    Kept("the folder of temporary files", "tempfile", "",
+         "gettempdir gettempdirb mkstemp mkdtemp mktemp TemporaryFile NamedTemporaryFile TemporaryDirectory "
+         "SpooledTemporaryFile", variable="tempdir"),
+    Kept("the first day of a week", "calendar", "setfirstweekday",
+         "firstweekday monthcalendar month calendar prmonth prcal week weekheader"),
+    Kept("the formats of archives", "shutil",
+         "register_archive_format unregister_archive_format register_unpack_format unregister_unpack_format",
+         "get_archive_formats get_unpack_formats make_archive unpack_archive"),
+    Kept("the texts of gettext", "gettext", "textdomain install", "gettext ngettext pgettext dgettext", words=1),
+    Kept("the texts of gettext", "gettext", "bindtextdomain", words=2),
+    Kept("the log of the system", "syslog", "openlog closelog setlogmask", "syslog"),
+    Kept("the flags of libraries in C", "sys", "setdlopenflags", "getdlopenflags"),
+    Kept("the browsers", "webbrowser", "register", "get open open_new open_new_tab"),
+    Kept("the character sets of mail", "email.charset", "add_charset add_alias add_codec"),
+    Kept("the places of time zones", "zoneinfo", "reset_tzpath"),
+    Kept("the name of the machine", "socket", "sethostname", "gethostname"),
+    Kept("the group of the process", "os", "setpgid setpgrp setsid", "getpgid getpgrp getsid"),
+    Kept("the policy of the scheduler", "os", "sched_setscheduler sched_setparam", "sched_getscheduler sched_getparam"),
     Kept("the filters of warnings", "warnings", "catch_warnings simplefilter filterwarnings resetwarnings",
          "warn warn_explicit"),
     Kept("the filters of warnings", "logging", "captureWarnings"),
@@ -97,6 +119,8 @@ CHANGED_STATE = "state of the library: "
 
 CHANGES: dict[str, Kept] = {f"{one.module}.{name}": one for one in _KEPT for name in one.changing.split()}
 LOOKS: dict[str, Kept] = {f"{one.module}.{name}": one for one in _KEPT for name in one.looking.split()}
+VARIABLES: dict[str, Kept] = {f"{one.module}.{one.variable}": one for one in _KEPT if one.variable}
+"""Variables of modules that have such a thing, by their dotted names."""
 _BY_LAST_NAME: dict[str, frozenset[str]] = {
     last: frozenset(one.name for name, one in CHANGES.items() if name.rpartition(".")[2] == last)
     for last in {name.rpartition(".")[2] for name in CHANGES}
@@ -116,3 +140,9 @@ def touched_by(name: str, words: int) -> tuple[str, str] | None:
         return changing.name, "w" if words >= changing.words else "r"
     looking = LOOKS.get(name)
     return None if looking is None else (looking.name, "r")
+
+
+def kept_in(name: str | None) -> str | None:
+    """The thing that a variable of this dotted name has. None, if it has none."""
+    kept = None if name is None else VARIABLES.get(name)
+    return None if kept is None else kept.name

@@ -16,8 +16,8 @@ from ..model.conflicts import ADDITION, ITERATION, KEYS, LENGTH, REWRITE
 from . import held_lines, on_stack, passed_over
 from .kinds import (
     CHANGED_ARGUMENT, COMPARED, CONSUMING, CONTENT, DEPTHS_OF_METHODS, EACH, IN_PLACE_FUNCTIONS, IN_PLACE_METHODS,
-    KEYED, LATE_METHODS, METHODS, ORDERED, READERS, SHOWING, SHOWN, STATE, STEPPERS, STEPPING, TRUTH, WRITTEN, depth_of,
-    known_function,
+    KEYED, LATE_METHODS, METHODS, ORDERED, RANKED, RANKING, READERS, SHOWING, SHOWN, STATE, STEPPERS, STEPPING, TRUTH,
+    WRITTEN, depth_of, known_function,
 )
 from .helper import quick
 from .patterns import Patterns
@@ -25,7 +25,7 @@ from .learned import Learned
 from .nodes import LOAD, as_statement, at, call_of, chosen, compiled, copied, name_at, new_node, place_of, with_ends
 from .places import DELETED, LOOPS, MADE_HERE, OF_BASE, OF_OTHERS, STATE_OF_PROCESS
 from .placing import placed
-from .process_state import CHANGED_STATE, LEVEL, LEVELS, PRINTED, touched_by
+from .process_state import CHANGED_STATE, LEVEL, LEVELS, PRINTED, kept_in, touched_by
 from .scopes import (
     CLASS, COMPREHENSION, DELEGATING, FIELDS, FUNCTION, LATE, MODULE, OF_EXCEPTIONS, SCOPED, Scope, Scopes,
     arguments_of,
@@ -35,7 +35,7 @@ from .undoing import mark as mark_undoing
 
 PREFIX = "_itc_"
 READ = "r"
-CONSTRUCTOR, FINALIZER = "__init__", "__del__"
+CONSTRUCTOR, FINALIZER, REGISTERING = "__init__", "__del__", "register"
 ON = PREFIX + "on"
 
 WHOLE_OBJECTS = frozenset(("vars", "__dict__", "asdict"))
@@ -417,7 +417,8 @@ class Rewriter:
     def _stores(self, targets: list[Any], node: Any, kinds: str = "w") -> list[ast.stmt]:
         """Statements that note that these variables were written."""
         bound = [one for target in targets for one in self._bindings(target)]
-        return [as_statement(self._variable(one, one.id, kinds), node) for one in bound]
+        states = [state for target in targets for state in self._states_of_target(target, node)]
+        return [as_statement(one, node) for one in (*[self._variable(one, one.id, kinds) for one in bound], *states)]
 
     def _stored(self, names: list[str], node: ast.AST) -> list[ast.stmt]:
         """The same for names that are bound by a definition, an import, a handler or a pattern."""
@@ -485,13 +486,15 @@ class Rewriter:
             node.value = values
             self._store_targets(node)
             return node
+        value: Any = node.value
+        passed_over.look_at_kept(node, self._learned, self._is_of_foreign_module)
         is_put = len(node.targets) == 1 and type(node.targets[0]) is ast.Subscript and not _is_slice(node.targets[0])
         places = self._places_of_put(node.value) if is_put else None
         node.value = self._made(node.value, node.targets[0])
         if not _is_hook(node.value):
             is_apart = any([type(target) in ROWS or _is_slice(target) for target in node.targets])
             node.value = self._whole(node.value, KEYS) if is_apart else self._child(node.value)
-        node.value = self._with_put(node.value, places)
+        node.value = self._kept_by(node.targets[0], value, self._with_put(node.value, places))
         self._store_targets(node)
         is_none = type(node.value) is ast.Constant and node.value.value is None
         if is_none or quick is None and self._may_replace(node):
@@ -515,6 +518,8 @@ class Rewriter:
         return self._child(value) if made is value else made
 
     def _simple_AnnAssign(self, node: ast.AnnAssign) -> ast.stmt:
+        if self._scope.kind in (CLASS, MODULE) and not self._has_texts_of_annotations:
+            node.annotation = self._child(node.annotation)
         if node.value is None:
             return node
         target = node.target
@@ -749,12 +754,19 @@ class Rewriter:
         is_iterator = _function_of(node) in ("enumerate", "zip", "iter", "reversed")
         return node.args[0] if is_iterator and node.args else node
 
+    def _asynchronous_iteration(self, node: Any) -> Any:
+        """What a loop of `async for` goes through. One that is a generator goes on there."""
+        return self._whole(node, KEYS)
+
     def _do_For(self, node: Any) -> list[ast.stmt]:
         target = node.target
         body: list[Any] = node.body
         is_calling = type(node) is ast.For and any(one.inside & LATE for one in body)
         asked = self._asked_if_begun(node, node.body[-1], node) if is_calling else None
-        node.iter = self._gone_through(node.iter, target) if type(node) is ast.For else self._guarded(node.iter)
+        if type(node) is ast.For:
+            node.iter = self._gone_through(node.iter, target)
+        else:
+            node.iter = self._guarded(node.iter, self._asynchronous_iteration)
         node.target = self._visit_target(target)
         made = self._bind_and_go_on(node, [target])
         if asked is not None:
@@ -882,6 +894,7 @@ class Rewriter:
         return at(node, ast.BoolOp(ast.Or(), [self._variable(node, name, kinds), node]))
 
     def _visit_Attribute(self, node: ast.Attribute) -> ast.expr:
+        thing = self._state_in(node) if type(node.ctx) is ast.Load else None
         if type(node.ctx) is not ast.Load or node.attr in passed_over.PAST_HOOKS:
             is_in_function, is_of_base = self._scope.kind is FUNCTION, _is_super(node.value)
             passed_over.look_at_attribute(node, self._learned, is_in_function, is_of_base, self._import_of(node.value))
@@ -893,11 +906,68 @@ class Rewriter:
         elif self._is_of_language(node.attr) or self._is_never_changed(node):
             node.value = self._child(node.value)
         else:
-            kinds = "r" if type(node.ctx) is ast.Load else "w"
-            words = DELETED if type(node.ctx) is ast.Del else None
-            site = self._site(node, "field", kinds, self._mangled(node.attr), words=words)
-            node.value = self._operand(node.value, "before_attribute", site)
-        return node
+            self._touch_attribute(node)
+        if thing is None or not self._learned.is_field(CHANGED_STATE + thing):
+            return node
+        return at(node, ast.BoolOp(ast.Or(), [self._state(node, thing, READ), node]))
+
+    def _touch_attribute(self, node: ast.Attribute) -> None:
+        kinds = "r" if type(node.ctx) is ast.Load else "w"
+        words = DELETED if type(node.ctx) is ast.Del else None
+        site = self._site(node, "field", kinds, self._mangled(node.attr), words=words)
+        node.value = self._operand(node.value, "before_attribute", site)
+        if kinds == READ:
+            self._note_registering(node)
+
+    def _note_registering(self, node: ast.Attribute) -> None:
+        """Has a look at what is given a function or a class to be asked for later, while there are several tasks."""
+        if node.attr == REGISTERING and self._scope.kind is FUNCTION:
+            node.value = self._hook(
+                "before_registering", node, node.value, self._site(node, "passed over", "", REGISTERING),
+            )
+
+    def _is_made_anew(self, owner: Any, first: Any) -> bool:
+        """Whether a class of the language makes a container anew, which is not the one that a constructor makes."""
+        is_new = type(first) is ast.Name and first.id == self._scope.made
+        return self._is_container_class(owner) and not is_new
+
+    def _kept_by(self, target: Any, value: Any, made: Any) -> Any:
+        """A method of a container that is stored in an object, which may be one of the library that calls it."""
+        if type(target) is not ast.Attribute or not passed_over.is_changing(value):
+            return made
+        owner: Any = target.value
+        if not self._is_variable(owner) or owner.id in OF_METHODS or self._is_foreign(owner):
+            return made
+        site = self._site(value, "handed", "", value.attr)
+        return self._hook("before_handed", value, made, name_at(value, owner.id), site)
+
+    def _states_of_target(self, target: Any, node: Any) -> Iterator[ast.expr]:
+        """Notes what the library keeps in variables of its modules which get a value here."""
+        for one in [target] if type(target) is ast.Attribute else ast.walk(target) if type(target) in ROWS else ():
+            thing = self._state_in(one) if type(one) is ast.Attribute and type(one.ctx) is not ast.Load else None
+            if thing is not None:
+                yield self._state(node, thing, "w")
+
+    def _state_in(self, node: ast.Attribute) -> str | None:
+        """What the library keeps in this attribute of one of its modules."""
+        module = self._import_of(node.value)
+        return None if module is None else kept_in(f"{module}.{node.attr}")
+
+    def _state_stored_by(self, node: ast.Call) -> str | None:
+        """The same of what `setattr` stores by a name that is written there."""
+        if len(node.args) < 2 or not self._is_storing(node.func):
+            return None
+        module, name = self._import_of(node.args[0]), node.args[1]
+        return None if module is None or type(name) is not ast.Constant else kept_in(f"{module}.{name.value}")
+
+    def _is_storing(self, function: Any) -> bool:
+        return type(function) is ast.Name and function.id in passed_over.STORING and self._is_builtin(function.id)
+
+    def _stored_in(self, node: ast.Call) -> str | None:
+        """The dotted name of what a function stores in by `setattr`. Nothing, if that is not imported."""
+        if self._scope.kind != FUNCTION or not node.args or not self._is_storing(node.func):
+            return None
+        return self._import_of(node.args[0]) or ""
 
     def _is_of_language(self, name: str) -> bool:
         """Whether the language has an attribute of this name, and no module stores one."""
@@ -967,7 +1037,7 @@ class Rewriter:
 
     def _call(self, node: ast.Call, name: str | None) -> ast.expr:
         self._name_handed(node)
-        passed_over.look_at_call(node, self._learned, self._is_builtin, name, self._scope.kind == FUNCTION)
+        passed_over.look_at_call(node, self._learned, self._is_builtin, name, self._stored_in(node))
         passed_over.look_at_handed(node, self._learned, self._is_foreign, name)
         made = None if name is None else self._call_imported(node, name)
         if made is not None:
@@ -999,6 +1069,13 @@ class Rewriter:
             site = self._site(node, "method", "", "get", "os.environ")
             node.args[0] = self._hook("before_environment", node.args[0], node.args[0], site)
             return node
+        if name == "operator.call" and node.args and type(node.args[0]) is not ast.Starred:
+            node.args = [self._handed(node.args[0]), *map(self._child, node.args[1:])]
+            node.keywords = [self._keyword(one) for one in node.keywords]
+            return node
+        if name == "inspect.getattr_static" and len(node.args) > 1:
+            self._attribute_by_name(node, READ)
+            return node
         known = known_function(name)
         if known is not None:
             return self._call_known(node, known, depth_of(name), name)
@@ -1009,6 +1086,9 @@ class Rewriter:
 
     def _state_of_call(self, node: ast.Call, name: str | None) -> tuple[str, str] | None:
         """What the library keeps for all threads, if the call changes it, or looks at what the program changes."""
+        stored = self._state_stored_by(node) if name is None else None
+        if stored is not None:
+            return stored, "w"
         is_print = name is None and self._is_print(node) and all(one.arg != "file" for one in node.keywords)
         words = len(node.args) + len(node.keywords)
         state = (PRINTED, READ) if is_print else None if name is None else touched_by(name, words)
@@ -1101,7 +1181,15 @@ class Rewriter:
                 node.args[place] = self._operand(one, "before_loop", self._site_of_whole(one, KEYS))
             else:
                 node.args[place] = self._child(one)
-        node.keywords = [self._keyword(one) for one in node.keywords]
+        node.keywords = [self._keyword_of_stepping(one) for one in node.keywords]
+        return node
+
+    def _keyword_of_stepping(self, node: ast.keyword) -> ast.keyword:
+        """What a step calls may be named as any word."""
+        if node.arg is None or type(node.value) is not ast.Attribute or node.value.attr not in METHODS:
+            return self._keyword(node)
+        node = copied(node)
+        node.value = self._handed(node.value)
         return node
 
     def _starred(self, node: ast.Starred, kinds: str, depth: str) -> ast.Starred:
@@ -1118,11 +1206,18 @@ class Rewriter:
         elif name in READERS or name in STEPPERS:
             is_called = name in ("map", "filter") or name == "iter" and len(node.args) > 1
             self._keep_loop_of_others(node, is_called)
+            is_ranked = name in RANKING and len(node.args) == 1 and not self._has_key(node)
             depth = TRUTH if name in ("any", "all") else EACH if name == "sum" and len(node.args) > 1 else ""
+            depth = RANKED if is_ranked else depth
             called = [self._handed(one) for one in node.args[:is_called]]
             node.args = [*called, *(self._looked_at(one, name, depth) for one in node.args[is_called:])]
         else:
             node.args = [self._child(one) for one in node.args]
+
+    @staticmethod
+    def _has_key(node: ast.Call) -> bool:
+        """Whether elements may be compared by something else than themselves."""
+        return any([one.arg in ("key", None) for one in node.keywords])
 
     def _keep_loop_of_others(self, node: ast.Call, is_called: bool) -> None:
         """Keeps where something in C may call the program at each step through a container, as `list(map(f, jobs))`."""
@@ -1162,6 +1257,8 @@ class Rewriter:
             return self._starred(node, KEYS, EACH)
         if type(node) is ast.Starred and name in SHOWING and type(node.value) in GIVEN:
             return self._starred(node, ITERATION, SHOWING[name])
+        if type(node) is ast.Starred and depth == RANKED and type(node.value) in GIVEN:
+            return self._starred(node, READERS[name], depth)
         if type(node) is ast.Starred or name in STEPPERS:
             return self._child(node)  # type: ignore[no-any-return]
         looked_at: ast.expr = self._whole(node, READERS[name], SHOWING.get(name, depth), METHODS_OF_READERS.get(name))
@@ -1181,8 +1278,14 @@ class Rewriter:
         elif name in OF_EXCEPTIONS:
             func.value = self._operand(owner, "before_attribute", self._site(node, "field", "rw", OF_EXCEPTIONS[name]))
             node.args = [self._child(one) for one in node.args]
+        elif name == CONSTRUCTOR and has_first and self._is_made_anew(owner, node.args[0]):
+            first: Any = node.args[0]
+            site = self._site(node, "field", "w", "", self._text(first))
+            made = self._operand(first, "before_made_constructor", site)
+            node.args = [made, *map(self._child, node.args[1:])]
         elif name == CONSTRUCTOR and not self._is_foreign(owner) and not self._is_super_of_any(owner):
-            func.value = self._operand(owner, "before_made_constructor", self._site(node, "field", "w"))
+            site = self._site(node, "field", "w", "", self._text(owner))
+            func.value = self._operand(owner, "before_made_constructor", site)
             node.args = [self._child(one) for one in node.args]
         elif name in OF_OBJECT and len(node.args) > WORDS_OF_OBJECT[name]:
             self._attribute_by_name(node, OF_OBJECT[name])
@@ -1369,6 +1472,7 @@ class Rewriter:
             return self._child(node)
         is_bytes = type(owner) is ast.Constant and type(owner.value) is bytes
         is_given = type(node) in GIVEN_OR_STARRED or is_bytes or name == "update" and self._is_of_fields(owner)
+        is_given = is_given or name in DEPTHS_OF_METHODS and type(node) in COMPARED_AS_A_WHOLE
         is_of_others = not is_given or self._is_foreign(node) or self._is_made(node)
         if is_of_others or self._import_of(owner) is not None:
             return self._child(node)
@@ -1488,6 +1592,7 @@ class Rewriter:
         if func.attr.startswith("__") or self._is_foreign(func.value):
             return self._part(copied(func), lambda plain: self._visit_Attribute(func))  # type: ignore[no-any-return]
         func.value = self._operand(func.value, "before_called_attribute", self._site(func, "field", "r", func.attr))
+        self._note_registering(func)
         return func
 
     def _call_keyed(self, node: ast.Call, func: ast.Attribute, site: int) -> None:
@@ -1678,7 +1783,9 @@ class Rewriter:
             yield at(one, ast.IfExp(self._is_on(one), noted, at(one, ast.Constant(True))))
 
     def _iterated(self, part: ast.comprehension) -> Any:
-        return self._guarded(part.iter) if part.is_async else self._gone_through(part.iter, part.target)
+        if part.is_async:
+            return self._guarded(part.iter, self._asynchronous_iteration)
+        return self._gone_through(part.iter, part.target)
 
     def _iteration(self, node: Any) -> Any:
         """What a loop goes through: each step is a look at it."""

@@ -7,9 +7,9 @@ import ast
 from collections.abc import Callable
 from typing import Any
 
-from .kinds import METHODS
+from .kinds import MAPS, METHODS
 from .learned import OF_CLASSES, Learned
-from .process_state import CHANGED_STATE, changed_by
+from .process_state import CHANGED_STATE, changed_by, kept_in
 
 FUNCTIONS = (ast.FunctionDef, ast.AsyncFunctionDef, ast.Lambda)
 COMPREHENSIONS = (ast.ListComp, ast.SetComp, ast.DictComp, ast.GeneratorExp)
@@ -28,6 +28,10 @@ OF_EXCEPTIONS = {"add_note": "__notes__", "with_traceback": "__traceback__"}
 """Methods of an exception, and the field that each changes."""
 STORING = frozenset(("setattr", "delattr"))
 """Functions that store a field by its name."""
+STORING_METHODS = frozenset(("__setattr__", "__delattr__"))
+"""Methods of `type` that do the same."""
+BY_NAME = frozenset(("import_module", "__import__"))
+"""Functions that give a module by its name."""
 SCOPED_KINDS = (*COMPREHENSIONS, ast.Lambda, ast.Slice)
 LATE_KINDS = (ast.Call, ast.Await, ast.Yield, ast.YieldFrom)
 WITHOUT_NODES = frozenset(
@@ -160,6 +164,9 @@ class Scopes:
         self._outer: list[tuple[Scope, str]] = []
         self._called: set[str] = set()
         self._called_by: dict[str, set[str]] = {}
+        self._has_modules_by_name = False
+        self._stored_in_any: set[str] = set()
+        """The attributes that are stored in what may be a module, if it was found by its name."""
         self._walk_all(tree.body)
         self._end()
 
@@ -167,6 +174,9 @@ class Scopes:
         starting = _starting_functions(self._called_by)
         for scope in self.all:
             _count_later(scope, starting)
+        if self._has_modules_by_name:
+            for name in self._stored_in_any:
+                self.learned.add_elsewhere(name)
         for scope, name in self._outer:
             scope.bind(name, True)
         for scope in self.all:
@@ -314,11 +324,35 @@ class Scopes:
             whole: Any = node.value
             while type(whole) is ast.Attribute:
                 whole = whole.value
+            self._note_stored_in_module(node, whole)
             if type(whole) is ast.Name and whole.id in self._scope.owner(whole.id).imported:
                 self.learned.add_elsewhere(node.attr)
         elif node.attr == "modules" and isinstance(node.value, ast.Name) and node.value.id == "sys":
-            self.module.is_open = True
+            self.module.is_open = self._has_modules_by_name = True
+        elif node.attr == MAPS:
+            self.learned.add_field(MAPS)  # The list of a chain may be changed.
         return self._walk(node.value)
+
+    def _note_stored_in_module(self, node: ast.Attribute, whole: ast.expr) -> None:
+        """The attribute may be a variable of another module, or have what the library keeps once."""
+        self._note_state(node.value, node.attr)
+        if not (isinstance(whole, ast.Name) and whole.id in ("self", "cls")):
+            self._stored_in_any.add(node.attr)
+
+    def _note_state(self, owner: ast.expr, name: str) -> None:
+        """What the library keeps in a variable of this name, which is stored here."""
+        imported = self._scope.owner(owner.id).imported.get(owner.id) if isinstance(owner, ast.Name) else None
+        thing = None if imported is None else kept_in(f"{imported}.{name}")
+        if thing is not None:
+            self.learned.add_field(CHANGED_STATE + thing)
+
+    def _visit_Subscript(self, node: ast.Subscript) -> int:
+        """A field that is stored by way of the dictionary that has it, with its name written there."""
+        owner = _owner_of_fields(node.value)
+        if type(node.ctx) is not ast.Load and owner is not None and isinstance(node.slice, ast.Constant):
+            if type(node.slice.value) is str:
+                self._note_stored(node.slice.value, owner)
+        return self._walk_inside(node)
 
     def _note_stored(self, name: str, owner: ast.expr) -> None:
         """A name that is stored in an object, and in what may be a class by how it is written."""
@@ -337,16 +371,19 @@ class Scopes:
         words = node.args[:2]
         if len(words) > 1 and isinstance(words[1], ast.Constant) and type(words[1].value) is str:
             self._note_stored(words[1].value, words[0])
+            self._note_state(words[0], words[1].value)
 
     def _visit_Call(self, node: ast.Call) -> int:
         function = node.func
         if isinstance(function, ast.Attribute) and function.attr in OF_EXCEPTIONS:
             self.learned.add_field(OF_EXCEPTIONS[function.attr])
-        if isinstance(function, ast.Name) and function.id in STORING:
+        name = function.id if isinstance(function, ast.Name) else getattr(function, "attr", "")
+        self._has_modules_by_name = self._has_modules_by_name or name in BY_NAME
+        if isinstance(function, ast.Name) and name in STORING or _is_method_of_type(function):
             self._note_stored_by_name(node)
         if isinstance(function, (ast.Name, ast.Attribute)):
             self._note_call(function)
-            for thing in changed_by(function.id if isinstance(function, ast.Name) else function.attr):
+            for thing in changed_by(name):
                 self.learned.add_field(CHANGED_STATE + thing)
         if isinstance(function, ast.Name) and function.id == "globals":
             self.module.is_open = True
@@ -510,6 +547,21 @@ def mark(node: Any) -> int:
                 inside |= mark(child)
     node.inside = inside = inside | SCOPED * isinstance(node, SCOPED_KINDS) | LATE * isinstance(node, LATE_KINDS)
     return inside
+
+
+def _is_method_of_type(function: ast.expr) -> bool:
+    """Whether it is a method by which the language stores an attribute of a class, past those of its metaclass."""
+    is_method = isinstance(function, ast.Attribute) and function.attr in STORING_METHODS
+    owner = function.value if isinstance(function, ast.Attribute) else None
+    return is_method and isinstance(owner, ast.Name) and owner.id == "type"
+
+
+def _owner_of_fields(node: ast.expr) -> ast.expr | None:
+    """The object whose fields an expression gives as a dictionary."""
+    if isinstance(node, ast.Attribute):
+        return node.value if node.attr == "__dict__" else None
+    is_vars = isinstance(node, ast.Call) and isinstance(node.func, ast.Name) and node.func.id == "vars"
+    return node.args[0] if is_vars and len(node.args) == 1 else None  # type: ignore[attr-defined]
 
 
 def _mark_annotations(node: Any, arguments: list[ast.arg]) -> int:

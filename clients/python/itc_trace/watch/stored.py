@@ -15,9 +15,9 @@ from itertools import islice
 from typing import NamedTuple
 
 from .kept import Kept
-from .kinds import METHODS
+from .kinds import MAPS, METHODS
 from .learned import STORED_ELSEWHERE, STORED_FIELDS
-from .process_state import CHANGED_STATE, NAMES_OF_CHANGES, changed_by
+from .process_state import CHANGED_STATE, NAMES_OF_CHANGES, VARIABLES, changed_by
 
 MOST_FILES = MOST_FOLDERS = 400
 MOST_BYTES = 1 << 20
@@ -34,6 +34,8 @@ _DELEGATING = re.compile(rb"def[ \t]+(__getattr__|__getattribute__)\b")
 """Methods that may give what another object has."""
 _NAME_BEFORE = re.compile(rb"([^\W\d]\w*)[ \t]*\Z")
 LONGEST_NAME = 80
+_MODULES_BY_NAME = (b"import_module(", b"__import__(", b"sys.modules")
+"""What stands in each source that finds modules by their names, and may store into them."""
 SELF = b"self"
 _SETTING = b"attr("
 """What stands in each source that sets or deletes an attribute by its name."""
@@ -134,6 +136,8 @@ def _elsewhere(text: bytes, stored: Iterable[re.Match[bytes]]) -> set[str]:
     looked_at = stored if SELF in imported else (one for one in stored if not _is_of_self(text, one.start()))
     pairs = [(_name_before(text, found.start()), found[1]) for found in looked_at]
     pairs += [*(_BY_NAME.findall(text) if _SETTING in text else ()), *_DELETED.findall(text)]
+    if any(one in text for one in _MODULES_BY_NAME):
+        return {_text(attribute) for _, attribute in pairs}
     return {_text(attribute) for name, attribute in pairs if name in imported}
 
 
@@ -167,6 +171,7 @@ def _text(name: bytes) -> str:
 
 _KNOWN_CHANGES = frozenset(name.encode() for name in NAMES_OF_CHANGES)
 _CHANGES = tuple(_KNOWN_CHANGES)
+_MAPS = MAPS.encode()
 _LONGEST_CHANGE = max(map(len, _CHANGES)) + 1
 """With the letter before it, if there is one."""
 _ENDS = frozenset(name[-2:] for name in _CHANGES)
@@ -186,13 +191,30 @@ def _changed_state(text: bytes) -> set[bytes]:
     return {(CHANGED_STATE + thing).encode() for name in names & _KNOWN_CHANGES for thing in changed_by(_text(name))}
 
 
+_VARIABLES: dict[tuple[bytes | None, bytes], str] = {
+    (module.encode(), last.encode()): kept.name
+    for (module, _, last), kept in [(name.rpartition("."), kept) for name, kept in VARIABLES.items()]
+}
+_NAMES_OF_VARIABLES = frozenset(name for _, name in _VARIABLES)
+
+
+def _changed_variables(text: bytes, stored: Iterable[re.Match[bytes]]) -> set[bytes]:
+    """What the library keeps in variables of its modules, and a source stores there."""
+    stored_there = [one for one in stored if one[1] in _NAMES_OF_VARIABLES]
+    names: list[tuple[bytes | None, bytes]] = [(_name_before(text, one.start()), one[1]) for one in stored_there]
+    names += _BY_NAME.findall(text) if _SETTING in text else []
+    return {(CHANGED_STATE + _VARIABLES[name]).encode() for name in names if name in _VARIABLES}
+
+
 def kept_by(text: bytes) -> set[str]:
     """The names of fields that may have methods of containers by this source."""
     return _kept(text, _FIELD.finditer(text))
 
 
 def _kept(text: bytes, stored: Iterable[re.Match[bytes]]) -> set[str]:
-    found = {*(one[1] for one in stored), *_DELEGATING.findall(text), *_changed_state(text)}
+    fields = [*stored]
+    found = {*(one[1] for one in fields), *_DELEGATING.findall(text), *_changed_state(text)}
+    found |= _changed_variables(text, fields) | ({_MAPS} if b"." + _MAPS in text else set())
     for given in _GIVEN.finditer(text):
         *methods, last = given[1].split(b".")[1:] or [b""]
         if last in _METHODS and given[2] is None or not _METHODS.isdisjoint(methods):
