@@ -1,0 +1,558 @@
+"""Small programs whose race is hidden in one order of their two tasks, by a hand-over that the program did not mean.
+
+`first` changes something and hands something over, and `second` takes that and looks. If `second` comes first, nothing
+orders the two. So a tool that does not live by luck tells of the pair in both orders: as a race, as a possible one, or
+among those that are counted. `python3 -m tests.by_luck` runs all in both orders, and prints which pairs it does not tell.
+"""
+
+from __future__ import annotations
+
+import json
+import sys
+from typing import NamedTuple
+
+from itc_trace import Races
+from itc_trace.analyse.races import Race
+
+from .constructs import Construct, place_in
+from .pairs import Pair, races_of
+
+BEGIN = """\
+import contextlib, functools, queue, threading, time
+class Shop: pass
+shop = Shop()
+shop.left = 5
+"""
+CHANGE, LOOK = "shop.left -= 1  # race", "shop.left  # race"
+
+LOCKS = """
+## a lock
+guard = threading.Lock()
+def first():
+    CHANGE
+    with guard: pass
+def second():
+    with guard: pass
+    LOOK
+## a lock that is acquired again
+guard = threading.RLock()
+def first():
+    CHANGE
+    with guard, guard: pass
+def second():
+    with guard, guard: pass
+    LOOK
+## the lock of a condition
+ready = threading.Condition()
+def first():
+    CHANGE
+    with ready: pass
+def second():
+    with ready: pass
+    LOOK
+## a notify that nobody waits for
+ready = threading.Condition()
+def first():
+    CHANGE
+    with ready: ready.notify_all()
+def second():
+    with ready: ready.wait(0.001)
+    LOOK
+## one of two permits
+permits = threading.Semaphore(2)
+def first():
+    CHANGE
+    with permits: pass
+    with permits: pass
+def second():
+    with permits: pass
+    LOOK
+## the only permit
+permit = threading.BoundedSemaphore(1)
+def first():
+    CHANGE
+    with permit: pass
+def second():
+    with permit: pass
+    LOOK
+## a lock of the module in C
+import _thread
+guard = _thread.allocate_lock()
+def first():
+    CHANGE
+    guard.acquire()
+    guard.release()
+def second():
+    guard.acquire()
+    guard.release()
+    LOOK
+## a lock of processes
+import multiprocessing
+guard = multiprocessing.Lock()
+def first():
+    CHANGE
+    with guard: pass
+def second():
+    with guard: pass
+    LOOK
+## a lock of processes that is acquired again
+import multiprocessing
+guard = multiprocessing.RLock()
+def first():
+    CHANGE
+    with guard: pass
+def second():
+    with guard: pass
+    LOOK
+## a lock within a method
+class Log:
+    def __init__(self): self.guard, self.lines = threading.Lock(), []
+    def tell(self, line):
+        with self.guard: self.lines.append(line)
+log = Log()
+def first():
+    CHANGE
+    log.tell("first")
+def second():
+    log.tell("second")
+    LOOK
+## a list under a lock in place of a queue
+waiting, guard = [], threading.Lock()
+def first():
+    CHANGE
+    with guard: waiting.append(1)
+def second():
+    with guard:
+        if waiting: waiting.pop()
+    LOOK
+## a lock that is waited for only so long
+guard = threading.Lock()
+def first():
+    CHANGE
+    if guard.acquire(timeout=1): guard.release()
+def second():
+    if guard.acquire(timeout=1): guard.release()
+    LOOK
+## a lock that is tried
+guard = threading.Lock()
+def first():
+    CHANGE
+    if guard.acquire(False): guard.release()
+def second():
+    if guard.acquire(blocking=False): guard.release()
+    LOOK
+## a lock on a stack of contexts
+guard = threading.Lock()
+def enter():
+    with contextlib.ExitStack() as stack: stack.enter_context(guard)
+def first():
+    CHANGE
+    enter()
+def second():
+    enter()
+    LOOK
+## a lock that a decorator holds
+guard = threading.Lock()
+def alone(function):
+    @functools.wraps(function)
+    def run():
+        with guard: return function()
+    return run
+@alone
+def tick(): return 1
+def first():
+    CHANGE
+    tick()
+def second():
+    tick()
+    LOOK
+## a lock for each key
+locks = {"a": threading.Lock()}
+def first():
+    CHANGE
+    with locks["a"]: pass
+def second():
+    with locks["a"]: pass
+    LOOK
+## a lock that a generator holds
+guard = threading.Lock()
+@contextlib.contextmanager
+def held():
+    with guard: yield
+def first():
+    CHANGE
+    with held(): pass
+def second():
+    with held(): pass
+    LOOK
+## a lock of readers and writers
+ready, readers = threading.Condition(), [0]
+@contextlib.contextmanager
+def reading():
+    with ready: readers[0] += 1
+    yield
+    with ready:
+        readers[0] -= 1
+        ready.notify_all()
+def first():
+    CHANGE
+    with reading(): pass
+def second():
+    with reading(): pass
+    LOOK
+## a class with a lock as a context
+class Guard:
+    def __init__(self): self.inner = threading.Lock()
+    def __enter__(self): self.inner.acquire()
+    def __exit__(self, *fault): self.inner.release()
+guard = Guard()
+def first():
+    CHANGE
+    with guard: pass
+def second():
+    with guard: pass
+    LOOK
+## a lock beside another one that the change is under
+guard, log = threading.Lock(), threading.Lock()
+def first():
+    with guard:
+        CHANGE
+    with log: pass
+def second():
+    with log: pass
+    LOOK
+## a lock beside another one that the look is under
+guard, log = threading.Lock(), threading.Lock()
+def first():
+    CHANGE
+    with log: pass
+def second():
+    with log: pass
+    with guard:
+        LOOK
+## two locks, and a third thread between them
+one, other = threading.Lock(), threading.Lock()
+def between():
+    with one: pass
+    with other: pass
+def first():
+    CHANGE
+    with one: pass
+def second():
+    helper = threading.Thread(target=between)
+    helper.start()
+    helper.join()
+    with other: pass
+    LOOK
+## a lock around what starts and joins another thread
+guard = threading.Lock()
+def first():
+    helper = threading.Thread(target=change)
+    helper.start()
+    helper.join()
+    with guard: pass
+def change():
+    CHANGE
+def second():
+    with guard: pass
+    LOOK
+## a counter under a lock
+guard, numbers = threading.Lock(), [0]
+def next_number():
+    with guard:
+        numbers[0] += 1
+        return numbers[0]
+def first():
+    CHANGE
+    next_number()
+def second():
+    next_number()
+    LOOK
+## a lock in the order of a module of the library
+import sched
+plan = sched.scheduler()
+def first():
+    CHANGE
+    plan.empty()
+def second():
+    plan.empty()
+    LOOK
+## a lock of a jar of cookies
+import http.cookiejar
+jar = http.cookiejar.CookieJar()
+def first():
+    CHANGE
+    jar.clear_expired_cookies()
+def second():
+    jar.clear_expired_cookies()
+    LOOK
+## a lock of how times are read
+def first():
+    CHANGE
+    time.strptime("1", "%d")
+def second():
+    time.strptime("1", "%d")
+    LOOK
+## a thread that is asked for whether it is at work
+import sys
+def change():
+    CHANGE
+worker = threading.Thread(target=change)
+def first():
+    worker.start()
+    while worker.ident in sys._current_frames(): time.sleep(0.001)
+def second():
+    told = "at work" if worker.is_alive() else "over"
+    LOOK
+## a field, an element and a length at once
+guard, table, rows = threading.Lock(), {"a": 1}, []
+def first():
+    table["a"] = 2  # race
+    rows.append(1)  # race
+    CHANGE
+    with guard: pass
+def second():
+    with guard: pass
+    table["a"]  # race
+    len(rows)  # race
+    LOOK
+## a permit of a pool of permits that grows
+permits = threading.Semaphore(1)
+def first():
+    CHANGE
+    permits.release()
+def second():
+    permits.acquire()
+    permits.acquire(timeout=0.001)
+    LOOK
+"""
+"""Each pair is told in both orders."""
+
+POLLS = """
+## an event that is asked for
+done = threading.Event()
+def first():
+    CHANGE
+    done.set()
+def second():
+    told = "done" if done.is_set() else "at work"
+    LOOK
+## an event that is waited for only so long
+done = threading.Event()
+def first():
+    CHANGE
+    done.set()
+def second():
+    done.wait(0.001)
+    LOOK
+## a thread that is joined only so long
+def change():
+    CHANGE
+worker = threading.Thread(target=change)
+def first():
+    worker.start()
+    worker.join()
+def second():
+    if worker.ident: worker.join(0.001)
+    LOOK
+## a future that is asked for
+from concurrent.futures import Future
+done = Future()
+def first():
+    CHANGE
+    done.set_result(1)
+def second():
+    told = "done" if done.done() else "at work"
+    LOOK
+## a future that is waited for only so long
+from concurrent.futures import Future, wait
+done = Future()
+def first():
+    CHANGE
+    done.set_result(1)
+def second():
+    wait([done], timeout=0.001)
+    LOOK
+## a queue that may be empty
+jobs = queue.Queue()
+def first():
+    CHANGE
+    jobs.put(1)
+def second():
+    with contextlib.suppress(queue.Empty): jobs.get_nowait()
+    LOOK
+## a queue that is waited for only so long
+jobs = queue.SimpleQueue()
+def first():
+    CHANGE
+    jobs.put(1)
+def second():
+    with contextlib.suppress(queue.Empty): jobs.get(timeout=0.001)
+    LOOK
+## a queue whose items are done already
+jobs = queue.Queue()
+def first():
+    CHANGE
+    jobs.put(1)
+    jobs.get()
+    jobs.task_done()
+def second():
+    jobs.join()
+    LOOK
+## a timer that is asked for
+timer = threading.Timer(0, print, kwargs={"end": ""})
+def first():
+    CHANGE
+    timer.cancel()
+def second():
+    told = timer.finished.is_set()
+    LOOK
+## a value that whoever comes first computes
+class Table:
+    @functools.cached_property
+    def total(self): return 3
+table = Table()
+def first():
+    CHANGE
+    table.total
+def second():
+    table.total
+    LOOK
+## a module that whoever comes first executes
+import sys
+sys.modules.pop("colorsys", None)
+def first():
+    CHANGE
+    import colorsys
+def second():
+    import colorsys
+    LOOK
+"""
+"""A pair is told if nothing was handed over. What was asked for, and came, gives an order that is taken for meant."""
+
+MEANT = """
+## whoever comes later has waited for the flag
+guard, done = threading.Lock(), []
+def first():
+    shop.left -= 1
+    with guard: done.append(1)
+def second():
+    while True:
+        with guard:
+            if done: break
+        time.sleep(0.001)
+    shop.left
+## an event that is waited for
+done = threading.Event()
+def first():
+    shop.left -= 1
+    done.set()
+def second():
+    done.wait()
+    shop.left
+## a queue that is waited for
+jobs = queue.Queue()
+def first():
+    shop.left -= 1
+    jobs.put(1)
+def second():
+    jobs.get()
+    shop.left
+## one lock around both
+guard = threading.Lock()
+def first():
+    with guard: shop.left -= 1
+def second():
+    with guard: shop.left
+## a permit that stands for what was done
+done = threading.Semaphore(0)
+def first():
+    shop.left -= 1
+    done.release()
+def second():
+    done.acquire()
+    shop.left
+## a lock that another thread lets go of
+gate = threading.Lock()
+gate.acquire()
+def first():
+    shop.left -= 1
+    gate.release()
+def second():
+    gate.acquire()
+    shop.left
+## a future whose result is taken
+from concurrent.futures import Future
+done = Future()
+def first():
+    shop.left -= 1
+    done.set_result(1)
+def second():
+    done.result()
+    shop.left
+## a condition that is waited for until it holds
+ready, done = threading.Condition(), []
+def first():
+    shop.left -= 1
+    with ready:
+        done.append(1)
+        ready.notify()
+def second():
+    with ready: ready.wait_for(lambda: done)
+    shop.left
+"""
+"""No race is told: `second` goes on only behind `first`."""
+
+ORDERS = {"as hidden": ("first", "second"), "the other way": ("second", "first")}
+
+
+def programs(text: str) -> list[Construct]:
+    """The programs of a table."""
+    parts = [part.partition("\n") for part in text.split("\n## ")[1:]]
+    return [
+        Construct("luck", name, BEGIN + source.replace("CHANGE", CHANGE).replace("LOOK", LOOK)) for name, _, source in parts
+    ]
+
+
+class Found(NamedTuple):
+    """What a run in one order has told."""
+
+    untold: list[str]
+    """Programs of which not all marked lines are told."""
+    further: list[str]
+    """Programs of which other lines are told."""
+    races: list[str]
+    """Programs of which a race is told that is not only a possible one."""
+    faults: dict[str, str]
+
+
+def found_in(chosen: list[Construct], order: str) -> Found:
+    """Runs programs in one order."""
+    faults: dict[str, str] = {}
+    pairs: list[Pair] = chosen  # type: ignore[assignment]  # A program has its text as a pair has.
+    _, races = races_of(pairs, "", faults, ORDERS[order])
+    told = {number: _lines(number, [*races.races, *races.possible, *races.hidden]) for number in range(len(chosen))}
+    of_races = {number for number in told if _lines(number, races.races)}
+    return Found(
+        [one.name for number, one in enumerate(chosen) if one.due.lines - told[number]],
+        [one.name for number, one in enumerate(chosen) if told[number] - one.due.lines],
+        [chosen[number].name for number in sorted(of_races)],
+        {chosen[int(name.removeprefix("pair_"))].name: fault for name, fault in faults.items()},
+    )
+
+
+def _lines(number: int, races: Races | list[Race]) -> set[int]:
+    places = [[place_in(side.place) for side in race.sides] for race in races]
+    return {place[1] for both in places for place in both if None not in both and {one[0] for one in both if one} == {number} if place}
+
+
+def answers() -> dict[str, dict[str, Found]]:
+    """What is told of each table, in each order."""
+    tables = {"locks": programs(LOCKS), "polls": programs(POLLS)}
+    found = {name: {order: found_in(chosen, order) for order in ORDERS} for name, chosen in tables.items()}
+    return {**found, "meant": {"as hidden": found_in(programs(MEANT), "as hidden")}}
+
+
+if __name__ == "__main__":
+    answered = {name: {order: found._asdict() for order, found in orders.items()} for name, orders in answers().items()}
+    print("", json.dumps(answered, indent=1 if sys.stdout.isatty() else None), sep="\n")
