@@ -2,6 +2,7 @@
 
 from __future__ import annotations
 
+import ast
 import collections
 import json
 import os
@@ -13,6 +14,10 @@ from typing import Any
 
 from itc_trace import Verdict
 from itc_trace.watch import helper
+from itc_trace.watch.learned import Learned
+from itc_trace.watch.process_state import CHANGED_STATE
+from itc_trace.watch.scopes import Scopes
+from itc_trace.watch.stored import kept_by, stored_by
 
 from .constructs import CLEAN, STARRED, TOLD, constructs
 from .support import PACKAGE, WAIT, ProgramCase, run_traced
@@ -91,6 +96,27 @@ class OtherModules(ProgramCase):
                 self.assertEqual(ran.returncode, Verdict.RACES, ran.stderr)
                 self.assertIn("itc_trace: race on conf.debug", ran.stderr)
                 self.assertRegex(ran.stderr, r"read +at .*conf\.py:2 in is_debug")
+
+    def test_the_text_of_a_source_tells_so_and_its_tree(self) -> None:
+        for change in CHANGES:
+            with self.subTest(change=change):
+                text = BY_NAME.replace("CHANGE", change)
+                self.assertIn("debug", elsewhere_by(text))
+                self.assertIn("debug", stored_by(text.encode()))
+        plain = "import sys\none.debug = True\n"
+        self.assertNotIn("debug", elsewhere_by(plain) | stored_by(plain.encode()))
+
+    def test_a_store_of_what_the_library_keeps_is_found_in_the_text(self) -> None:
+        for text in ("import sys\nsys.stdout = one\n", "import sys\nsetattr(sys, 'stdout', one)\n"):
+            self.assertIn(f"{CHANGED_STATE}sys.stdout", kept_by(text.encode()))
+        self.assertNotIn(f"{CHANGED_STATE}sys.stdout", kept_by(b"import sys\none.stdout = sys.stdout\n"))
+
+
+def elsewhere_by(text: str) -> set[str]:
+    """The names that a module stores in others, by its tree."""
+    learned = Learned()
+    Scopes(ast.parse(text), learned)
+    return learned.elsewhere
 
 
 if __name__ == "__main__":
