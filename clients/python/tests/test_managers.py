@@ -253,6 +253,7 @@ def work(given, bounded, room, items, barrier, two, event, condition, ready, rlo
         with rlock:
             hit("inner")
         hit("outer")
+    open(marker + "s", "w").close()
 
 method = sys.argv[1]
 if __name__ == "__main__":
@@ -288,6 +289,8 @@ if __name__ == "__main__":
             ready.value = 1
             condition.notify_all()
         hit("told wrong")
+        while not os.path.exists(marker + "s"):
+            time.sleep(0.01)
         with rlock:
             hit("inner", "outer")
         child.join()
