@@ -170,7 +170,11 @@ public final class PartClean {
                 },
                 () -> {
                     names[0] = "one";
-                    counts[0] = 1;
+                    try {
+                        counts[2] = 1;
+                    } catch (ArrayIndexOutOfBoundsException outside) {
+                        counts[0] = 1;
+                    }
                 });
         System.out.println(names[0]);
     }
@@ -495,7 +499,7 @@ public final class PartClean {
         ReentrantLock lock = new ReentrantLock();
         ExecutorService pool = Executors.newFixedThreadPool(3);
         List<Future<?>> done = new ArrayList<>();
-        for (int turn = 0; turn < 600; turn++) {
+        for (int turn = 0; turn < 300; turn++) {
             int own = turn % 3;
             done.add(
                     pool.submit(
@@ -503,7 +507,7 @@ public final class PartClean {
                                 lock.lock();
                                 try {
                                     hits[own]++;
-                                    for (int place = 10; place < 90; place++) {
+                                    for (int place = 10; place < 30; place++) {
                                         hits[place] += hits[place - 10];
                                     }
                                     all.set(own, all.hashCode());
