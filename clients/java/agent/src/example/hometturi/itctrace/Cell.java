@@ -1,6 +1,5 @@
 package example.hometturi.itctrace;
 
-import example.hometturi.itctrace.Row.Called;
 import example.hometturi.itctrace.Row.Site;
 import example.hometturi.itctrace.Task.Held;
 import example.hometturi.itctrace.Task.Stretch;
@@ -20,7 +19,7 @@ final class Cell {
 
     private static final AtomicLong NUMBERS = new AtomicLong();
 
-    private final Called called;
+    private final String name;
     private final boolean isOnly;
     private String thing;
     private Touch first;
@@ -47,11 +46,11 @@ final class Cell {
 
         private Touch next;
 
-        Touch(Own own, Task task, Place place, Held held) {
+        Touch(Own own, Place place) {
             this.own = own;
-            this.task = task;
+            task = own.task();
             this.place = place;
-            this.held = held;
+            held = own.held();
         }
 
         boolean isOf(Own thread, Place other) {
@@ -63,34 +62,24 @@ final class Cell {
      * A line of the program that reads or writes a field, or an object that is watched as a whole. Then there is no field. It is inner
      * if nobody knows which part of the object it is of, or what is done with it.
      */
-    record Place(Field field, boolean writes, boolean isInner, Site site, Place inner) {
-        /** One of a field. */
-        Place(Field field, boolean writes, Site site) {
-            this(field, writes, false, site, null);
-        }
-
-        /** One of an object of the JDK, or of an element. It knows what it is if nobody knows which part it is of. */
-        Place(boolean writes, Site site) {
-            this(null, writes, false, site, new Place(null, writes, true, site, null));
-        }
-
-        String kind() {
+    record Place(Field field, boolean writes, boolean isInner, Site site) {
+        private String kind() {
             return (isInner ? "inner " : "") + (writes ? "write" : "read");
         }
     }
 
     /** One field of one object, or a static one, of which there is only one. */
     Cell(Field field) {
-        this(field.called, field.isStatic());
+        this(field.name(), field.isStatic());
     }
 
-    /** An object that is watched as a whole. */
-    Cell(Called called) {
-        this(called, false);
+    /** An object that is watched as a whole, by the name of its class. */
+    Cell(String name) {
+        this(name, false);
     }
 
-    private Cell(Called called, boolean isOnly) {
-        this.called = called;
+    private Cell(String name, boolean isOnly) {
+        this.name = name;
         this.isOnly = isOnly;
     }
 
@@ -132,7 +121,7 @@ final class Cell {
             }
         }
         if (mine == null) {
-            mine = add(new Touch(own, task, place, own.held()));
+            mine = add(new Touch(own, place));
         }
         mine.number = task.stretches;
         mine.waiting = stretch;
@@ -140,14 +129,6 @@ final class Cell {
             tellWaiting(mine);
             mine.isTold = true;
         }
-        remember(task, place.writes);
-    }
-
-    /** A task that has ended has touched the variable. It is told once another one does. */
-    synchronized void adopt(Own own, Task task, Place place, Held held, long number, Stretch stretch) {
-        Touch ended = add(new Touch(own, task, place, held));
-        ended.number = number;
-        ended.waiting = stretch;
         remember(task, place.writes);
     }
 
@@ -192,17 +173,12 @@ final class Cell {
         first = left;
     }
 
-    /** What tells a thing from others of its name. */
-    static long nextNumber() {
-        return NUMBERS.incrementAndGet();
-    }
-
     private void tellWaiting(Touch touch) {
         if (touch.waiting != null) {
             if (thing == null) {
-                thing = called.name() + (isOnly ? "" : " " + nextNumber());
+                thing = name + (isOnly ? "" : " " + NUMBERS.incrementAndGet());
             }
-            Traced.tracer().touched(touch.task, touch.waiting, new Watching(thing, called, touch.place.kind()), touch.place.site, touch.held);
+            Traced.tracer().touched(touch.task, touch.waiting, new Watching(thing, name, touch.place.kind()), touch.place.site, touch.held);
             touch.waiting = null;
         }
     }

@@ -4,8 +4,6 @@ import example.hometturi.itctrace.Field;
 import example.hometturi.itctrace.Type;
 import example.hometturi.itctrace.Watched;
 import example.hometturi.itctrace.agent.Classes.Described;
-import java.util.ArrayDeque;
-import java.util.Deque;
 import java.util.HashSet;
 import java.util.List;
 import java.util.Set;
@@ -111,7 +109,6 @@ final class Rewriter {
         private final InsnList code;
         private final Calls calls;
         private final WholeCalls wholes;
-        private final ArrayCalls arrays;
         private final References references;
         private int line;
 
@@ -119,9 +116,7 @@ final class Rewriter {
             this.method = method;
             code = method.instructions;
             calls = new Calls(classes, loader, node, method);
-            String function = described.simpleName + "." + method.name;
-            wholes = new WholeCalls(method, file, function);
-            arrays = new ArrayCalls(method, file, function);
+            wholes = new WholeCalls(method, file, described.simpleName + "." + method.name);
             references = new References(node, method, calls, made -> new OfMethod(made).rewrite());
         }
 
@@ -131,25 +126,24 @@ final class Rewriter {
 
         void rewrite() {
             boolean isConstructed = !method.name.equals("<init>");
-            Deque<AbstractInsnNode> open = new ArrayDeque<>();
+            int open = 0;
             for (AbstractInsnNode one : code.toArray()) {
                 if (one instanceof LineNumberNode number) {
                     line = number.line;
                 } else if (one instanceof FieldInsnNode access) {
                     rewriteAccess(access, isConstructed);
                 } else if (one instanceof MethodInsnNode call) {
-                    String owner = classes.ofTheJdk(loader, call.owner);
                     if (call.name.equals("<init>")) {
-                        isConstructed |= open.isEmpty();
-                        rewriteMaking(call, owner, open.poll());
+                        isConstructed |= open-- == 0;
                     }
+                    String owner = classes.ofTheJdk(loader, call.owner);
                     if (owner == null && call.getOpcode() == Opcodes.INVOKEINTERFACE) {
                         owner = classes.interfaceOfTheJdk(loader, call.owner);
                     }
                     if (owner != null) {
                         wholes.rewrite(call, owner, line);
                     } else if (call.owner.startsWith("[")) {
-                        arrays.rewriteClone(call, line);
+                        wholes.rewriteClone(call, line);
                     } else if (call.owner.equals("java/lang/Object")) {
                         wholes.rewriteOfAny(call, line);
                     }
@@ -163,11 +157,9 @@ final class Rewriter {
                     }
                     wholes.rewrite(call, line);
                 } else if (isElement(one.getOpcode())) {
-                    arrays.rewriteElement(one, line);
+                    wholes.rewriteElement(one, line);
                 } else if (one.getOpcode() == Opcodes.NEW) {
-                    open.push(one);
-                } else if (isMakingArray(one.getOpcode())) {
-                    arrays.rewriteMaking(one, line);
+                    open++;
                 } else if (one.getOpcode() == Opcodes.MONITORENTER) {
                     code.insertBefore(one, plain(Opcodes.DUP));
                     code.insert(one, hook("entered", OF_ANY));
@@ -181,18 +173,6 @@ final class Rewriter {
             }
             rewriteHandlers();
             code.insert(numbered());
-        }
-
-        /** A collection is made, and stands on the stack if it was put there twice. */
-        private void rewriteMaking(MethodInsnNode call, String owner, AbstractInsnNode beginning) {
-            boolean isTwice = beginning != null && beginning.getNext() != null && beginning.getNext().getOpcode() == Opcodes.DUP;
-            if (isTwice && owner != null && CollectionTypes.has(owner)) {
-                arrays.rewriteMaking(call, line);
-            }
-        }
-
-        private static boolean isMakingArray(int opcode) {
-            return opcode == Opcodes.NEWARRAY || opcode == Opcodes.ANEWARRAY || opcode == Opcodes.MULTIANEWARRAY;
         }
 
         private static boolean isElement(int opcode) {

@@ -112,6 +112,9 @@ public final class Traced {
             return Holding.locks(holding);
         }
 
+        /** What the agent keeps of what the thread has touched last. */
+        Object recent;
+
         /** The classes that the task has come to after their initialization. */
         private final Set<Object> classes = Collections.newSetFromMap(new IdentityHashMap<>());
 

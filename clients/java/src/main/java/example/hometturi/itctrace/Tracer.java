@@ -343,7 +343,7 @@ final class Tracer {
     }
 
     /** What was touched in a program that is watched as it is, what a person calls it, and how it was touched. */
-    record Watching(String thing, Row.Called called, String kind) {}
+    record Watching(String thing, String name, String kind) {}
 
     /** In the stretch the task has touched the thing, which is of this process. */
     synchronized void touched(Task task, Stretch stretch, Watching what, Site site, Held held) {
@@ -351,8 +351,8 @@ final class Tracer {
             return;
         }
         List<String> locks = held == null ? List.of() : held.inOrder();
-        String label = what.kind() + " " + what.called().name();
-        Row row = new Row(task.name, what.thing() + " of " + process, what.kind(), site, label, locks, null, List.of(), 0, what.called());
+        String label = what.kind() + " " + what.name();
+        Row row = new Row(task.name, what.thing() + " of " + process, what.kind(), site, label, locks, null, List.of(), 0, what.name());
         Touches told = stretch.add(row);
         if (told != null) {
             grows(told);
