@@ -190,7 +190,10 @@ class Children(ProgramCase):
             with self.subTest(method=method):
                 ran = run_traced(program, method)
                 self.assertEqual(ran.returncode, Verdict.INCOMPLETE, ran.stderr)
-                self.assertIn(f"incomplete: a child process was not traced: it was started by {method} at {program}:10\n", ran.stderr)
+                touched = f"; a child process was not traced, and touched counts at {program}:4" if method == "fork" else ""
+                self.assertIn(
+                    f"incomplete: a child process was not traced: it was started by {method} at {program}:10{touched}\n", ran.stderr,
+                )
 
     def test_a_fork_that_runs_another_program_leaves_a_watched_run_whole(self) -> None:
         program = self.program("import os\nif os.fork() == 0:\n    os.execvp('true', ['true'])\nos.wait()\n")

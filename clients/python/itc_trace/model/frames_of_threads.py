@@ -77,14 +77,20 @@ def frame_of(suspended: object) -> FrameType | None:
 
 
 def all_at_once(values: Iterator[T]) -> list[T]:
-    """What an iterator gives that is made in C alone, while no thread goes on."""
-    if not ~_collector:
-        return [*values]
-    -_collector
+    """What an iterator gives that is made in C alone, while no thread goes on.
+
+    What the iterator holds is let go of before, if nobody else has it.
+    """
+    is_on = ~_collector
+    if is_on:
+        -_collector
     try:
-        return [*values]
+        found = [*values]
+        del values
+        return found
     finally:
-        +_collector
+        if is_on:
+            +_collector
 
 
 def frames_now() -> dict[int, FrameType]:
