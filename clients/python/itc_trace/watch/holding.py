@@ -29,7 +29,7 @@ MOST_OLD = 50_000
 through all of them.
 """
 DEEPEST = 8
-LAST_LOOKED_AT = 24
+LAST_LOOKED_AT = 48
 SHORT_WAIT, LONGEST_WAIT = 0.0005, 1.0
 """In seconds, how long a thread waits at once, and in all, for the collection of another one that has all objects in a
 list. There is a bound: the other thread may run a finalizer of the program that waits for this one.
@@ -112,14 +112,24 @@ class Held:
 
     def let_go_at_once(self, most: int) -> None:
         """The same until nothing goes. What is held last is looked at first: it is most often what a function made."""
-        end = monotonic() + LONGEST_WAIT
+        end, latest = monotonic() + LONGEST_WAIT, self._latest[-LAST_LOOKED_AT:]
         while True:
             earlier, is_beside = self._collections, _is_beside_a_collection()
-            while self._let_go_of_last() or self.let_go_of_some(most):
+            while self._let_go_of(latest) or self._let_go_of_last() or self.let_go_of_some(most):
                 pass
             if not is_beside and earlier == self._collections or monotonic() > end:
                 return
             sleep(SHORT_WAIT)
+
+    def _let_go_of(self, keys: list[int]) -> bool:
+        """Those that were held last as the thread began. Others may hold more while it waits."""
+        has_gone = False
+        for key in keys:
+            one = self._objects.get(key)
+            if one is not None and getrefcount(one) <= REFERENCES_OF_ONE and self._objects.pop(key, None) is not None:
+                has_gone = True
+                self._left(key, True)
+        return has_gone
 
     def _let_go_of_last(self) -> bool:
         has_gone = has_gaps = False
