@@ -17,7 +17,7 @@ from pathlib import Path
 from random import Random
 from unittest import mock
 
-from itc_trace import Races, Verdict
+from itc_trace import Collector, Races, Session, Verdict
 from itc_trace.analyse import distinct, lasting, parts_beside
 from itc_trace.analyse.across_parts import AcrossParts
 from itc_trace.analyse.distinct import Distinct
@@ -263,6 +263,20 @@ class Beside(InFolder):
             beside, in_turn = self.looked_at(journal, beside=True), self.looked_at(journal)
             self.assertEqual(beside.unseen, in_turn.unseen, lost)
             self.assertEqual(beside.verdict(), Verdict.INCOMPLETE)
+
+    def test_a_tenant_that_has_the_last_part_may_have_more_than_the_journal(self) -> None:
+        """As where the process was killed before it had written all rows."""
+        journal = Journal(3, 20)
+        requests = divided(journal.written(self.folder), tempfile.mkdtemp(dir=self.folder)).part(3).requests()
+        del journal.lines[-12]
+        path = journal.written(self.folder)
+        with Collector("trace") as collector, Session("trace", collector.port) as session:
+            list(session.ask(requests))
+            session.close()
+            for least in (ALWAYS, NEVER):
+                with mock.patch.object(parts_beside, "FEWEST_BYTES", least), mock.patch.object(os, "sched_getaffinity", lambda _: {0, 1}):
+                    found = races_of_parts(path, last=("trace", collector.port))
+                self.assertEqual((len(found.races), found.unseen), (1, []), least)
 
     def test_a_process_that_ends_is_told(self) -> None:
         dies = "import os; os._exit(1)"

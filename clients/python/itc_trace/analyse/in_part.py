@@ -73,7 +73,8 @@ class InPart:
             row for row in self.part.rows
             if (number_of(row.thing) in things if row.thing is not None else _hands_over_or_waits(row))
         ]
-        return replace(self, part=replace(self.part, rows=rows, reports=self.part.requests()))
+        reports = self.part.requests() if self.part.last is None else None  # A tenant may have more than the journal.
+        return replace(self, part=replace(self.part, rows=rows, reports=reports))
 
     @cached_property
     def touches(self) -> list[Row]:
