@@ -278,14 +278,15 @@ class Beside(InFolder):
                     found = races_of_parts(path, last=("trace", collector.port))
                 self.assertEqual((len(found.races), found.unseen), (1, []), least)
 
-    def test_a_process_that_ends_is_told(self) -> None:
+    def test_what_a_process_that_ends_does_not_look_at_is_looked_at_all_the_same(self) -> None:
+        """As where there is no memory for several of them."""
+        due = self.told(self.looked_at(Journal(5, 20)))
         dies = "import os; os._exit(1)"
         slow = f"import os, sys, time; sys.stdin.buffer.read(1); time.sleep(0.2); {dies}"
         for program in (dies, slow, "raise SystemExit"):
             with mock.patch.object(parts_beside, "PROGRAM", program):
                 found = self.looked_at(Journal(5, 20), beside=True)
-            self.assertEqual([one.cause for one in found.unseen], [Cause.COLLECTOR], program)
-            self.assertIn("a process that looks at parts has ended", found.unseen[0].text)
+            self.assertEqual(self.told(found), due, program)
 
     def test_they_end_with_whoever_has_begun_them(self) -> None:
         path = Journal(200, 300).written(self.folder)

@@ -1,7 +1,7 @@
 """Has the parts of a run looked at by processes of their own, several at a time.
 
 Each process gets the number of a part by its standard input, and gives what it has found there by its output. It ends
-once its input does: so it does not outlive whoever has begun it.
+once its input does: so it does not outlive whoever has begun it. If it ends before, its parts are looked at here.
 """
 
 from __future__ import annotations
@@ -39,7 +39,7 @@ class Asking(NamedTuple):
 
 
 class NotLookedAt(Exception):
-    """A process could not look at a part, or has ended."""
+    """A process could not look at a part."""
 
 
 def processes_for(journal_bytes: int) -> int:
@@ -61,7 +61,7 @@ def found_beside(asking: Asking, processes: int, bar: Bar | None) -> Generator[I
             worker.ask(part)
         for part in parts:
             worker = workers[(part - 1) % len(workers)]
-            found = worker.answer()
+            found = worker.answer() or _find(asking, part)
             if part + len(workers) in parts:
                 worker.ask(part + len(workers))
             if bar is not None:
@@ -77,6 +77,7 @@ class _Worker:
             [sys.executable, "-I", "-c", PROGRAM, PACKAGE], stdin=subprocess.PIPE, stdout=subprocess.PIPE,
             start_new_session=True,
         )
+        self._has_ended = False
         self._send(asking)
 
     def __enter__(self) -> _Worker:
@@ -99,16 +100,21 @@ class _Worker:
     def _send(self, value: object) -> None:
         assert self._process.stdin is not None
         try:
-            _write(self._process.stdin, value)
-        except OSError as fault:
-            raise NotLookedAt(f"a process that looks at parts has ended: {fault.strerror}") from fault
+            if not self._has_ended:
+                _write(self._process.stdin, value)
+        except OSError:
+            self._has_ended = True
 
-    def answer(self) -> InPart:
+    def answer(self) -> InPart | None:
+        """What is in the part that was asked for first. None if the process has ended, as out of memory."""
         assert self._process.stdout is not None
         try:
-            found = pickle.load(self._process.stdout)
-        except (EOFError, pickle.UnpicklingError) as fault:
-            raise NotLookedAt("a process that looks at parts has ended") from fault
+            found = None if self._has_ended else pickle.load(self._process.stdout)
+        except (EOFError, pickle.UnpicklingError):
+            found = None
+        if found is None:
+            self._has_ended = True
+            return None
         if isinstance(found, str):
             raise NotLookedAt(found)
         assert isinstance(found, InPart)
@@ -126,10 +132,14 @@ def serve() -> None:
 
 def _found(asking: Asking, number: int) -> InPart | str:
     try:
-        found = find_in_part(asking.divided.part(number), asking.is_strict, asking.signals, collected)
-        return found.in_short(asking.divided.lasting)
+        return _find(asking, number)
     except (NoCollector, OSError, Refused) as fault:
         return str(fault)
+
+
+def _find(asking: Asking, number: int) -> InPart:
+    found = find_in_part(asking.divided.part(number), asking.is_strict, asking.signals, collected)
+    return found.in_short(asking.divided.lasting)
 
 
 def _write(stream: IO[bytes], value: Any) -> None:
