@@ -7,7 +7,7 @@ import random
 from collections import defaultdict
 from collections.abc import Iterable, Iterator
 
-from itc_trace.model.conflicts import ADDITION, CHANGING, ITERATION, LENGTH, MAKING, READ, WRITE, conflicts
+from itc_trace.model.conflicts import ADDITION, CHANGING, CONFLICTING, ITERATION, LENGTH, MAKING, READ, WRITE
 from itc_trace.record.journal import Row
 
 LOCKS = ("#1 lock A (a.py:1)", "#2 lock B (a.py:2)")
@@ -141,7 +141,7 @@ class Run:
         for thing, touches in self.touches().items():
             is_one = self.is_possible if possible else self.is_race
             for first, second in self.pairs(touches):
-                if not conflicts(first.kind, second.kind) or first.loop and first.loop == second.loop:
+                if second.kind not in CONFLICTING[first.kind] or first.loop and first.loop == second.loop:
                     continue
                 if is_one(first, second) and not (possible and self.is_race(first, second)):
                     _count(found, first, second)
@@ -167,9 +167,9 @@ class Run:
                 continue
             if self._is_kept_out(change, between, touches[: touches.index(change)]):
                 continue
-            if conflicts(read.kind, between.kind) and apart(read, between) and apart(change, between):
+            if between.kind in CONFLICTING[read.kind] and apart(read, between) and apart(change, between):
                 found.add(_by_event(read, between))
-                if conflicts(change.kind, between.kind):
+                if between.kind in CONFLICTING[change.kind]:
                     found.add(_by_event(change, between))
         return found
 

@@ -111,8 +111,9 @@ context = decimal.Context()
 here = os.getcwd()
 """
 HANDED = """
-import csv, functools, io, itertools, re, sched, threading, contextlib, weakref, types, string, argparse
+import argparse, collections, contextlib, csv, functools, io, itertools, re, sched, string, threading, types, weakref
 items, table, marks = [1], {"a": 1}, {1}
+many, counted = collections.deque([1]), collections.Counter("a")
 expression = re.compile("x")
 class Plain:
     left = 1
@@ -335,6 +336,10 @@ seen | with contextlib.ExitStack() as stack: stack.callback(items.append, 1) | l
 seen | threading.Timer(0, items.append, (1,)).run() | len(items)
 starred | threading.Barrier(1, action=items.clear).wait() | len(items)
 starred | staticmethod(items.append) | len(items)
+starred | staticmethod(items.sort) | len(items)
+starred | staticmethod(items.__delitem__) | len(items)
+starred | property(many.rotate) | len(many)
+starred | classmethod(counted.subtract) | counted["a"]
 starred | property(items.pop) | len(items)
 starred | re.sub("y", items.append, "x") | len(items)
 starred | expression.sub(items.append, "y") | len(items)

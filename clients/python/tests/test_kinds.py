@@ -8,8 +8,8 @@ import importlib
 import unittest
 from typing import Any
 
-from itc_trace.model.conflicts import conflicts
-from itc_trace.watch import kinds
+from itc_trace.model.conflicts import CONFLICTING
+from itc_trace.model import kinds
 from itc_trace.watch.both_languages import header
 from itc_trace.watch.decisions import family_of, field_inside
 
@@ -53,7 +53,7 @@ class Tables(unittest.TestCase):
     def test_each_row_says_something_that_conflicts(self) -> None:
         rows = [*(row for row in kinds._METHODS if row.touched != kinds.KEY), *kinds._FUNCTIONS]
         words = {row.words for row in rows if row.words}
-        self.assertEqual({word for word in words if not any(conflicts(word, other) for other in words)}, set())
+        self.assertEqual({word for word in words if not any(other in CONFLICTING[word] for other in words)}, set())
 
     def test_a_row_says_what_a_method_does_to_each_kind(self) -> None:
         self.assertEqual(kinds.WHOLE[kinds.DEQUE]["rotate"], "rewrite")

@@ -78,6 +78,10 @@ class Shared(TracedCase):
             ({1}, "r", set), ({1}, "r", lambda one: {2}.union(one)), ({1}, "r", lambda one: {2} | one),
             (collections.deque([1]), "r", bool), (held(collections.deque([1])), "r", bool), (held([1]), "r", bool),
             (array.array("i", [1]), "w", lambda one: one.append(2)), (array.array("i", [1]), "r", lambda one: one.tolist()),
+            (array.array("i", [1]), "w", lambda one: one.byteswap()), (bytearray(b"a b"), "r", lambda one: one.split()),
+            (held(bytearray(b"a b")), "r", lambda one: one.upper()), (io.StringIO("a"), "r", lambda one: one.getvalue()),
+            (io.StringIO("a"), "r", lambda one: one.readable()),
+            (io.StringIO("a"), "w", lambda one: one.read()), (io.BytesIO(b"a"), "w", lambda one: one.write(b"b")),
         ]
         for value, wanted, use in uses:
             with self.subTest(value=value, wanted=wanted):

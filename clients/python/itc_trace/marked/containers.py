@@ -14,25 +14,17 @@ from collections.abc import Callable, ItemsView, Iterator, KeysView, ValuesView
 from typing import Any
 
 from ..model.conflicts import READ, WRITE
+from ..model.kinds import CHANGING_OF_TYPES, LOOKING_METHODS
 from ..model.lines import state
 from ..record.noting import touch_at
 from ..model.frames import frame_at, is_internal, place_of
 from ..model.stretches import STRETCHES
 
-READS = frozenset(
-    "__getitem__ __contains__ __iter__ __len__ __reversed__ __eq__ __ne__ __lt__ __le__ __gt__ __ge__ __add__ __radd__ "
-    "__mul__ __rmul__ __or__ __ror__ __and__ __rand__ __sub__ __rsub__ __xor__ __rxor__ __bool__ __str__ __repr__ "
-    "__format__ __copy__ __deepcopy__ get keys values items copy index count union intersection difference "
-    "symmetric_difference isdisjoint issubset issuperset most_common elements total decode hex find startswith "
-    "endswith tolist tobytes tounicode buffer_info".split()
+READS = LOOKING_METHODS.union(
+    "__bool__ __deepcopy__ __radd__ buffer_info tounicode isatty readable seekable writable".split()
 )
 """Methods that only look. Of a type of the library every other one writes."""
-
-WRITES = frozenset(
-    "__setitem__ __delitem__ __iadd__ __isub__ __imul__ __ior__ __iand__ __ixor__ "
-    "append appendleft extend extendleft insert remove pop popleft popitem clear sort reverse rotate update setdefault "
-    "move_to_end add discard intersection_update difference_update symmetric_difference_update subtract".split()
-)
+WRITES = CHANGING_OF_TYPES
 
 _VIEWS = frozenset({"keys", "values", "items"})
 _INSERTED = {"__setitem__": 1, "append": 0, "appendleft": 0, "insert": 1, "setdefault": 1}

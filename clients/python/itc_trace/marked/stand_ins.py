@@ -9,6 +9,7 @@ from collections.abc import Callable
 from typing import Any
 
 from ..model.conflicts import READ, WRITE
+from ..model.kinds import BUFFER, LIST, TYPES
 from .containers import (
     CONTAINERS, OF_VARIABLE, READS, WRITES, is_held_by, is_method, iteration, note, noted, view_of,
 )
@@ -30,6 +31,9 @@ _SYNCHRONIZING = frozenset(
     "threading _thread queue _queue asyncio _asyncio concurrent multiprocessing contextvars _contextvars".split()
 )
 """Modules whose objects keep tasks in order, or belong to a task. Whoever reads such an attribute touches nothing."""
+
+_OF_KNOWN_METHODS = (*CONTAINERS, *TYPES[LIST], *TYPES[BUFFER])
+"""Types of the library of which it is known whether a method writes."""
 
 _synchronizing: dict[type, bool] = {}
 
@@ -140,7 +144,7 @@ class StandIn:
             return types.MethodType(found, self)
         if isinstance(found, property) and isinstance(found.fget, types.FunctionType):
             return found.fget(self)
-        if callable(found) and (isinstance(value, CONTAINERS) or type(value).__module__ == "array"):
+        if callable(found) and isinstance(value, _OF_KNOWN_METHODS):
             return _noted_method(value, name, object.__getattribute__(self, "_itc_name"))
         try:
             told = getattr(value, name)

@@ -46,8 +46,3 @@ CONFLICTING: dict[str, frozenset[str]] = {
 
 CHANGING = frozenset({WRITE, REWRITE, ADDITION, REMOVAL, REPLACEMENT, INNER_WRITE})
 """The kinds that change a thing. Of two kinds that conflict, one is among them."""
-
-
-def conflicts(kind: str, other: str) -> bool:
-    """Whether two touches of these kinds race, if nothing orders them."""
-    return other in CONFLICTING.get(kind, ())

@@ -1,1 +1,2 @@
-"""What goes on beside the process that is traced: its children, collectors for its parts, and the relay."""
+"""What goes on beside the process that is traced: children that are not traced, collectors for its
+parts, and the relay."""

@@ -1,4 +1,4 @@
-"""Everything of the standard library that is traced."""
+"""Everything of the standard library, gevent, trio and Twisted that is traced."""
 
 from __future__ import annotations
 

@@ -6,15 +6,14 @@ import heapq
 from typing import Any
 
 from ..model.conflicts import WRITE
+from ..model.kinds import CHANGING_HEAPS
 from ..marked.containers import is_noted, note
 from ..marked.stand_ins import StandIn, name_of, value_of
 from .base import Patches, named_like
 
-_CHANGING = ("heappush", "heappop", "heapify", "heapreplace", "heappushpop")
-
 
 def put(patches: Patches) -> None:
-    for name in _CHANGING:
+    for name in CHANGING_HEAPS:
         original = getattr(heapq, name)
         patches.replace(heapq, name, named_like(original, _changing(original)))
 

@@ -25,7 +25,7 @@ from collections.abc import Iterable
 from typing import Any
 
 from .helper import quick
-from .kinds import DICT, REFERRED, TYPES, WITH_ONE_INSIDE
+from ..model.kinds import DICT, REFERRED, TYPES, WITH_ONE_INSIDE
 from .learned import OF_CLASSES, STORED_FIELDS
 from .places import DELETED, SKIPPED, Access
 

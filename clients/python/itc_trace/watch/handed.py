@@ -12,7 +12,7 @@ from ..model.frames import line_of
 from . import hooks
 from .decisions import value_of_field
 from .finder import FILES
-from .kinds import CHANGED_ARGUMENT, KEYED, METHODS, READERS, SHOWING, STEPPERS, depth_of, known_function
+from ..model.kinds import CHANGED_ARGUMENT, KEYED, METHODS, READERS, SHOWING, STEPPERS, depth_of, known_function
 from .places import NAMES_OF_HANDED, Access, new_site
 from .rewrite import OF_ATTRIBUTES
 

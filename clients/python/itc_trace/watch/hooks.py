@@ -56,8 +56,8 @@ from .helper import quick
 from .inside import OWN_STEPS, behind, fields_looked_at, inside_of, is_by_own_method, nested_in
 from .learned import OF_CLASSES, STORED_FIELDS
 from .keys import SIMPLE, UNKNOWN, tell_of_unknown, value_of
-from .kinds import DEEP as DEEP_SITES
-from .kinds import (
+from ..model.kinds import DEEP as DEEP_SITES
+from ..model.kinds import (
     BUFFER, BY_FIELDS, CHANGING_METHODS, COMPARED, DECLARED, DEPTHS_OF_METHODS, DEQUE, DICT, IN_PLACE_METHODS, KEYED,
     LIST, MAPS, METHODS, OF_FILE, OF_GENERATOR, ORDERED, SHOWN, TRUTH, VARIABLES, WHOLE, WITHOUT_ELEMENTS, WRITTEN,
 )

@@ -23,7 +23,7 @@ from .decisions import (
     COMPOSED, OF_VALUES, ROWS_OF_ITERATORS, STEPPED, VIEWS, class_with, family_of, field_inside, fields_of, ids_of,
     has_watched_method, is_made, is_watched_class, mro_of, name_of, value_of_field, vars_of,
 )
-from .kinds import (
+from ..model.kinds import (
     COMPARED, CONTENT, DECLARED, DICT, EXITS, HASHED, MAPS, OF_ELEMENTS, ORDERED, RANKED, REFERRED, SHOWN, STATE,
     WRITER, WRITTEN, WRITTEN_TO,
 )

@@ -7,6 +7,7 @@ import os
 import sys
 from collections.abc import Callable
 
+from ..model.kinds import CHANGING_OF_TYPES
 from ..model.stretches import SITES
 from ..model.verdict import PassedOver
 from ..record import noting
@@ -15,9 +16,6 @@ from .learned import Learned
 
 BUILT_IN = frozenset(("exec", "eval", "memoryview"))
 _FUNCTIONS = frozenset(("mmap.mmap", "weakref.proxy", "string.Formatter"))
-_CHANGING = frozenset(
-    "append appendleft extend extendleft insert add discard remove pop popleft popitem update setdefault clear".split()
-)
 _CALLERS = frozenset("enter enterabs add_signal_handler add_reader add_writer".split())
 """Methods of the library that call what they are given, and are not followed."""
 _FOLLOWED = ("concurrent.futures.", "asyncio.", "trio.", "multiprocessing.", "itertools.", "operator.")
@@ -125,7 +123,7 @@ def look_at_kept(node: ast.Assign, learned: Learned, is_foreign: Callable[[ast.e
 
 def is_changing(node: ast.expr) -> bool:
     """Whether it may be a method that changes a container."""
-    return isinstance(node, ast.Attribute) and node.attr in _CHANGING
+    return isinstance(node, ast.Attribute) and node.attr in CHANGING_OF_TYPES
 
 
 def handed_on(method: str) -> str:

@@ -15,7 +15,7 @@ from ..record.following import pass_over
 from ..sync.managed import Ask, KeptData, touch_with
 from ..sync.values import user
 from .keys import value_of
-from .kinds import DICT, KEYED, LIST, WHOLE
+from ..model.kinds import DICT, KEYED, LIST, WHOLE
 from .late import ADDED, CHANGING, FOUND, LOOKING
 from .things import LONGEST_KEY
 

@@ -14,7 +14,7 @@ from typing import Any
 
 from ..model.conflicts import ADDITION, ITERATION, KEYS, LENGTH, REWRITE
 from . import held_lines, on_stack, passed_over
-from .kinds import (
+from ..model.kinds import (
     CHANGED_ARGUMENT, COMPARED, CONSUMING, CONTENT, DEPTHS_OF_METHODS, EACH, IN_PLACE_FUNCTIONS, IN_PLACE_METHODS,
     KEYED, LATE_METHODS, METHODS, ORDERED, RANKED, RANKING, READERS, SHOWING, SHOWN, STATE, STEPPERS, STEPPING, TRUTH,
     WRITTEN, depth_of, known_function,

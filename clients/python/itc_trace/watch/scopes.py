@@ -7,7 +7,7 @@ import ast
 from collections.abc import Callable
 from typing import Any
 
-from .kinds import MAPS, METHODS
+from ..model.kinds import MAPS, METHODS
 from .learned import OF_CLASSES, Learned
 from .process_state import CHANGED_STATE, changed_by, kept_in
 

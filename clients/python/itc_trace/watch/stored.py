@@ -15,7 +15,7 @@ from itertools import islice
 from typing import NamedTuple
 
 from .kept import Kept
-from .kinds import MAPS, METHODS
+from ..model.kinds import MAPS, METHODS
 from .learned import STORED_ELSEWHERE, STORED_FIELDS
 from .process_state import CHANGED_STATE, NAMES_OF_CHANGES, VARIABLES, changed_by
 

@@ -20,7 +20,7 @@ from collections import ChainMap, Counter, OrderedDict, UserDict, UserList, defa
 from collections.abc import Iterator
 from typing import NamedTuple
 
-from ..model.conflicts import ADDITION, CHANGING, ITERATION, KEYS, LENGTH, LOOKUP, REMOVAL, REWRITE
+from .conflicts import ADDITION, CHANGING, ITERATION, KEYS, LENGTH, LOOKUP, REMOVAL, REWRITE
 
 # Kinds of containers
 
@@ -306,6 +306,14 @@ CHANGING_METHODS = frozenset(
     + [name for name, ways in KEYED.items() if any(ways.get(kind) in ("w", "d", "rw") for kind in _OF_CONTAINERS)]
 )
 """Methods by which some kind of container is changed. The others look at it."""
+CHANGING_OF_TYPES = frozenset(
+    name for name in CHANGING_METHODS if any(hasattr(one, name) for kind in _OF_CONTAINERS for one in TYPES[kind])
+)
+"""Those that a type of the library has which is written in C."""
+LOOKING_METHODS = frozenset(KEYED).union(
+    name for kind in (*_OF_CONTAINERS, BUFFER) for name, words in WHOLE[kind].items() if words not in CHANGING
+) - CHANGING_METHODS
+"""Methods that only look at a container or at a buffer."""
 LATE_METHODS = frozenset(name for touched in (ITSELF, KEY) for _, name in _methods(touched, LATE))
 """Those that change a container after all of their arguments are there."""
 IN_PLACE_METHODS: dict[str, tuple[str, ...]] = {
@@ -341,6 +349,10 @@ CHANGED_ARGUMENT = {name: 1 for _, name in _functions(SECOND)}
 """Which argument a function changes, if it is not the first one."""
 STEPPING = frozenset(name for _, name in _functions(STEPS))
 """Functions that look at what they are given step by step, as others look at what they give."""
+CHANGING_HEAPS = tuple(
+    name for row in _FUNCTIONS if row.module == "heapq" and row.words == REWRITE for name in row.names.split()
+)
+"""Functions of `heapq` that change the list which they are given."""
 _KNOWN = {name: row.words for row, name in _functions(FIRST, SECOND, FIRST_BY_SECOND)}
 _DEPTHS = {name: row.inside for row, name in _functions(FIRST) if row.inside}
 _KEEPING = frozenset(name for _, name in _functions(LATER))
