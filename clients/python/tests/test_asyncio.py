@@ -5,8 +5,10 @@ from __future__ import annotations
 import asyncio
 import concurrent.futures
 import contextlib
+import gc
 import sys
 import threading
+import time
 import unittest
 from collections.abc import Awaitable, Callable, Coroutine
 from typing import Any
@@ -14,7 +16,7 @@ from typing import Any
 from itc_trace import touch
 
 from .support import WAIT, TracedCase, in_turn
-from .test_threads import write
+from .test_threads import PAIRS, touch_with_each, write
 
 Work = Callable[[], Awaitable[Any]]
 
@@ -192,6 +194,36 @@ class Tasks(Asynchronous):
             await one_after_another(wait, wait)
 
         self.racing("y", main)
+
+    def test_who_take_what_a_task_gave_last_are_not_ordered_by_that(self) -> None:
+        """The task is gone as they take it, and who has awaited it goes on."""
+        def scenario() -> None:
+            event, items = asyncio.Event(), asyncio.Queue[int]()
+
+            async def give_last() -> None:
+                write("x")
+                give(event, items)
+
+            async def first() -> None:
+                await asyncio.create_task(give_last())
+                touch_with_each(0)
+
+            async def then(number: int) -> None:
+                await take(event, items)
+                touch("x")
+                touch_with_each(number)
+
+            in_turn(
+                lambda: (asyncio.run(first()), gc.collect(), time.sleep(0.1)), lambda: asyncio.run(then(1)),
+                lambda: asyncio.run(then(2)),
+            )
+
+        ways: tuple[tuple[Any, Any], ...] = (
+            (lambda event, items: event.set(), lambda event, items: event.wait()),
+            (lambda event, items: [items.put_nowait(number) for number in range(2)], lambda event, items: items.get()),
+        )
+        for give, take in ways:
+            self.assert_racing_things(PAIRS, scenario)
 
     def test_tasks_are_named(self) -> None:
         async def main() -> None:

@@ -10,7 +10,7 @@ from typing import Any
 from unittest import mock
 
 from itc_trace.analyse.parts import collected
-from itc_trace.model.lines import FINISH, GONE, JOIN, MARK, QUEUE, SPAWN, TAKE, TAKE_END, Line, Note, Token
+from itc_trace.model.lines import END, FINISH, GONE, JOIN, MARK, QUEUE, SPAWN, TAKE, TAKE_END, Line, Note, Token
 from itc_trace.record import dividing, nurseries
 from itc_trace.record.dividing import Divider, Report
 from itc_trace.record.names import Names
@@ -87,7 +87,7 @@ class Program:
         self._tokens: list[tuple[Token, int]] = []
         self.touches: list[tuple[int, int]] = []
         """The event of each touch, and the touches that come before it."""
-        acts = [self._touch] * 3 + [self._spawn] * 4 + [self._mark, self._take, self._take, self._end, self._end, self._wait, self._wait]
+        acts = [self._touch] * 3 + [self._spawn] * 4 + [self._mark] + [self._take, self._end, self._wait] * 2 + [self._let_go]
         for _ in range(steps):
             self.chance.choice(acts)(self.chance.choice(self._live))
         self.order.end_finished()
@@ -127,21 +127,25 @@ class Program:
 
     def _end(self, line: Line) -> None:
         if line is not self.main and self.chance.random() < 0.7:
-            self._handle(self.order.finish, FINISH, line, self.chance.random() < 0.6, self.chance.random() < 0.3)
+            self._handle(self.order.finish, FINISH, line, self.chance.random() < 0.6)
             self._live.remove(line)
             self._over.append(line)
 
     def _wait(self, line: Line) -> None:
         if not self._over:
             return
-        other = self._over.pop(self.chance.randrange(len(self._over)))
-        if other.has_ended and self.chance.random() < 0.5:
+        other = self.chance.choice(self._over)
+        is_thread = other.end_token is not None and other.end_token.what is END
+        if is_thread and self.chance.random() < 0.5:
             self._handle(self.order.join, JOIN, line, other, None, 0)
         else:
             self._handle(self.order.take_end, TAKE_END, line, other, None, 0)
         self._known[line] |= self._known[other]
-        self._tokens = [(token, known) for token, known in self._tokens if token.line is not other]
-        self._handle(self.order.gone, GONE, other)
+
+    def _let_go(self, _: Line) -> None:
+        """Nobody can wait for a task any more. What it has given may still be taken."""
+        if self._over:
+            self._handle(self.order.gone, GONE, self._over.pop(self.chance.randrange(len(self._over))))
 
     def wrong(self) -> list[tuple[int, int]]:
         """The pairs of touches whose order the reports do not tell as it is."""

@@ -38,6 +38,24 @@ if __name__ == "__main__":
     itc_trace.touch("stock", across=True)
     itc_trace.touch("own", write=True)
 """
+TWO_JOIN = """
+import itc_trace, multiprocessing, sys, threading
+def work():
+    itc_trace.touch("file", write=True, across=True)
+def join(own):
+    itc_trace.touch(own, write=True)
+    child.join()
+    itc_trace.touch("file", across=True)
+    itc_trace.touch("behind", write=True)
+if __name__ == "__main__":
+    child = multiprocessing.get_context(sys.argv[1]).Process(target=work)
+    child.start()
+    threads = [threading.Thread(target=join, args=(own,)) for own in ("first", "second")]
+    for thread in threads:
+        thread.start()
+    for thread in threads:
+        thread.join()
+"""
 JOIN = "seller.join()"
 POLL = """
         while seller.is_alive():
@@ -157,6 +175,13 @@ class Starts(ProgramCase):
             told = self.assert_verdict(Verdict.RACES, STARTS_AND_JOINS.replace("JOINING", how), "fork", "later")
             self.assertEqual(told.count("race on"), 1)
             self.assertNotIn("root", told)
+
+    def test_who_joins_a_child_behind_another_thread_knows_nothing_of_that_one(self) -> None:
+        for method in chosen(METHODS):
+            with self.subTest(method=method):
+                told = self.assert_verdict(Verdict.RACES, TWO_JOIN, method)
+                self.assertRegex(told, "race on behind\n")
+                self.assertEqual(told.count("race on"), 1, told)
 
     def test_a_parent_that_does_not_wait_races_with_its_child(self) -> None:
         told = self.assert_verdict(Verdict.RACES, STARTS_AND_JOINS.replace("JOINING", "pass"), "fork", "later")

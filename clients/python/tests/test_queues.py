@@ -15,7 +15,7 @@ from itc_trace.sync.jobs_of_pools import FEW
 from itc_trace.sync.queues import items_of
 
 from .support import PART_EVENTS, WAIT, Step, TracedCase, in_turn, wait_until
-from .test_threads import write
+from .test_threads import PAIRS, touch_with_each, write
 
 MANY = 10 if PART_EVENTS else 3 * FEW
 """So many jobs of one pool. With a border after a few events each of them takes long."""
@@ -317,6 +317,40 @@ class Pools(TracedCase):
             in_turn(submit, end)
 
         self.assert_ordered(scenario)
+
+    def test_who_waits_for_the_end_of_a_pool_behind_another_one_knows_nothing_of_that_one(self) -> None:
+        def scenario() -> None:
+            pool = ThreadPoolExecutor(2)
+            for job in jobs(pool):
+                job.result()
+            del job
+            time.sleep(0.1)
+
+            def end(number: int) -> None:
+                pool.shutdown()
+                touch("job 0")
+                touch_with_each(number)
+
+            in_turn(lambda: end(0), lambda: end(1), lambda: end(2))
+
+        for jobs in (
+            lambda pool: [pool.submit(write, f"job {number}") for number in range(3)],
+            lambda pool: [pool.submit(write, f"job {number}") for number in range(FEW + 9)],
+        ):
+            with self.subTest(jobs=jobs):
+                self.assert_racing_things(PAIRS, scenario)
+
+    def test_a_pool_knows_nothing_of_who_gave_its_first_job_later(self) -> None:
+        def scenario() -> None:
+            pool = ThreadPoolExecutor(2)
+
+            def give() -> None:
+                pool.submit(int)
+                write("x")
+
+            in_turn(give, lambda: (pool.shutdown(), write("x")))
+
+        self.assert_race(scenario)
 
     def test_the_end_of_a_pool_does_not_come_after_what_those_did_who_took_results(self) -> None:
         for jobs in (1, MANY):

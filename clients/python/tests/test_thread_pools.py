@@ -8,10 +8,11 @@ from collections.abc import Iterator
 from multiprocessing.pool import ThreadPool
 from typing import Any
 
+from itc_trace import touch
 from itc_trace.model.lines import state
 
 from .support import Step, TracedCase, in_turn, wait_until
-from .test_threads import write
+from .test_threads import PAIRS, touch_with_each, write
 
 
 def write_part(number: int) -> int:
@@ -66,6 +67,21 @@ class ThreadPools(TracedCase):
                 busy.wait()
 
         self.assert_racing_things("x", scenario)
+
+    def test_who_joins_a_pool_behind_another_one_knows_nothing_of_that_one(self) -> None:
+        def scenario() -> None:
+            pool = ThreadPool(2)
+            pool.apply(write, ("job",))
+            pool.close()
+
+            def end(number: int) -> None:
+                pool.join()
+                touch("job")
+                touch_with_each(number)
+
+            in_turn(lambda: end(0), lambda: end(1), lambda: end(2))
+
+        self.assert_racing_things(PAIRS, scenario)
 
     def test_jobs_of_a_pool_of_one_thread_are_in_order(self) -> None:
         def scenario() -> None:

@@ -3,18 +3,35 @@
 from __future__ import annotations
 
 import _thread
+import asyncio
+import concurrent.futures
+import gc
 import threading
 import time
 import unittest
 from typing import Any
 
 from itc_trace import touch
+from itc_trace.model.lines import TAKE_END, state
+from itc_trace.record.awaited import awaited
+from itc_trace.record.noting import line_of_now
 
-from .support import WAIT, Step, TracedCase, in_turn, wait_until
+from .support import PART_EVENTS, WAIT, Step, TracedCase, in_turn, wait_until
 
 
 def write(thing: str = "x") -> None:
     touch(thing, write=True)
+
+
+PAIRS = "01 02 12"
+"""The things by which `touch_with_each` tells of three that none comes after another one."""
+
+
+def touch_with_each(number: int) -> None:
+    """Each two of three tasks have a thing of their own."""
+    for pair in PAIRS.split():
+        if str(number) in pair:
+            write(pair)
 
 
 class Threads(TracedCase):
@@ -115,6 +132,147 @@ class Threads(TracedCase):
                 one.join()
 
         self.assert_racing_things("y", scenario)
+
+    def test_who_joins_behind_another_one_knows_nothing_of_that_one(self) -> None:
+        def until_over(thread: threading.Thread) -> None:
+            while thread.is_alive():
+                thread.join(0.001)
+
+        def poll(thread: threading.Thread) -> None:
+            while thread.is_alive():
+                time.sleep(0.001)
+
+        ways = (threading.Thread.join, until_over, poll)
+        kinds: tuple[Any, ...] = (
+            lambda: threading.Thread(target=write, args=("end",)), lambda: threading.Timer(0.001, write, ("end",)),
+            lambda: threading.Thread(target=write, args=("end",), daemon=True),
+        )
+        for first in ways:
+            for second in ways:
+                for make in kinds if first is second else kinds[:1]:
+                    with self.subTest(first=first, second=second, make=make):
+                        self.assert_racing_things(PAIRS, lambda: self._seen_by_three(make(), first, second))
+
+    def _seen_by_three(self, thread: Any, first: Any, second: Any) -> None:
+        """Each comes after the thread. What one does behind its look is in no order with the others."""
+        def look(see: Any, number: int) -> None:
+            see(thread)
+            touch("end")
+            touch_with_each(number)
+
+        thread.start()
+        in_turn(lambda: look(first, 0), lambda: look(second, 1), lambda: look(second, 2))
+
+    def test_who_joins_behind_another_one_knows_nothing_of_what_that_one_did_before(self) -> None:
+        def scenario() -> None:
+            thread = threading.Thread(target=write)
+            thread.start()
+            in_turn(lambda: (write("own"), thread.join()), lambda: (thread.join(), write("own"), write()))
+
+        self.assert_racing_things("own", scenario)
+
+    def test_who_joins_behind_one_that_goes_on_knows_nothing_of_it(self) -> None:
+        def scenario() -> None:
+            joined, goes_on = Step(), Step()
+
+            def join() -> None:
+                thread.join()
+                write("own")
+                threading.Event().set()
+                joined.done()
+                goes_on.wait()
+
+            thread = threading.Thread(target=write)
+            thread.start()
+            first = threading.Thread(target=join, daemon=True)
+            first.start()
+            joined.wait()
+            thread.join()
+            write("x")
+            write("own")
+            goes_on.done()
+            first.join()
+
+        self.assert_racing_things("own", scenario)
+
+    def test_who_joins_behind_a_task_or_a_job_that_is_gone_comes_after_the_thread(self) -> None:
+        def in_task(thread: threading.Thread) -> None:
+            async def join() -> None:
+                thread.join()
+
+            async def main() -> None:
+                await asyncio.create_task(join())
+
+            asyncio.run(main())
+
+        def in_job(thread: threading.Thread) -> None:
+            over = Step()
+            pool.submit(lambda: (thread.join(), over.done()))
+            over.wait()
+
+        def scenario() -> None:
+            thread = threading.Thread(target=write)
+            thread.start()
+            in_turn(lambda: (first(thread), gc.collect(), time.sleep(0.1)), lambda: (thread.join(), write()))
+
+        for first in (in_task, in_job):
+            with self.subTest(first=first.__name__), concurrent.futures.ThreadPoolExecutor(2) as pool:
+                self.assert_ordered(scenario)
+
+    def test_a_daemon_that_has_joined_a_thread_is_not_ordered_with_the_end(self) -> None:
+        """The thread is awaited at the end, and the daemon is not."""
+        def scenario() -> None:
+            joined, goes_on = Step(), Step()
+
+            def join() -> None:
+                threads.pop().join()
+                write("own")
+                threading.Event().set()
+                joined.done()
+                goes_on.wait()
+
+            threads = [threading.Thread(target=write)]
+            threads[0].start()
+            daemon = threading.Thread(target=join, daemon=True)
+            daemon.start()
+            joined.wait()
+            time.sleep(0.1)
+            note = state.note
+            for line in awaited():
+                if note is not None:
+                    note((TAKE_END, line_of_now(), line, None, 0))
+            write("own")
+            write()
+            goes_on.done()
+            daemon.join()
+
+        self.assert_racing_things("own", scenario)
+
+    @unittest.skipIf(PART_EVENTS, "possible races are looked for within a part")
+    def test_a_poll_of_the_library_is_luck_whoever_joined_before(self) -> None:
+        polls: dict[str, Any] = {"__name__": "socketserver"}
+        exec("def poll(thread):\n    return not thread.is_alive()\n", polls)
+
+        def scenario(*ways: Any) -> None:
+            thread = threading.Thread(target=lambda: (write(), write("end")))
+            thread.start()
+            wait_until(lambda: not threading.Thread.is_alive.__wrapped__(thread))  # type: ignore[attr-defined]
+
+            def poll_and_start() -> None:
+                polls["poll"](thread)
+                other = threading.Thread(target=write)
+                other.start()
+                other.join()
+
+            steps = {"poll": poll_and_start, "join": lambda: (thread.join(), touch("end"))}
+            in_turn(*(steps[way] for way in ways))
+
+        for ways in (("poll",), ("join", "poll"), ("poll", "join"), ("join", "poll", "join")):
+            with self.subTest(ways=ways):
+                found = self.races(lambda: scenario(*ways))
+                self.assertEqual({race.thing for race in found.possible}, {"x"}, found.text())
+                self.assertFalse(found.unseen, found.unseen)
+                self.assertFalse(found.races, found.text())
 
     def test_a_subclass_with_its_own_run_is_traced(self) -> None:
         class Worker(threading.Thread):

@@ -22,6 +22,7 @@ from ..model.sources import Sources
 from ..record.journal import DeadlockTold, Row
 from ..session import Refused
 from .bit_matrix import transposed
+from .hand_overs import is_poll_of_library
 from .lock_waits import ACROSS, Found, Pattern, Place, number_of
 from .queue_waits import waits_in
 from .trace import Events, Trace, lock_events
@@ -249,7 +250,10 @@ def locks_of(rows: Iterable[Row], trace: Trace, signals: frozenset[str]) -> set[
     """
     across = {lock for lock in map(number_of, signals) if lock.startswith(ACROSS)}
     handed_over = ((row.event, row.lock or row.guard) for row in rows)
-    told = {event for event, lock in handed_over if lock is not None and number_of(lock) not in across}
+    told = {
+        event for event, lock in handed_over
+        if lock is not None and number_of(lock) not in across and not is_poll_of_library(lock)
+    }
     received = {trace[number].name for number in told if trace[number].kind == "recv"}
     return lock_events(trace, told) | {
         event.number for event in trace.events if event.kind in ("send", "recv") and event.name in received

@@ -15,6 +15,8 @@ from .trace import Events, Trace, lock_events
 
 NO_LOCKS = ("a permit", POLL)
 """So begin the names of what is handed over and is no lock."""
+SEEN_ENDS = ("join", "recv")
+"""So the events are called by which a task sees that another one is over: the first that sees it joins."""
 _OF_PERMITS = frozenset((SEMAPHORE.giving, SEMAPHORE.taking))
 
 
@@ -36,13 +38,14 @@ def is_poll_of_library(name: str) -> bool:
 def _without_lock(row: Row) -> str | None:
     if row.label in _OF_PERMITS:
         return "# a permit"
-    return f"# {POLL}{row.place}" if row.kind == "join" and row.label.startswith(POLLED) else None
+    is_poll = row.kind in SEEN_ENDS and row.label.startswith(POLLED)
+    return f"# {POLL}{row.place}" if is_poll else None
 
 
 def events_without_order(trace: Trace, hand_overs: Iterable[int]) -> set[int]:
     """The messages by which something is handed over, and the polls."""
     numbers = set(hand_overs)
-    return lock_events(trace, numbers) | {number for number in numbers if trace[number].kind == "join"}
+    return lock_events(trace, numbers) | {number for number in numbers if trace[number].kind in SEEN_ENDS}
 
 
 def known_without(trace: Trace, without: set[int]) -> list[Events]:

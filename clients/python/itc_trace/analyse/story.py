@@ -6,7 +6,7 @@ from collections.abc import Callable, Iterable, Iterator
 
 from ..model.conflicts import MAKING
 from ..model.finding import Step, Story
-from ..model.lines import RESULT
+from ..model.lines import END, RESULT
 from ..model.sources import Sources
 from ..record.dividing import GOES_ON
 from ..record.journal import Row
@@ -131,8 +131,10 @@ def _step(place: tuple[int, int], rows: list[Row]) -> Step:
 
 
 def _is_own(row: Row) -> bool:
-    """Whether no line of the program does this: a part begins with it, or it keeps the order of ended threads."""
-    return not row.file and (row.label == GOES_ON or row.kind == "join" and row.label == RESULT.taking)
+    """Whether no line of the program does this: a part begins with it, it keeps the order of ended threads, or it tells
+    several of an end."""
+    is_of_ends = (row.kind, row.label) in (("join", RESULT.taking), ("send", END.giving))
+    return not row.file and (row.label == GOES_ON or is_of_ends)
 
 
 def _place(row: Row) -> tuple[int, int]:

@@ -61,6 +61,8 @@ EXIT = What("exit", "register exit", "run at exit")
 WORKER = What("ready", "initialise worker", "run in worker")
 POLLED = "see the end of "
 """So begins the label of a join by a task that only asks whether the other one is over."""
+END_OF_PROCESS = "end"
+"""So ends the name of the message which a child process sends last, for all but the first who wait for its end."""
 OUTSIDE = What("out", "send to another process", "receive from another process")
 
 
@@ -115,18 +117,18 @@ class Gathering(Protocol):
 
 
 class Line:
-    """The events of one task, in their order. All but the first twelve fields belong to the thread that reports.
+    """The events of one task, in their order. All but the first thirteen fields belong to the thread that reports.
 
     `held` has the locks that the task holds now, in the order of their acquiring.
     """
 
     __slots__ = (
         "number", "tracer", "hint", "waiting", "reference", "must_finish", "held", "lent", "section", "job", "loop_run",
-        "pool",
-        "name", "count", "message", "lock", "sent", "pending", "most_pending", "known", "known_by_locks",
+        "pool", "is_awaited",
+        "name", "count", "message", "lock", "pending", "most_pending", "known", "known_by_locks",
         "parent", "parent_count",
         "touches",
-        "end_token", "is_finished", "has_ended", "is_gone", "joined_by", "joined_at", "joined", "first_taker",
+        "end_token", "is_finished", "has_ended", "is_gone", "is_known_to_all", "joined_by", "first_taker",
         "is_forgotten", "is_process", "starter", "children", "nursery",
     )
 
@@ -141,8 +143,10 @@ class Line:
         """The pool's job that is done in it, if there are too many jobs for each to be a task of its own."""
         self.loop_run: Gathering | None = None
         """The run of a loop in which a task of asyncio took its last step."""
-        self.pool: weakref.ref[Any] | None = None
-        """The pool whose job it is. Whoever waits for the pool's end comes after it."""
+        self.pool: Line | None = None
+        """The task that takes in the jobs of the pool, if it is one of them. The end of the pool comes after it."""
+        self.is_awaited = False
+        """Whether the end of the program comes after it."""
         self.held: tuple[LockIdentity, ...] = ()
         self.lent: tuple[LockIdentity, ...] = ()
         """The locks that the task held which started it."""
@@ -154,7 +158,6 @@ class Line:
         self.message: str | None = None
         self.lock: LockOrAsking | None = None
         """The lock that the message is of."""
-        self.sent: list[tuple[int, str]] = []
         self.pending: list[Token] = []
         """The tokens that were noted behind its last event, and are of no message yet."""
         self.most_pending = MOST_PENDING
@@ -169,9 +172,9 @@ class Line:
         self.is_finished = False
         self.has_ended = False
         self.is_gone = False
+        self.is_known_to_all = False
+        """Whether all tasks come after its end that may still ask for it."""
         self.joined_by: Line | None = None
-        self.joined_at = 0
-        self.joined: list[Line] = []
         self.first_taker: Line | None = None
         self.is_forgotten = False
         """Whether it ended in an earlier part of the run, and is no more known to the collector."""

@@ -10,6 +10,7 @@ _awaited: list[Line] = []
 
 
 def await_at_exit(line: Line) -> None:
+    line.is_awaited = True
     _awaited.append(line)
 
 

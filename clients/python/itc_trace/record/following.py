@@ -18,7 +18,7 @@ from types import FrameType
 from typing import Any, NamedTuple, Protocol
 
 from ..model.file_names import name_of_file
-from ..model.lines import CHILD, JOIN, Line, Reporter, state
+from ..model.lines import CHILD, END, END_OF_PROCESS, JOIN, Line, Reporter, Token, state
 from .noting import current
 from ..model.frames import frame_at, place_of
 from .shared_names import PREFIX, SharedNames
@@ -250,6 +250,8 @@ def begin(hint: str, how: str, depth: int) -> Begun | None:
     if not waiter.wait(ANSWER_SECONDS):
         return None
     tag, names = _fresh_tag(tracer), shared_names()
+    end = line.end_token = Token(line, END, None, 0)
+    end.count, end.message = 1, f"{tag}_{END_OF_PROCESS}"
     process = ChildProcess(
         tracer.port, traced.host, traced.tenant, os.path.abspath(traced.journal), line.name, tag, tracer.part,
         _following.folders, _following.packages, None if names is None else names.path, _following.asked,

@@ -8,10 +8,12 @@ from collections.abc import Callable
 from sys import getrefcount
 from types import CodeType
 
-from ..model.lines import END, GONE, JOIN, MOST_PENDING, POLLED, RESULT, TAKE, TAKE_END, Line, Note, Reporter, Token
+from ..model.lines import (
+    END, END_OF_PROCESS, GONE, JOIN, MOST_PENDING, POLLED, RESULT, TAKE, TAKE_END, Line, Note, Reporter, Token,
+)
 from ..model.lock_identity import Asking, LockIdentity, LockOrAsking
 from ..model.loop_runs import STOPS, LoopRun
-from ..model.verdict import Cause
+from ..model.verdict import Cause, Unseen
 from .awaited import await_at_exit, take_awaited
 from .names import Names
 from .nurseries import Nurseries
@@ -47,11 +49,16 @@ def _number(line: Line) -> int:
 
 
 def _is_for_pool(line: Line) -> bool:
-    """Whether it is a job after which whoever waits for the end of its pool will come, and nobody has joined it yet.
+    """Whether it is a job that the keeper of its pool will take in, and nobody has joined it yet.
 
     Whoever takes its result comes after a message of it. If he joined it, the end of the pool came after him, too.
     """
-    return line.pool is not None and line.joined_by is None and line.pool() is not None
+    return line.pool is not None and line.joined_by is None and not line.pool.is_gone
+
+
+def _is_thread_to_end(line: Line) -> bool:
+    """Whether it is a thread that does nothing more, and that nobody has seen to be over yet."""
+    return line.end_token is not None and line.end_token.what is END and not line.has_ended
 
 
 class OrderOfTasks:
@@ -68,10 +75,14 @@ class OrderOfTasks:
         self._give_up = give_up
         self._message_numbers = itertools.count(1)
         self._finished: list[Line] = []
+        self._going_on = 1
+        """How many tasks of this process may still do something."""
         self._takes_left: defaultdict[Line, int] = defaultdict(int)
         """How often each task is still waited for, by the notes that are looked at."""
         self._gone_soon: set[Line] = set()
         self._keeper: Line | None = None
+        self._polled: set[tuple[Line, Line]] = set()
+        """Which tasks have seen by a poll of the library that another one is over, by the message of its end."""
         self.nurseries = Nurseries(reporter, reports, names, self._message_numbers.__next__)
 
     def look_ahead(self, batch: deque[tuple[float, Note]]) -> None:
@@ -101,6 +112,7 @@ class OrderOfTasks:
     def forget_ended(self) -> None:
         """At a border: what has ended is finished for good."""
         self._finished = [line for line in self._finished if not line.has_ended]
+        self._polled.clear()
 
     def _is_waited_for(self, line: Line) -> None:
         """One of those who wait for it is being looked after."""
@@ -124,8 +136,6 @@ class OrderOfTasks:
 
     def _sent(self, line: Line, message: str, lock: LockOrAsking | None) -> None:
         line.message, line.lock = message, lock
-        if lock is None:
-            line.sent.append((line.count, message))
         if self._parts is not None:
             self._parts.sent(message, lock, [token for token in line.pending if token.what.lock is lock])
         others = []
@@ -137,11 +147,11 @@ class OrderOfTasks:
                 others.append(token)
         line.pending = others
 
-    def leave(self, line: Line, only_locks: bool = False) -> None:
+    def leave(self, line: Line) -> None:
         """Before the line goes on: where somebody may still take one of its tokens, they become a message."""
         while line.pending:
             for token in line.pending:
-                if getrefcount(token) > REFERENCES_OF_NOBODY and (token.what.lock is not None or not only_locks):
+                if getrefcount(token) > REFERENCES_OF_NOBODY and token is not line.end_token:
                     break
             else:
                 break
@@ -153,10 +163,7 @@ class OrderOfTasks:
         assert token.message is not None
         lock = token.what.lock
         self._reports.report(line, "recv", token.message, code, instruction, token.what.taking, lock)
-        if lock is None:
-            line.known[token.line] = token.count
-        else:
-            line.known_by_locks[token.line, lock] = token.count
+        self._learns(line, token.line, token.count, lock)
 
     def mark(self, token: Token) -> None:
         line = token.line
@@ -178,15 +185,16 @@ class OrderOfTasks:
         source = token.line
         if source is line or self._knows(line, source, token.count) or self._knows_by_lock(line, token):
             return
+        if token is source.end_token and _is_thread_to_end(source):
+            self._end_thread_for(line, source)
+        elif token.message is None and not source.has_ended and self._is_last_taker(source, token):
+            self.leave(source)
+            self.end(source, token.what.giving)
+        is_to_join = token is source.end_token and source.joined_by is None
+        if source.has_ended and (token.message is None or is_to_join):
+            self._take_ended(line, source, code, instruction, token.what.taking)
+            return
         if token.message is None:
-            if source.has_ended:
-                self._take_ended(line, source, code, instruction, token.what.taking)
-                return
-            if self._is_last_taker(source, token):
-                self.leave(source, only_locks=True)
-                self.end(source, token.what.giving)
-                self._join_now(line, source, code, instruction, token.what.taking)
-                return
             self._send(source, token)
         if source.first_taker is None and token is source.end_token:
             source.first_taker = line
@@ -203,12 +211,14 @@ class OrderOfTasks:
 
     def _knows_by_lock(self, line: Line, token: Token) -> bool:
         """Whether the line has taken the lock from the other one since."""
-        lock = token.what.lock
-        return lock is not None and line.known_by_locks.get((token.line, lock), -1) >= token.count
+        return self._knows_by_luck(line, token.line, token.what.lock, token.count)
+
+    def _knows_by_luck(self, line: Line, source: Line, lock: LockOrAsking | None, count: int) -> bool:
+        return lock is not None and line.known_by_locks.get((source, lock), -1) >= count
 
     def _is_last_taker(self, source: Line, token: Token) -> bool:
         """Whether the task is finished, and nobody but whoever asks now can wait for it."""
-        is_at_end = source.is_finished and token.count == source.count and token.what.lock is None
+        is_at_end = source.is_finished and token is source.end_token and token.count == source.count
         return is_at_end and not self.may_be_asked_for(source) and not _is_for_pool(source)
 
     def take_end(self, line: Line, source: Line, code: CodeType | None, instruction: int) -> None:
@@ -224,10 +234,12 @@ class OrderOfTasks:
         if not line.is_finished:
             line.is_finished = True
             self._finished.append(line)
+            self._going_on -= 1
 
     def spawn(self, parent: Line, child: Line, code: CodeType | None, instruction: int) -> Outstanding:
         self.leave(parent)
         child.name = self._names.new(child.hint)
+        self._going_on += not child.is_process
         report = self.nurseries.spawn(parent, child, code, instruction)
         if self._parts is not None:
             self._parts.add(child)
@@ -235,35 +247,48 @@ class OrderOfTasks:
         child.known[parent] = parent.count
         return report
 
-    def finish(self, line: Line, ends: bool, is_awaited: bool) -> None:
-        """The task does nothing more.
-
-        A thread ends at once, where several wait for it with a message for all of them.
-        """
+    def finish(self, line: Line, ends: bool) -> None:
+        """The task does nothing more. A thread ends once somebody sees that, or nobody can."""
         self._is_done(line)
-        if not ends:
-            if line.is_gone:
-                self.gone(line)
-            return
-        if is_awaited:
+        if ends:
+            self.leave(line)
             line.end_token = Token(line, END, None, 0)
             self.mark(line.end_token)
-            if line.end_token.message is None:
-                self._send(line, line.end_token)
-        elif self._tells_of_others(line):
-            self._send(line, Token(line, END, None, 0))
-        self.leave(line)
-        self.end(line, END.giving)
+        if line is self._reporter.main:
+            self._reports.report(line, "send", f"{self._reporter.prefix}{END_OF_PROCESS}", None, 0, END.giving)
+        if line.is_gone:
+            self.gone(line)
 
-    def _tells_of_others(self, line: Line) -> bool:
-        """Whether somebody may still wait for a task that this one has taken in, and finds no message sent since."""
-        last = line.sent[-1][0] if line.sent else 0
-        return any(child.joined_at > last and self.may_be_asked_for(child) for child in line.joined)
+    def end_threads(self) -> None:
+        """At a border: the threads that do nothing more end, with a message for those who may wait for them later."""
+        for line in self._finished:
+            if _is_thread_to_end(line):
+                self._end_thread(line, self.may_be_asked_for(line))
 
-    def end(self, line: Line, label: str) -> None:
+    def _end_thread_for(self, line: Line, child: Line) -> None:
+        """The line has seen that the thread is over. If others may see that too, they come after a message.
+
+        If no other task goes on, this one starts all that are to come, and they know what it knows.
+        """
+        child.is_known_to_all = self._going_on == 1
+        is_for_main = child.is_awaited and not self._is_awaited(line)
+        self._end_thread(child, not child.is_known_to_all and (is_for_main or self.may_be_asked_for(child)))
+
+    def _end_thread(self, line: Line, is_told: bool) -> None:
+        token = line.end_token
+        assert token is not None
+        if is_told and token.message is None:
+            self._send(line, token)
+        self.end(line, END.giving, token.time)
+
+    def _is_awaited(self, line: Line) -> bool:
+        """Whether the end of the program comes after this task."""
+        return line.is_awaited or line is self._reporter.main
+
+    def end(self, line: Line, label: str, time: float = 0.0) -> None:
         if not line.has_ended:
             line.has_ended = True
-            self._reports.report(line, "end", "", None, 0, label)
+            self._reports.report(line, "end", "", None, 0, label, None, time)
             line.pending.clear()
 
     def join(
@@ -273,13 +298,14 @@ class OrderOfTasks:
         self._is_waited_for(child)
         if child.is_process:
             child.has_ended, child.count = True, 1
-        if not child.has_ended or child is line or self._knows(line, child, max(child.count, 1)):
+        count, luck = max(child.count, 1), poll if isinstance(poll, Asking) else None
+        if child is line or self._knows(line, child, count) or self._knows_by_luck(line, child, luck, count):
             return
-        if child.joined_by is not None and child.end_token is not None:
-            self._come_after(line, child.end_token, code, instruction)
-        else:
+        if _is_thread_to_end(child):
+            self._end_thread_for(line, child)
+        if child.has_ended:
             label = f"{POLLED if poll else 'join '}{child.name}"
-            self._take_ended(line, child, code, instruction, label, poll if isinstance(poll, Asking) else None)
+            self._take_ended(line, child, code, instruction, label, luck)
 
     def _join_now(
         self, line: Line, child: Line, code: CodeType | None, instruction: int, label: str, poll: Asking | None = None,
@@ -287,41 +313,52 @@ class OrderOfTasks:
         self.leave(line)
         report = self._reports.report(line, "join", child.name, code, instruction, label, poll)
         report.may_be_refused = child.is_process
-        child.joined_by, child.joined_at = line, line.count
+        child.joined_by = line
         self.nurseries.joined(line, child)
         if child.loop_run is not None:
             child.loop_run.lines.discard(child)
-        line.joined.append(child)
-        line.known[child] = child.count
+        self._learns(line, child, child.count, poll)
+
+    def _learns(self, line: Line, child: Line, count: int, lock: LockOrAsking | None) -> None:
+        """The line comes after so many events of the other one: by luck, if that was by a lock or by a poll."""
+        if lock is None:
+            line.known[child] = count
+        else:
+            line.known_by_locks[child, lock] = count
 
     def _take_ended(
         self, line: Line, child: Line, code: CodeType | None, instruction: int, label: str, poll: Asking | None = None,
     ) -> None:
+        token = child.end_token
         if child.is_forgotten:
             self._give_up(
                 Cause.FULL, f"{child.name} was waited for long after its end, when its part of the trace had been left",
             )
         elif child.joined_by is None:
             self._join_now(line, child, code, instruction, label, poll)
-        else:
-            self._take_late(line, child, code, instruction)
+        elif token is not None and token.message is not None:
+            if not self._knows(line, child, token.count) and (line, child) not in self._polled:
+                self._receive_end(line, child, token, code, instruction, label, poll)
+        elif not (child.is_known_to_all or self._is_known_at_exit(line, child.joined_by)):
+            text = f"{child.name} was waited for by one more than could be known, and this is in no order with it"
+            self._reporter.miss(Unseen(Cause.TRACER, text))
 
-    def _take_late(self, line: Line, child: Line, code: CodeType | None, instruction: int) -> None:
-        """Another task has joined this one already:
-        the line comes after the first message that the joiner sent since."""
-        joiner = child.joined_by
-        if joiner is None or joiner is line:
-            return
-        token = Token(joiner, END, code, instruction)
-        token.count = child.joined_at
-        for count, message in joiner.sent:
-            if count >= child.joined_at:
-                token.count, token.message = count, message
-                break
-        if token.message is None and not joiner.has_ended:
-            self.mark(token)
-        if token.message is not None or not joiner.has_ended:
-            self._come_after(line, token, code, instruction)
+    def _is_known_at_exit(self, line: Line, joiner: Line) -> bool:
+        """Whether the line stands for the end of the program, and so comes after a task that has joined another one."""
+        return line in (self._reporter.main, self._keeper) and self._is_awaited(joiner)
+
+    def _receive_end(
+        self, line: Line, child: Line, end: Token, code: CodeType | None, instruction: int, label: str,
+        poll: Asking | None,
+    ) -> None:
+        """Another task has joined the child: the line comes after the message of its end."""
+        assert end.message is not None
+        self.leave(line)
+        report = self._reports.report(line, "recv", end.message, code, instruction, label, poll)
+        report.may_be_refused = child.is_process
+        self._learns(line, child, end.count, poll)
+        if poll is not None:
+            self._polled.add((line, child))
 
     def gone(self, line: Line) -> None:
         """Nobody can wait for the task any more: it ends, and its place in the clock goes to whoever waited first."""
@@ -331,9 +368,11 @@ class OrderOfTasks:
         self._is_done(line)
         if line.has_ended or not line.name:
             return
-        self.leave(line, only_locks=True)
-        self.end(line, END.giving)
+        self.leave(line)
+        self.end(line, END.giving, 0.0 if line.end_token is None else line.end_token.time)
         taker = None if _is_for_pool(line) else line.first_taker
+        if line.is_awaited and taker is not None and not self._is_awaited(taker):
+            return  # The end of the program joins it.
         if taker is not None and not taker.is_finished and not taker.has_ended:
             self._join_now(taker, line, None, 0, f"join {line.name}")
 

@@ -219,7 +219,7 @@ class Tracer:
         if not self._reports.is_over:
             if ends:
                 self.main.section = None
-                self._note_now((FINISH, self.main, True, False))
+                self._note_now((FINISH, self.main, True))
             self._note_now((STOP,))
             self.hurry()
             self._await(self._ended)
@@ -462,6 +462,7 @@ class Tracer:
     def _divide(self, parts: Parts) -> None:
         """Leaves a trace that is nearly full, and goes on in a new one with what may still give order."""
         self._hold_back(MOST_WAITING)
+        self._order.end_threads()
         self._order.keep_ended()
         self._order.keep_ended_of_loops(parts.lines)
         self._order.nurseries.end()

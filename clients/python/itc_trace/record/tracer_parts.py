@@ -123,7 +123,7 @@ class Parts:
         held = [task for task in ended if task not in there and self._is_held(task)]
         left, taken = [*held, *asked_for][:-MOST_ENDED], [*held, *asked_for][-MOST_ENDED:]
         for task in left:
-            self._lines[task].is_forgotten = True
+            self._lines[task].is_forgotten, self._lines[task].end_token = True, None
         return set(taken)
 
     def _is_over(self, task: str, may_be_asked_for: Callable[[Line], bool]) -> bool:
@@ -146,12 +146,11 @@ class Parts:
         self._lines = {task: line for task, line in self._lines.items() if task in tasks}
         for line in self._lines.values():
             line.message = line.lock = line.joined_by = line.starter = line.nursery = None
-            line.joined_at, line.sent, line.children = 0, [], 0
+            line.children = 0
 
 
 def _forget_gone(line: Line) -> None:
     """Forgets what the line knows of those that are gone. If one is asked for all the same, that is told once more."""
-    line.joined = []
     if line.has_ended:
         line.section = None  # Its thread does not come back to it.
     if line.parent is not None and (line.parent.has_ended or line.count and not line.has_ended):

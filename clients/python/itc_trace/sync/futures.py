@@ -20,7 +20,7 @@ from ..record.noting import current, enter, joining, local, mark, starting, take
 from ..model.frames import frame_at, is_internal, place
 from ..record.messages import incoming_at
 from .base import Patches, like, named_like
-from .jobs_of_pools import JobsOfPool
+from .jobs_of_pools import JobsOfPool, jobs_of
 from .left_behind import Outcome, begun, taken
 from ..record.awaited import await_at_exit
 
@@ -276,9 +276,9 @@ def _begin_job(item: Any, future: Any, pool: Any, name: str) -> None:
     future._itc_line = item._itc_line = line
     item._itc_is_after_worker = getattr(pool, "_initializer", None) is not None
     starter = starting(line)
-    _jobs_of(pool).add(line, starter)
     await_at_exit(line)
     note((SPAWN, starter, line, *place(frame_at(4))))
+    jobs_of(pool).add(line)
 
 
 def _line_of_item(item: Any) -> Line | None:
@@ -298,15 +298,10 @@ def _line_of_item(item: Any) -> Line | None:
     line.watch(item.future)
     item.future._itc_line = item._itc_line = line
     item._itc_is_after_worker = False
-    _jobs_of(pool).add(line, tracer.parent_of_strangers)
     await_at_exit(line)
     note((SPAWN, tracer.parent_of_strangers, line, None, 0))
+    jobs_of(pool).add(line)
     return line
-
-
-def _jobs_of(pool: Any) -> JobsOfPool:
-    jobs: JobsOfPool = pool.__dict__.get("_itc_jobs") or pool.__dict__.setdefault("_itc_jobs", JobsOfPool(pool))
-    return jobs
 
 
 def _item_run(original: Any) -> Any:
@@ -338,7 +333,7 @@ def _item_run(original: Any) -> Any:
             if local.line is line:  # Else tracing has begun anew, and the thread has a line there.
                 enter(before)
             if note is not None and line.tracer is state.tracer:
-                note((FINISH, line, False, False))
+                note((FINISH, line, False))
 
     return run
 

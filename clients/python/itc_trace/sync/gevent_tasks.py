@@ -11,13 +11,12 @@ from typing import Any
 
 from ..model.frames import frame_at, is_internal, place
 from ..model.lines import CALL, Line, state
-from ..record.noting import current
 from .base import Patches, like, name_as
 from .greenlets import (
     FromHub, Place, begins, come_after, follow, gives, has_ended, has_hub, is_known,
 )
 from .handed_on import called, handed_at
-from .jobs_of_pools import JobsOfPool
+from .jobs_of_pools import jobs_of
 from .later import once_imported
 from .thread_jobs import Job, named_job
 
@@ -298,10 +297,7 @@ def _is_of_group(group: Any, greenlet: Any) -> None:
     line = None if known is None else known.valid_line()
     if line is None or line.pool is not None or state.note is None:
         return
-    jobs = group.__dict__.get("_itc_jobs")
-    if jobs is None:
-        jobs = group.__dict__.setdefault("_itc_jobs", JobsOfPool(group))
-    jobs.add(line, current())
+    jobs_of(group).add(line)
 
 
 def _join_group(original: Any) -> Any:

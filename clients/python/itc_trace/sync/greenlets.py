@@ -245,7 +245,7 @@ def has_ended(known: Known) -> None:
     known.is_over = True
     if line is not None and note is not None and not known.is_of_thread:
         line.section = None
-        note((FINISH, line, False, False))
+        note((FINISH, line, False))
 
 
 def come_after(one: Place, depth: int = 1) -> None:

@@ -105,7 +105,7 @@ class Job:
         if note is None or tracer is None:
             return None
         line = Line(tracer, f"{_name_of(self._function)}#")
-        line.must_finish = True
+        line.must_finish = line.is_gone = True  # Nobody waits for it but the end of this process.
         note((SPAWN, current(), line, None, 0))
         return line
 
@@ -125,7 +125,7 @@ def _ended(line: Line, worker: Line | None) -> str | None:
     note = state.note
     if note is not None and line.tracer is state.tracer:
         _done.append(line)
-        note((FINISH, line, True, False))
+        note((FINISH, line, True))
     return name
 
 

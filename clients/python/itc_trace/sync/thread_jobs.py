@@ -65,7 +65,7 @@ class Job:
             return
         enter(worker)
         if note is not None and line.tracer is state.tracer:
-            note((FINISH, line, False, False))
+            note((FINISH, line, False))
 
     def was_awaited(self) -> None:
         """From now on the current task comes after the job, if that is over."""

@@ -25,6 +25,7 @@ from ..record.messages import Sending, incoming_at
 from ..record.noting import current, enter, joining, line_of_now, local, mark, take
 from ..model.frames import frame_at, place
 from .base import Patches, like
+from .jobs_of_pools import JobsOfPool, jobs_of
 from .later import once_imported
 from .queues import plain_simple_queue
 
@@ -103,7 +104,9 @@ def _is_of_processes(pool: Any) -> bool:
 def _join(original: Any) -> Any:
     def join(self: Any) -> None:
         original(self)
-        _take_jobs(self.__dict__.get("_itc_jobs", ()))
+        jobs: JobsOfPool | None = self.__dict__.get("_itc_jobs")
+        if jobs is not None:
+            jobs.take(*_place())
 
     return join
 
@@ -185,7 +188,7 @@ class _Job:
         enter(self._worker)
         self._awaited.jobs[self._part] = line
         if note is not None:
-            note((FINISH, line, False, False))
+            note((FINISH, line, False))
 
 
 class _Jobs:
@@ -254,9 +257,9 @@ class _Jobs:
         line.lent = lent
         if result is not None:
             line.watch(result)
-        if pool is not None:
-            pool.__dict__.setdefault("_itc_jobs", []).append(line)
         note((SPAWN, parent, line, *_place()))
+        if pool is not None:
+            jobs_of(pool).add(line)
         return line
 
     def _parent(self, pool: Any, awaited: _Awaited) -> Line:

@@ -161,7 +161,7 @@ def _note_end(line: Line) -> None:
     note = state.note
     if note is not None and line.tracer is state.tracer:
         ended(line)
-        note((FINISH, line, True, line.waiting > 1))
+        note((FINISH, line, True))
 
 
 def _join(original: Any) -> Any:
@@ -230,7 +230,7 @@ def _note_join(thread: threading.Thread, line: Line, poll: Asking | bool = False
     if note is None or line.tracer is not state.tracer:
         return
     if thread.__dict__.pop("_itc_is_adopted", False):
-        note((FINISH, line, True, False))  # It began before tracing did, so nobody noted its end.
+        note((FINISH, line, True))  # It began before tracing did, so nobody noted its end.
     note((JOIN, joining(line), line, *place(frame_at(2)), poll))
 
 
@@ -242,6 +242,7 @@ def _start_plain(original: Any) -> Any:
         if note is None or is_internal(frame) or not callable(function):
             return original(function, *words)
         line = Line(state.tracer, getattr(function, "__name__", "thread") + "#")
+        line.must_finish = line.is_gone = True  # Nobody can wait for it.
         place_of_function = handed_at(function)
 
         def run(*args: Any, **kwargs: Any) -> None:

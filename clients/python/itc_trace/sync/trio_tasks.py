@@ -187,7 +187,7 @@ class Steps:
     def task_exited(self, task: Any) -> None:
         known, note = _tasks.pop(id(task), None), state.note
         if known is not None and note is not None and known.line.tracer is state.tracer:
-            note((FINISH, known.line, False, False))
+            note((FINISH, known.line, False))
             task.parent_nursery.__dict__.setdefault("_itc_lines", []).append(known.line)
 
 
