@@ -46,6 +46,35 @@ def own_process(*texts: str, **environment: str) -> str:
     return ran.stdout + ran.stderr
 
 
+FILLED_IN_MEANWHILE = """
+    import gc
+    from itc_trace.watch import things
+
+    class Box:
+        pass
+
+    def told_by_another(field, make, put):
+        def collecting(phase, told):
+            if phase == "start":
+                put(getattr(owner, field))
+
+        box = Box()
+        owner = things.owner_of(box, "box")
+        gc.disable()
+        gc.collect()
+        gc.callbacks.append(collecting)
+        kept = [make() for _ in range(2000)]
+        gc.enable()
+        found = getattr(owner, field)
+        gc.callbacks.remove(collecting)
+        print(field, len(found), len(getattr(owner, field)))
+
+    told_by_another("history", list, lambda marks: marks.append(1))
+    told_by_another("things", dict, lambda things: things.setdefault(1, Box()))
+    told_by_another("recipes", dict, lambda recipes: recipes.setdefault(1, 1))
+"""
+"""Another task comes as garbage is collected, which making a list or a dict may begin."""
+
 LOOKED_AT = """
     import resource, sys, threading
     from itc_trace import tracing
@@ -194,6 +223,12 @@ class BothForms(ProgramCase):
         """
         for form in FORMS.values():
             self.assertEqual(own_process(LOOKED_AT, text, ITC_TRACE_PURE=form), "False True\n")
+
+    @unittest.skipUnless(HAS_HELPER, NO_HELPER)
+    @unittest.skipIf(sys.version_info >= (3, 12), "this Python collects no garbage as something is made")
+    def test_what_another_task_touches_as_garbage_is_collected_is_not_lost(self) -> None:
+        told = own_process(FILLED_IN_MEANWHILE, ITC_TRACE_PURE="")
+        self.assertEqual(told, "history 1 1\nthings 1 1\nrecipes 1 1\n")
 
     def test_a_class_that_gets_a_descriptor_is_looked_at_anew(self) -> None:
         text = """

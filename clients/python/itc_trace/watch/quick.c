@@ -173,10 +173,23 @@ static void owner_dealloc(Owner *self)
 static PyObject *owner_called(Owner *self, PyObject *words, PyObject *named);
 static int leave_owner(Owner *owner);
 
+/* Takes over what was made for a field. Garbage may be collected as it is made, and another task fill the field in
+   meanwhile: then that stays. */
+static int fill_in(PyObject **field, PyObject *made)
+{
+    if (made == NULL)
+        return -1;
+    if (*field == NULL)
+        *field = made;
+    else
+        Py_DECREF(made);
+    return 0;
+}
+
 #define ON_DEMAND(field, make)                                        \
     static PyObject *owner_##field(Owner *self, void *closure)       \
     {                                                                 \
-        if (self->field == NULL && (self->field = make) == NULL)     \
+        if (self->field == NULL && fill_in(&self->field, make) < 0)  \
             return NULL;                                              \
         return Py_NewRef(self->field);                               \
     }
@@ -796,7 +809,7 @@ static Seen *begin_seen(Owner *owner, PyObject *stretch)
     if (seen == NULL)
         return NULL;
     if (!owner->is_shared) {
-        if (owner->history == NULL && (owner->history = PyList_New(0)) == NULL)
+        if (owner->history == NULL && fill_in(&owner->history, PyList_New(0)) < 0)
             goto fail;
         if (PyList_Append(owner->history, (PyObject *)seen) < 0)
             goto fail;
