@@ -29,7 +29,7 @@ from ..model.kinds import DICT, REFERRED, TYPES, WITH_ONE_INSIDE
 from .learned import OF_CLASSES, STORED_FIELDS
 from .places import DELETED, SKIPPED, Access
 
-SKIP, FIELD, OWN_FIELD, OF_CLASS, OF_TYPE, OF_MODULE, AS_KEY, OF_METHOD, OF_SUPER = range(9)
+SKIP, FIELD, OWN_FIELD, OF_CLASS, OF_TYPE, OF_MODULE, AS_KEY, OF_METHOD, OF_SUPER, OF_CLASS_ALONE = range(10)
 
 WATCHED: set[str] = set()
 """The names of the modules that were rewritten."""
@@ -490,8 +490,11 @@ def _decide_of_class(kind: type, owner: type, name: str, kinds: str) -> int:
     if type(value) is functools.cached_property:
         return FIELD  # The value stands in the object's own field, which others may drop.
     if _has(type(value), "__get__"):
-        is_hidden = kinds == "w" and not _has(type(value), "__set__")
-        return FIELD if is_hidden else OF_CLASS if _may_be_replaced(owner, name, kinds) else SKIP
+        stands_before_field = _has(type(value), "__set__")
+        if kinds == "w" and not stands_before_field:
+            return FIELD
+        of_class = OF_CLASS_ALONE if stands_before_field else OF_CLASS
+        return of_class if _may_be_replaced(owner, name, kinds) else SKIP
     if "w" in kinds and _has(kind, "__setattr__"):
         return OWN_FIELD
     return OF_CLASS

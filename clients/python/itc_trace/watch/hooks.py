@@ -43,10 +43,11 @@ from .both_languages import (
     OTHER, OWN_OR_OF_CLASS,
 )
 from .decisions import (
-    AS_KEY, BY_ELEMENTS, COMPOSED, FIELD, FILES, OF_CLASS, OF_METHOD, OF_MODULE, OF_SUPER, OF_TYPE, OWN_FIELD, PLAIN,
-    RESUMED, SKIP, STEPPED, VIEWS, WATCHED, class_with, decision, family_of, field_inside, fields_of, forget_decisions,
-    has_own_method, has_setter, has_watched_method, ids_of, is_bound_by_code, is_made, is_of, is_of_library,
-    is_other_container, is_watched_class, mro_of, name_of, value_of_element, value_of_field, vars_of, without_own,
+    AS_KEY, BY_ELEMENTS, COMPOSED, FIELD, FILES, OF_CLASS, OF_CLASS_ALONE, OF_METHOD, OF_MODULE, OF_SUPER, OF_TYPE,
+    OWN_FIELD, PLAIN, RESUMED, SKIP, STEPPED, VIEWS, WATCHED, class_with, decision, family_of, field_inside, fields_of,
+    forget_decisions, has_own_method, has_setter, has_watched_method, ids_of, is_bound_by_code, is_made, is_of,
+    is_of_library, is_other_container, is_watched_class, mro_of, name_of, value_of_element, value_of_field, vars_of,
+    without_own,
 )
 from .as_fields import FIELDS_OF, keep_fields_of, object_of
 from .comparing import compared_in
@@ -279,8 +280,11 @@ def _touch_field(one: Any, site: int, access: Access | None = None) -> None:
         _touch_type(one, access.name, kinds, mark, site)
     elif found == OF_SUPER:
         _touch_class_of_super(one, access.name, mark, site)
+    elif found == OF_CLASS_ALONE:
+        _touch_classes_of(one, access.name, mark, site)
     elif found == OF_CLASS and kinds == READ_ONLY and access.name not in fields_of(one):
-        _touch_through_object(one, access.name, mark, site)
+        _touch_classes_of(one, access.name, mark, site)
+        saw(owner_of(one, ""), mark, (field_late, mark, name_of(kind), access.name, READ_ONLY, site))
     elif found != OWN_FIELD or access.name in fields_of(one):
         is_in_place = not is_named and kinds == "rw" and access.text != ""
         if found == OF_CLASS and kinds == "rw" and access.name not in fields_of(one):
@@ -355,8 +359,8 @@ _class_of_super: Any = vars(super)["__self_class__"].__get__
 _first_of_super: Any = vars(super)["__thisclass__"].__get__
 
 
-def _touch_through_object(one: Any, name: str, mark: Any, site: int) -> None:
-    """The object is looked at first, and has none of its own. So are the classes before the one that has it."""
+def _touch_classes_of(one: Any, name: str, mark: Any, site: int) -> None:
+    """The class of an object that has the attribute, and those that are looked at before."""
     kind = type(one)
     holder = class_with(kind, name)
     for base in mro_of(kind):
@@ -364,7 +368,6 @@ def _touch_through_object(one: Any, name: str, mark: Any, site: int) -> None:
             saw(owner_of(base, ""), mark, (field_late, mark, name_of(base), name, READ_ONLY, site))
         if base is holder:
             break
-    saw(owner_of(one, ""), mark, (field_late, mark, name_of(kind), name, READ_ONLY, site))
 
 
 def _touch_in_place(value: Any, kind: str, site: int) -> None:
