@@ -966,5 +966,32 @@ class Gevent(ProgramCase):
         self.assertGreater(plain.stdout.count("Traceback"), 5)
 
 
+TABLE = """
+import sys
+from concurrent.futures import ThreadPoolExecutor
+from greenlet import getcurrent
+main, counts = getcurrent(), {}
+def work(number):
+    me = main if "main" in sys.argv else getcurrent()
+    counts[me] = counts.get(me, 0) + number
+with ThreadPoolExecutor(2) as pool:
+    for job in [pool.submit(work, number) for number in range(6)]:
+        job.result()
+print(sum(counts.values()))
+"""
+
+
+@needs("python3-greenlet", "greenlet")
+class TablesByGreenlet(ProgramCase):
+    """Threads without gevent have a greenlet each, by which libraries keep what is the thread's own."""
+
+    def test_the_element_of_a_greenlet_belongs_to_the_thread_that_runs_it(self) -> None:
+        for words, due in (([], []), (["main"], ["counts[a greenlet]"])):
+            for pure in ("", "1"):
+                ran = run_traced(self.program(TABLE), *words, python=python_with("greenlet"), ITC_TRACE_PURE=pure)
+                self.assertEqual(ran.stdout, "15\n", ran.stderr)
+                self.assertEqual(sorted(set(racing(ran.stderr))), due, ran.stderr)
+
+
 if __name__ == "__main__":
     unittest.main()

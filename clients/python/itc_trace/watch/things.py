@@ -8,6 +8,8 @@ from __future__ import annotations
 
 import os
 import re
+import sys
+import threading
 import weakref
 from _thread import get_ident
 from builtins import id, len, list, next, repr, type
@@ -24,7 +26,7 @@ from ..model.lines import Line, Touched, state
 from ..record.noting import line_of_now
 from ..model.stretches import SITES
 from .both_languages import LOOKED_THROUGH, MOST_HELD, MOST_MADE
-from .decisions import fields_of, name_of
+from .decisions import fields_of, is_of, name_of
 from .helper import quick
 from .holding import OLDEST, REFERENCES_OF_HELD, Held
 from .keys import UNKNOWN
@@ -77,8 +79,9 @@ class Element:
 
     @property
     def identity(self) -> int:
-        """The number that is its key, which may be the identity of a thread."""
-        return self._key if type(self._key) is int else 0
+        """The number that is its key, which may be the identity of a thread, or the identity of one that its key
+        stands for."""
+        return self._key.thread if type(self._key) is KeyOfType else self._key if type(self._key) is int else 0
 
     @property
     def group(self) -> str:
@@ -92,7 +95,9 @@ class Element:
 class KeyOfType(str):
     """Stands for a key that is not looked at."""
 
-    __slots__ = ()
+    __slots__ = ("thread",)
+    thread: int
+    """The identity of the thread that the key stands for. 0 if it is another key."""
 
 
 class Made(NamedTuple):
@@ -380,7 +385,17 @@ def mark_of(key: Any, value: Any) -> tuple[Any, Any]:
     if value is key:
         return (key,), key
     told = KeyOfType(f"a {name_of(type(key))}")
+    told.thread = _thread_of(key)
     return (("object", id(key)), told) if value is UNKNOWN else ((value,), told)
+
+
+def _thread_of(key: Any) -> int:
+    """The identity of the thread that a `Thread` stands for, or the greenlet that this thread runs now."""
+    if is_of(type(key), threading.Thread):
+        return fields_of(key).get("_ident") or 0
+    greenlets = sys.modules.get("greenlet")
+    now = None if greenlets is None else fields_of(greenlets).get("getcurrent")
+    return get_ident() if now is not None and now() is key else 0
 
 
 def element_of(owner: Owner, mark: Any, key: Any, told: dict[Any, Touched], line: Line | None) -> Element:
