@@ -367,7 +367,8 @@ def _field_named(owner: Owner, class_name: str, name: str) -> str:
     return f"{class_name}.{name}"
 
 
-SHAPE = ("shape",)
+SHAPE: Any = object()
+"""Stands for what no key is equal to: a mark of an element is its key in a tuple."""
 
 
 def shape_of(owner: Owner, told: dict[Any, Touched], line: Line | None) -> Thing:
