@@ -29,7 +29,7 @@ from ..model.kinds import DICT, REFERRED, TYPES, WITH_ONE_INSIDE
 from .learned import OF_CLASSES, STORED_FIELDS
 from .places import DELETED, SKIPPED, Access
 
-SKIP, FIELD, OWN_FIELD, OF_CLASS, OF_TYPE, OF_MODULE, AS_KEY, OF_METHOD, OF_SUPER, OF_CLASS_ALONE = range(10)
+SKIP, FIELD, OWN_FIELD, OF_CLASS, OF_TYPE, OF_MODULE, AS_KEY, OF_METHOD, OF_SUPER, OF_CLASS_ALONE, OF_LOCAL = range(11)
 
 WATCHED: set[str] = set()
 """The names of the modules that were rewritten."""
@@ -409,7 +409,9 @@ def _decide(kind: type, name: str, kinds: str) -> int:
         return OF_MODULE
     if issubclass(kind, type):
         return OF_TYPE
-    if issubclass(kind, threading.local) or is_of_the_package(kind):
+    if issubclass(kind, threading.local):
+        return OF_LOCAL if "r" in kinds and class_with(kind, "__init__") is object else SKIP
+    if is_of_the_package(kind):
         return SKIP
     owner = class_with(kind, name)
     if _finds_keys(kind, kinds, owner is None):

@@ -65,6 +65,13 @@ def hand_over(one: Any, more: int, places: int) -> None:
                 owner.seen = NEVER
 
 
+def owners_if_alone(one: Any, more: int) -> list[Owner]:
+    """Those of a value and of what only it refers to, if no more refer to it than are expected."""
+    found: list[Owner] = []
+    _gather(one, more, 0, found, 0)
+    return found
+
+
 def _gather(one: Any, more: int, places: int, found: list[Owner], depth: int) -> None:
     """Adds the owners of the value, and of what only the value refers to."""
     owner = OWNERS.get(id(one))

@@ -43,8 +43,8 @@ from .both_languages import (
     OTHER, OWN_OR_OF_CLASS,
 )
 from .decisions import (
-    AS_KEY, BY_ELEMENTS, COMPOSED, FIELD, FILES, OF_CLASS, OF_CLASS_ALONE, OF_METHOD, OF_MODULE, OF_SUPER, OF_TYPE,
-    OWN_FIELD, PLAIN, RESUMED, SKIP, STEPPED, VIEWS, WATCHED, class_with, decision, family_of, field_inside, fields_of,
+    AS_KEY, BY_ELEMENTS, COMPOSED, FIELD, FILES, OF_CLASS, OF_CLASS_ALONE, OF_LOCAL, OF_METHOD, OF_MODULE, OF_SUPER,
+    OF_TYPE, OWN_FIELD, PLAIN, RESUMED, SKIP, STEPPED, VIEWS, WATCHED, class_with, decision, family_of, field_inside, fields_of,
     forget_decisions, has_own_method, has_setter, has_watched_method, ids_of, is_bound_by_code, is_made, is_of,
     is_of_library, is_other_container, is_watched_class, mro_of, name_of, value_of_element, value_of_field, vars_of,
     without_own,
@@ -70,6 +70,7 @@ from .late import key as key_late
 from .late import named_field as field_late
 from .late import shape as shape_late
 from .matching import Matching, Touching
+from .of_threads import find_in_local
 from .passed_over import handed_on, keep_site
 from .places import ACCESSES, CASES, LOOPS, MADE_HERE, OF_BASE, SKIPPED, STATE_OF_PROCESS, Access
 from .rewrite import FINALIZER, OF_OBJECT, ON, PREFIX, REGISTERING
@@ -280,6 +281,8 @@ def _touch_field(one: Any, site: int, access: Access | None = None) -> None:
         _touch_type(one, access.name, kinds, mark, site)
     elif found == OF_SUPER:
         _touch_class_of_super(one, access.name, mark, site)
+    elif found == OF_LOCAL:
+        find_in_local(one, access.name)
     elif found == OF_CLASS_ALONE:
         _touch_classes_of(one, access.name, mark, site)
     elif found == OF_CLASS and kinds == READ_ONLY and access.name not in fields_of(one):

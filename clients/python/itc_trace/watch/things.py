@@ -48,13 +48,15 @@ LONGEST_KEY = 30
 class Thing:
     """A field, a variable, a cell, or the shape of a container."""
 
-    __slots__ = ("number", "name", "made", "is_gone")
+    __slots__ = ("number", "name", "made", "is_gone", "identity")
 
     def __init__(self, number: int, name: str, made: str) -> None:
         self.number = number
         self.name = name
         self.made = made
         self.is_gone = False
+        self.identity = 0
+        """That of the thread that keeps it in a `threading.local`."""
 
     @property
     def group(self) -> str:
@@ -64,11 +66,12 @@ class Thing:
 class Element:
     """An element of a container. Its name is only made if it is asked for."""
 
-    __slots__ = ("number", "is_gone", "_owner", "_key")
+    __slots__ = ("number", "is_gone", "_identity", "_owner", "_key")
 
     def __init__(self, number: int, owner: Owner, key: Any) -> None:
         self.number = number
         self.is_gone = False
+        self._identity = 0
         self._owner = owner
         self._key = key
 
@@ -79,9 +82,16 @@ class Element:
 
     @property
     def identity(self) -> int:
-        """The number that is its key, which may be the identity of a thread, or the identity of one that its key
-        stands for."""
-        return self._key.thread if type(self._key) is KeyOfType else self._key if type(self._key) is int else 0
+        """That of the thread that keeps it in a `threading.local`, or that its key stands for.
+
+        A number may be that of a thread.
+        """
+        of_key = self._key.thread if type(self._key) is KeyOfType else self._key if type(self._key) is int else 0
+        return self._identity or of_key
+
+    @identity.setter
+    def identity(self, identity: int) -> None:
+        self._identity = identity
 
     @property
     def group(self) -> str:
@@ -340,6 +350,8 @@ def _with_article(kind: str) -> str:
 def _added(owner: Owner, mark: Any, made: Any, told: dict[Any, Touched], line: Line | None) -> Any:
     """The thing of this mark. If two tasks come at once, the first one's stands for both."""
     thing = owner.things.setdefault(mark, made)
+    if KEPT in owner.things:
+        thing.identity = owner.things[KEPT].identity
     if thing is made and owner.maker is not None and owner.maker is line:
         told[MAKING, thing.number] = thing, MAKING, owner.site
     return thing
@@ -369,6 +381,8 @@ def _field_named(owner: Owner, class_name: str, name: str) -> str:
 
 SHAPE: Any = object()
 """Stands for what no key is equal to: a mark of an element is its key in a tuple."""
+KEPT: Any = object()
+"""Among the things of an owner, stands for the thread that keeps it in a `threading.local`."""
 
 
 def shape_of(owner: Owner, told: dict[Any, Touched], line: Line | None) -> Thing:
