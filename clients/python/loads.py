@@ -1,12 +1,13 @@
-"""Runs programs that work on services over the loopback interface: plain, traced, and with their client watched. Compares what they print.
+"""Runs programs that use packages of Debian in many threads or tasks: plain, traced, and with their package watched. Compares what they print.
 
-Usage: python3 clients/python/loads.py [--install] [--lists FOLDER] [LOAD..]
+Usage: python3 clients/python/loads.py [--install] [--lists FOLDER | --reports FOLDER] [LOAD..]
 
-The loads are redis, postgres and mosquitto. Each starts its service in a folder of its own, at a port that is free, and ends it. Those of
-django and waitress serve themselves. With --install it installs from Debian what it wants. A row of the table tells of the lines that were
-the same, and of the verdict. With --lists each load keeps the list of its watched run: with each pair of lines, as a file gets it, and as a
-usual terminal does. A row of the table has the lines of the first two, and the rows of that terminal that each of the three takes. The
-status is 1 if a line is another one.
+`load_programs.py` has the programs. One that works on a service starts it in a folder of its own, at a port that is free, and ends it. With
+--install it installs from Debian what it wants, and a load that lacks its package is left out and named. A row of the table tells of the
+lines that were the same, of each status, of the processor's seconds, and of what was found. The fourth run has a race planted, which has to be told. With --reports each
+load keeps the report of its watched run. With --lists it keeps the list of that run: with each pair of lines, as a file gets it, and as a
+usual terminal does. A row of the table then has the lines of the first two, and the rows of that terminal that each of the three takes. The
+status is 1 if a line is another one, or if a planted race is not told.
 """
 
 from __future__ import annotations
@@ -14,9 +15,11 @@ from __future__ import annotations
 import argparse
 import contextlib
 import fcntl
+import json
 import os
 import pty
 import pwd
+import resource
 import shutil
 import socket
 import struct
@@ -25,11 +28,12 @@ import sys
 import tempfile
 import termios
 import time
-from collections.abc import Callable, Iterator
+from collections.abc import Iterator
 from pathlib import Path
 from typing import NamedTuple
 
 from itc_trace.report.screen import Screen
+from load_programs import LOADS, Load
 
 PACKAGE = Path(__file__).resolve().parent
 PYTHON = "/usr/bin/python3"
@@ -40,175 +44,6 @@ SCREEN = Screen()
 PLAIN = {**os.environ, "PYTHONPATH": str(PACKAGE), "TERM": "dumb"}
 OWNER_OF_DATA = "postgres"
 """Postgres does not run as root."""
-
-IN_THREADS = """
-import sys, threading
-port = int(sys.argv[1])
-def in_threads(work, count=8):
-    threads = [threading.Thread(target=work, args=(number,)) for number in range(count)]
-    for thread in threads:
-        thread.start()
-    for thread in threads:
-        thread.join()
-"""
-OF_REDIS = IN_THREADS + """
-import redis
-pool = redis.ConnectionPool(host="127.0.0.1", port=port, max_connections=16)
-client = redis.Redis(connection_pool=pool)
-heard, lock = [], threading.Lock()
-def add(number):
-    for turn in range(20):
-        client.incr("count")
-        with client.pipeline() as pipeline:
-            pipeline.rpush("rows", number).hincrby("sums", number, turn).execute()
-    with client.lock("key", timeout=30):
-        client.set("last", int(client.get("last") or 0) + 1)
-def listen():
-    for message in listener.listen():
-        if message["type"] == "message":
-            with lock:
-                heard.append(int(message["data"]))
-            if len(heard) == 8:
-                return
-listener = client.pubsub()
-listener.subscribe("news")
-listener.get_message(timeout=30)
-listening = threading.Thread(target=listen)
-listening.start()
-in_threads(add)
-in_threads(lambda number: client.publish("news", number))
-listening.join()
-print(int(client.get("count")), client.llen("rows"), sorted((int(a), int(b)) for a, b in client.hgetall("sums").items()))
-print(int(client.get("last")), sorted(heard))
-try:
-    client.incr("rows")
-except redis.ResponseError as error:
-    print(error)
-"""
-OF_POSTGRES = IN_THREADS + """
-import psycopg2
-from psycopg2.pool import ThreadedConnectionPool
-pool = ThreadedConnectionPool(1, 8, host="127.0.0.1", port=port, user="postgres", dbname="postgres")
-def execute(text, *values):
-    connection = pool.getconn()
-    try:
-        with connection, connection.cursor() as cursor:
-            cursor.execute(text, values)
-            return cursor.fetchall() if cursor.description else None
-    finally:
-        pool.putconn(connection)
-execute("create table stock (id int primary key, n int); insert into stock select i, 100 from generate_series(1, 8) i")
-def sell(number):
-    for turn in range(20):
-        execute("update stock set n = n - 1 where id = %s", turn % 8 + 1)
-    try:
-        execute("insert into stock values (%s, 0)", number + 1)
-    except psycopg2.IntegrityError as error:
-        faults.append(type(error).__name__)
-faults = []
-in_threads(sell)
-print(execute("select id, n from stock order by id"), faults)
-pool.closeall()
-"""
-OF_MOSQUITTO = IN_THREADS + """
-import paho.mqtt.client as mqtt
-heard, lock, done, subscribed = [], threading.Lock(), threading.Event(), threading.Event()
-def on_message(client, data, message):
-    with lock:
-        heard.append(message.payload.decode())
-        if len(heard) == 80:
-            done.set()
-listener = mqtt.Client("listener")
-listener.on_message, listener.on_subscribe = on_message, lambda *_: subscribed.set()
-listener.connect("127.0.0.1", port)
-listener.subscribe("news/#", qos=1)
-listener.loop_start()
-subscribed.wait(60)
-def tell(number):
-    client = mqtt.Client(f"teller{number}")
-    client.connect("127.0.0.1", port)
-    client.loop_start()
-    for turn in range(10):
-        client.publish(f"news/{number}", f"{number} {turn}", qos=1).wait_for_publish()
-    client.loop_stop()
-    client.disconnect()
-in_threads(tell)
-print(done.wait(60))
-listener.loop_stop()
-listener.disconnect()
-print(len(heard), all([one for one in heard if one[0] == str(of)] == [f"{of} {turn}" for turn in range(10)] for of in range(8)))
-"""
-OF_DJANGO = IN_THREADS + """
-import io
-import django
-from django.conf import settings
-settings.configure(
-    DEBUG=False, SECRET_KEY="load", ALLOWED_HOSTS=["*"], ROOT_URLCONF=__name__, USE_TZ=True, USE_I18N=True,
-    MIDDLEWARE=["django.middleware.common.CommonMiddleware", "django.contrib.sessions.middleware.SessionMiddleware",
-                "django.middleware.locale.LocaleMiddleware", "django.middleware.csrf.CsrfViewMiddleware"],
-    SESSION_ENGINE="django.contrib.sessions.backends.cache",
-    CACHES={"default": {"BACKEND": "django.core.cache.backends.locmem.LocMemCache"}},
-    TEMPLATES=[{"BACKEND": "django.template.backends.django.DjangoTemplates", "OPTIONS": {"loaders": [
-        ("django.template.loaders.cached.Loader", [("django.template.loaders.locmem.Loader", {
-            "base.html": "<h1>{% block title %}{% endblock %}</h1>",
-            "shop.html": "{% extends 'base.html' %}{% load i18n %}{% block title %}{% trans 'Delete' %} {{ left|add:1 }} {{ when|date }}{% endblock %}",
-        })])]}}],
-)
-django.setup()
-from django import forms
-from django.core.cache import cache
-from django.core.handlers.wsgi import WSGIHandler
-from django.dispatch import Signal
-from django.http import HttpResponse
-from django.template import loader
-from django.urls import path, reverse
-from django.utils import timezone, translation
-sold = Signal()
-class Order(forms.Form):
-    name = forms.CharField(max_length=10)
-    count = forms.IntegerField(min_value=1)
-def shop(request, number):
-    request.session["seen"] = request.session.get("seen", 0) + 1
-    cache.set(f"n{number}", number)
-    cache.get_or_set("all", lambda: number)
-    form = Order({"name": "a", "count": number})
-    form.is_valid()
-    sold.send(sender=Order, number=number)
-    with translation.override("de" if number % 2 else "fr"):
-        text = loader.render_to_string("shop.html", {"left": number, "when": timezone.now()}, request)
-    return HttpResponse(text + str(form.errors) + reverse("shop", args=[number]))
-urlpatterns = [path("shop/<int:number>/", shop, name="shop")]
-handler = WSGIHandler()
-def ask(number):
-    for turn in range(3):
-        environ = {"REQUEST_METHOD": "GET", "PATH_INFO": f"/shop/{number}/", "SERVER_NAME": "h", "SERVER_PORT": "80",
-                   "HTTP_ACCEPT_LANGUAGE": "de", "wsgi.input": io.BytesIO(), "wsgi.url_scheme": "http"}
-        answer = handler(environ, lambda status, headers, info=None: None)
-        b"".join(answer)
-        answer.close()
-in_threads(ask)
-print(sorted(cache.get(f"n{number}") for number in range(8)))
-"""
-OF_WAITRESS = IN_THREADS + """
-import http.client
-import waitress.server
-def application(environ, start):
-    body = environ["wsgi.input"].read()
-    start("200 OK", [("Content-Length", str(len(body) + 3))])
-    return [b"ok ", body]
-server = waitress.server.create_server(application, host="127.0.0.1", port=0, threads=4)
-threading.Thread(target=server.run, daemon=True).start()
-answers = [0] * 8
-def ask(number):
-    connection = http.client.HTTPConnection("127.0.0.1", server.effective_port)
-    for turn in range(5):
-        connection.request("POST", f"/{number}", b"x" * 100 * number)
-        answers[number] += len(connection.getresponse().read())
-    connection.close()
-in_threads(ask, 4)
-print(answers)
-server.close()
-"""
 
 
 @contextlib.contextmanager
@@ -247,22 +82,8 @@ def postgres(folder: Path, port: int) -> contextlib.AbstractContextManager[None]
     return running([str(programs / "postgres"), "-D", str(data), "-p", str(port), *settings], cwd="/", **words)
 
 
-class Load(NamedTuple):
-    """A program, its service if it has one, and the package that is watched."""
-
-    program: str
-    service: Callable[[Path, int], contextlib.AbstractContextManager[None]] | None
-    client: str
-    packages: tuple[str, ...]
-
-
-LOADS = {
-    "redis": Load(OF_REDIS, redis, "redis", ("redis-server", "python3-redis")),
-    "postgres": Load(OF_POSTGRES, postgres, "psycopg2", ("postgresql", "python3-psycopg2")),
-    "mosquitto": Load(OF_MOSQUITTO, mosquitto, "paho", ("mosquitto", "python3-paho-mqtt")),
-    "django": Load(OF_DJANGO, None, "django", ("python3-django",)),
-    "waitress": Load(OF_WAITRESS, None, "waitress", ("python3-waitress",)),
-}
+SERVICES = {"redis": redis, "postgres": postgres, "mosquitto": mosquitto}
+PLANTED = "race on Planted.count"
 
 
 def free_port() -> int:
@@ -280,20 +101,49 @@ def wait_for(port: int) -> None:
         time.sleep(0.1)
 
 
-def ran(load: Load, *options: str) -> subprocess.CompletedProcess[str]:
+class Ran(NamedTuple):
+    """What a run printed and told, its status, and the seconds that it kept a processor busy."""
+
+    lines: list[str]
+    told: str
+    status: int
+    seconds: float
+
+
+def ran(load: Load, *options: str, word: str = "") -> Ran:
     """The program, with a service that is new."""
     with tempfile.TemporaryDirectory() as name:
         program, port = Path(name, "program.py"), free_port()
         program.write_text(load.program)
         with contextlib.ExitStack() as stack:
-            if load.service is not None:
-                stack.enter_context(load.service(Path(name), port))
+            if load.service:
+                stack.enter_context(SERVICES[load.service](Path(name), port))
                 wait_for(port)
                 time.sleep(1)  # Postgres listens before it takes anybody in.
             before = ["-m", "itc_trace", "run", *options] if options else []
             environment = {**os.environ, "PYTHONPATH": str(PACKAGE)}
-            words = [PYTHON, *before, str(program), str(port)]
-            return subprocess.run(words, capture_output=True, text=True, env=environment, timeout=LONGEST, check=False)
+            words = [PYTHON, *before, str(program), str(port), *([word] if word else [])]
+            began = processor_seconds()
+            one = subprocess.run(words, capture_output=True, text=True, env=environment, timeout=LONGEST, check=False)
+            seconds = processor_seconds() - began
+    return Ran(one.stdout.splitlines(), one.stderr, one.returncode, seconds)
+
+
+def processor_seconds() -> float:
+    """Those of all programs that have ended."""
+    used = resource.getrusage(resource.RUSAGE_CHILDREN)
+    return used.ru_utime + used.ru_stime
+
+
+def watching(load: Load) -> list[str]:
+    return [word for name in load.watched for word in ("--watch", name)]
+
+
+def is_there(load: Load) -> bool:
+    words = [PYTHON, "-c", f"import {', '.join(load.watched)}"]
+    return subprocess.run(words, capture_output=True, check=False).returncode == 0 and all(
+        shutil.which(name) or Path("/usr/lib", name).exists() for name in load.packages if not name.startswith("python3-")
+    )
 
 
 def keep_lists(name: str, folder: Path) -> str:
@@ -302,7 +152,7 @@ def keep_lists(name: str, folder: Path) -> str:
     Gives how many lines they have, and how many rows of the terminal they take, as a row.
     """
     load, export = LOADS[name], folder / f"{name}.export"
-    ran(load, "--watch", load.client, "--export", str(export))
+    ran(load, *watching(load), "--export", str(export))
     found = {"all": list_of(export, "--all"), "list": list_of(export), "screen": list_at_terminal(export)}
     for kind, text in found.items():
         (folder / f"{name}.{kind}").write_text(text)
@@ -310,7 +160,7 @@ def keep_lists(name: str, folder: Path) -> str:
     count, _, more = listed[-1].removeprefix("itc_trace: ").partition(" in this run")
     rows = [sum(map(SCREEN.rows_of, lines)) for lines in (everything, listed, shown)]
     told_more = more.partition("; not")[0].partition(":")[0]
-    return f"| `{load.client}` | {count}{told_more} | {len(everything)} | {len(listed)} | {' | '.join(map(str, rows))} |"
+    return f"| `{name}` | {count}{told_more} | {len(everything)} | {len(listed)} | {' | '.join(map(str, rows))} |"
 
 
 def words_of_list(export: Path, *options: str) -> list[str]:
@@ -337,36 +187,61 @@ def list_at_terminal(export: Path) -> str:
     return shown.decode().replace("\r\n", "\n")
 
 
+def keep_report(name: str, folder: Path) -> str:
+    """Keeps the report of a watched run. Gives how many findings it has, and of which things, as a row."""
+    load, report = LOADS[name], folder / f"{name}.json"
+    ran(load, *watching(load), "--json", str(report))
+    found = json.loads(report.read_text())["findings"]
+    things = sorted({one["thing"] for one in found})
+    return f"| {name} | {len(found)} | {', '.join(things)} |"
+
+
 def told(name: str) -> tuple[str, bool]:
-    """The row of a load, and whether each run printed the same."""
-    load, cells, is_same = LOADS[name], [name, LOADS[name].client], True
+    """The row of a load, and whether each run printed the same and the planted race was told."""
+    load = LOADS[name]
     plain = ran(load)
-    if plain.returncode:
-        raise SystemExit(f"{name}: {plain.stderr}")
-    for options in (("--watch-nothing",), ("--watch", load.client)):
-        one = ran(load, *options)
-        lines = plain.stdout.splitlines(), one.stdout.splitlines()
-        same = sum(first == second for first, second in zip(*lines))
-        is_same = is_same and lines[0] == lines[1]
-        cells.append(f"{same} of {len(lines[0])} same, status {one.returncode}")
-        print(*one.stderr.splitlines()[-1:], file=sys.stderr)
-    return f"| {' | '.join(cells)} |", is_same
+    if plain.status:
+        raise SystemExit(f"{name}: {plain.told}")
+    runs = [ran(load, "--watch-nothing"), ran(load, *watching(load))]
+    is_planted = PLANTED in ran(load, *watching(load), "--all", word="planted").told
+    same = [sum(first == second for first, second in zip(plain.lines, one.lines)) for one in runs]
+    cells = [name, " ".join(load.watched), str(len(plain.lines)), *map(str, same), *(str(one.status) for one in runs)]
+    cells += [f"{one.seconds:.1f}" for one in (plain, *runs)]
+    cells += [found_by(runs[1]), "told" if is_planted else "not told"]
+    return f"| {' | '.join(cells)} |", is_planted and all(one.lines == plain.lines for one in runs)
+
+
+def found_by(one: Ran) -> str:
+    """What the last line says was found."""
+    last = one.told.splitlines()[-1].removeprefix("itc_trace: ")
+    return last.replace(" in this run", "").partition("; not looked into")[0].partition(": ")[0]
 
 
 def main() -> int:
     parser = argparse.ArgumentParser(description=__doc__, formatter_class=argparse.RawDescriptionHelpFormatter)
     parser.add_argument("--install", action="store_true")
     parser.add_argument("--lists", type=Path, metavar="FOLDER")
+    parser.add_argument("--reports", type=Path, metavar="FOLDER")
     parser.add_argument("loads", nargs="*", metavar="LOAD", choices=[*LOADS, []], default=[])
     asked = parser.parse_args()
-    are_same = True
+    are_right = True
     for name in asked.loads or LOADS:
         if asked.install and shutil.which("apt-get"):
-            subprocess.run(["apt-get", "install", "-y", *LOADS[name].packages], check=True, stdout=subprocess.DEVNULL)
-        row, is_same = told(name) if asked.lists is None else (keep_lists(name, asked.lists), True)
-        are_same = are_same and is_same
+            words = ["apt-get", "install", "-y", "--no-install-recommends", *LOADS[name].packages]
+            subprocess.run(words, check=True, stdout=subprocess.DEVNULL)
+        if not is_there(LOADS[name]):
+            print(f"{name} is left out: {' '.join(LOADS[name].packages)} is not there", flush=True)
+            continue
+        row, is_right = row_of(name, asked.lists, asked.reports)
+        are_right = are_right and is_right
         print(row, flush=True)
-    return 0 if are_same else 1
+    return 0 if are_right else 1
+
+
+def row_of(name: str, lists: Path | None, reports: Path | None) -> tuple[str, bool]:
+    if lists is not None:
+        return keep_lists(name, lists), True
+    return (keep_report(name, reports), True) if reports is not None else told(name)
 
 
 if __name__ == "__main__":
