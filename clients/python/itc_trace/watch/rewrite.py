@@ -646,6 +646,7 @@ class Rewriter:
         self._scope = before
 
     def _do_FunctionDef(self, node: Any) -> list[ast.stmt]:
+        node.scope.is_cached = any([self._is_cache(one) for one in node.decorator_list])
         node.decorator_list = [self._guarded(one, self._handed) for one in node.decorator_list]
         self._visit_defaults(node.args)
         self._visit_annotations(node)
@@ -667,6 +668,16 @@ class Rewriter:
         return [node, *self._stored([node.name], node)]
 
     _do_AsyncFunctionDef = _do_FunctionDef
+
+    def _is_cache(self, decorator: Any) -> bool:
+        """Whether the results of a function are kept by a decorator of `functools`, which hands them to others."""
+        return self._import_of(decorator.func if type(decorator) is ast.Call else decorator) in CACHES
+
+    def _simple_Return(self, node: ast.Return) -> ast.stmt:
+        if self._scope.is_cached and node.value is not None:
+            node.value = self._put(node.value)
+            return node
+        return self._generic(node)  # type: ignore[no-any-return]
 
     def _note_making(self, node: ast.FunctionDef, name: str, constructor: int) -> None:
         """Has a constructor tell where it was called."""
@@ -1806,6 +1817,8 @@ class Rewriter:
 
         return self._guarded(node, taken_apart)
 
+
+CACHES = frozenset(("functools.lru_cache", "functools.cache"))
 
 _SIMPLE: dict[type, Callable[[Rewriter, Any], Any]] = {
     kind: getattr(Rewriter, f"_simple_{kind.__name__}", Rewriter._generic)

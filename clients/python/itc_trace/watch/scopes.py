@@ -74,6 +74,8 @@ class Scope:
         """Whether variables of the module may be bound by their names, as `globals()["debug"] = True` does."""
         self.first = ""
         """The variable of a method that has the object it was called for."""
+        self.is_cached = False
+        """Whether the results of a function are kept by `functools.lru_cache`."""
         self.is_after_start = False
         """Whether another task may be there already, where the source is looked at now."""
         self.calls_and_bindings: list[tuple[bool, str]] = []
