@@ -44,10 +44,10 @@ from .both_languages import (
 )
 from .decisions import (
     AS_KEY, BY_ELEMENTS, COMPOSED, FIELD, FILES, OF_CLASS, OF_CLASS_ALONE, OF_LOCAL, OF_METHOD, OF_MODULE, OF_SUPER,
-    OF_TYPE, OWN_FIELD, PLAIN, RESUMED, SKIP, STEPPED, VIEWS, WATCHED, class_with, decision, family_of, field_inside, fields_of,
-    forget_decisions, has_own_method, has_setter, has_watched_method, ids_of, is_bound_by_code, is_made, is_of,
-    is_of_library, is_other_container, is_watched_class, mro_of, name_of, value_of_element, value_of_field, vars_of,
-    without_own,
+    OF_TYPE, OWN_FIELD, PLAIN, RESUMED, SKIP, STEPPED, VIEWS, WATCHED, class_with, decision, family_of, field_inside,
+    fields_of, forget_decisions, has_own_method, has_setter, has_watched_method, ids_of, is_bound_by_code, is_made,
+    is_of, is_of_library, is_other_container, is_watched_class, mro_of, name_of, value_of_element, value_of_field,
+    vars_of, without_own,
 )
 from .as_fields import FIELDS_OF, keep_fields_of, object_of
 from .comparing import compared_in

@@ -673,11 +673,11 @@ class Rewriter:
         """Whether the results of a function are kept by a decorator of `functools`, which hands them to others."""
         return self._import_of(decorator.func if type(decorator) is ast.Call else decorator) in CACHES
 
-    def _simple_Return(self, node: ast.Return) -> ast.stmt:
+    def _simple_Return(self, node: ast.Return) -> Any:
         if self._scope.is_cached and node.value is not None:
             node.value = self._put(node.value)
             return node
-        return self._generic(node)  # type: ignore[no-any-return]
+        return self._generic(node)
 
     def _note_making(self, node: ast.FunctionDef, name: str, constructor: int) -> None:
         """Has a constructor tell where it was called."""
