@@ -17,8 +17,8 @@ local, clients, meeting = threading.local(), [], threading.Barrier(2)
 
 
 def begin():
-    clients.append(Client())
-    local.client = clients[-1]
+    mine = local.client = Client()
+    clients.append(mine)
     meeting.wait()
 
 
