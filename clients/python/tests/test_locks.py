@@ -9,11 +9,15 @@ import threading
 import unittest
 from concurrent.futures import Future
 from typing import Any
+from unittest import mock
 
 from itc_trace import touch
+from itc_trace.model.frames import line_of
 from itc_trace.model.lines import state
 from itc_trace.model.lock_identity import variable_of_result
 from itc_trace.record.noting import current
+from itc_trace.sync import locks
+from itc_trace.watch.helper import quick
 
 from .support import WAIT, Step, TracedCase, in_turn
 
@@ -61,6 +65,141 @@ class Names(TracedCase):
         labels = [(row.kind, row.label.replace(__file__, "here")) for row in self.rows]
         self.assertIn(("send", f"release lock guard (here:{line})"), labels)
         self.assertIn(("recv", f"acquire lock guard (here:{line})"), labels)
+
+
+class FreeLocks(TracedCase):
+    """A task acquires a lock once more that nobody else has acquired since."""
+
+    def asked_of_python(self, kind: str) -> int:
+        """How often the methods in C leave it to Python, in 100 turns."""
+        asked: list[str] = []
+
+        def counted(name: str) -> Any:
+            original = getattr(locks, name)
+            return lambda *words: (asked.append(name), original(*words))[1]
+
+        def scenario() -> None:
+            lock = getattr(threading, kind)()
+            with mock.patch.object(locks, "took", counted("took")), mock.patch.object(locks, "gave", counted("gave")):
+                for _ in range(50):
+                    with lock:
+                        touch("x", write=True)
+                for _ in range(50):
+                    lock.acquire()
+                    lock.release()
+
+        self.races(scenario)
+        return len(asked)
+
+    @unittest.skipIf(quick is None, "there is no compiler here, or another Python")
+    def test_python_is_asked_no_more_than_at_the_first_turns(self) -> None:
+        for kind in ("Lock", "RLock"):
+            with self.subTest(kind):
+                self.assertLessEqual(self.asked_of_python(kind), 4)
+
+    def test_it_is_known_where_the_lock_was_acquired_last(self) -> None:
+        told: list[tuple[int, list[str]]] = []
+
+        def scenario() -> None:
+            for make in (threading.Lock, threading.RLock):
+                guard = make()
+                with guard:
+                    pass
+                with guard:
+                    line = line_here() - 1
+                    told.append((line - line_of(*where_held(guard)), held()))
+                told.append((0, held()))
+
+        made = scenario.__code__.co_firstlineno + 2
+        self.races(scenario)
+        self.assertEqual(told, [(0, [f"lock guard (here:{made})"]), (0, [])] * 2)
+
+    def test_who_tries_is_told_of_as_one_that_need_not_wait(self) -> None:
+        def scenario() -> None:
+            for make in (threading.Lock, threading.RLock):
+                tried, awaited = make(), make()
+                for _ in range(2):
+                    self.assertTrue(tried.acquire(False) and awaited.acquire())
+                    self.assertRaises(ValueError, awaited.acquire, False, 1)
+                    self.assertRaises(TypeError, awaited.acquire, True, 1, 2)
+                    tried.release()
+                    awaited.release()
+                self.assertTrue(tried._itc_identity.is_tried)
+                self.assertFalse(awaited._itc_identity.is_tried)
+                self.assertRaises(RuntimeError, awaited.release)
+                self.assertTrue(awaited.acquire(timeout=1))
+                awaited.release()
+                self.assertTrue(awaited._itc_identity.is_tried)
+
+        self.races(scenario)
+
+    def test_a_lock_of_its_owner_is_released_once_it_was_so_as_often_as_acquired(self) -> None:
+        def scenario() -> None:
+            guard = threading.RLock()
+            for _ in range(2):
+                with guard:
+                    with guard:
+                        self.assertEqual(len(held()), 1)
+                    self.assertEqual(len(held()), 1)
+                self.assertEqual(held(), [])
+
+        self.races(scenario)
+
+    def test_what_comes_behind_the_release_is_not_within(self) -> None:
+        """Two tasks touch it at once, each behind a turn in which it has the lock."""
+        def scenario() -> None:
+            guard = threading.Lock()
+
+            def work() -> None:
+                for _ in range(3):
+                    with guard:
+                        touch("within", write=True)
+                    touch("behind", write=True)
+
+            in_turn(work, work)
+
+        found = self.races(scenario)
+        self.assertEqual({one.thing for one in (*found.races, *found.possible)}, {"behind"})
+
+    def test_who_has_released_another_lock_since_goes_on_in_no_section_of_that(self) -> None:
+        def scenario() -> None:
+            one, other = threading.Lock(), threading.RLock()
+
+            def work() -> None:
+                for _ in range(3):
+                    with one:
+                        touch("x", write=True)
+                    with other:
+                        touch("x", write=True)
+
+            in_turn(work, work)
+
+        self.races(scenario)
+        told = {tuple(lock.split()[2] for lock in row.held) for row in self.rows if row.thing == "x"}
+        self.assertEqual(told, {("one",), ("other",)})
+
+    def test_a_task_of_a_loop_begins_a_stretch_with_each_of_its_turns(self) -> None:
+        def scenario() -> None:
+            async def work() -> None:
+                own = threading.Lock()
+                for _ in range(3):
+                    for _ in range(2):
+                        with own:
+                            touch("x", write=True)
+                    await asyncio.sleep(0)
+
+            async def both() -> None:
+                await asyncio.gather(work(), work())
+
+            asyncio.run(both())
+
+        self.races(scenario)
+        turns = {(row.task, row.turn) for row in self.rows if row.thing == "x"}
+        self.assertEqual(len(turns), 6)
+
+
+def where_held(lock: Any) -> tuple[Any, int]:
+    return lock._itc_identity.taken_by, lock._itc_identity.taken_at
 
 
 class Variables(unittest.TestCase):

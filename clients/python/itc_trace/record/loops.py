@@ -12,7 +12,7 @@ from types import ModuleType
 from typing import Any
 
 
-def _nothing(*_: object) -> None:
+def no_loop(*_: object) -> None:
     """Before the program has asyncio, no loop runs."""
 
 
@@ -22,9 +22,9 @@ class _Asyncio:
     __slots__ = ("running", "task_of")
 
     def __init__(self) -> None:
-        self.running: Callable[[], Any] = _nothing
+        self.running: Callable[[], Any] = no_loop
         """Gives the loop that runs in this thread, or None."""
-        self.task_of: Callable[[Any], Any] = _nothing
+        self.task_of: Callable[[Any], Any] = no_loop
         """Gives the task that this loop runs now, or None."""
 
 

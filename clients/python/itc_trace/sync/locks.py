@@ -13,14 +13,16 @@ import re
 import sys
 from _thread import get_ident
 from collections import deque
+from collections.abc import Iterable
 from sys import _getframe
 from types import CodeType, FrameType
 from typing import Any
 
-from ..model.lines import MARK, TAKE, Line, Section, Token, state
+from ..model.lines import MARK, TAKE, Line, Section, Stretch, Token, state
 from ..model.lock_identity import LockIdentity, Signal
+from ..record.loops import ASYNCIO, no_loop
 from ..record.nesting import note_nested, note_signal
-from ..record.noting import current, line_of_now
+from ..record.noting import current, line_of_now, local
 from ..model.frames import frame_at, is_internal, place, place_of
 from ..model.stretches import MOST_OF_STRETCH, STRETCHES, TURNS
 from .base import name_as
@@ -392,6 +394,43 @@ def walk_always() -> None:
     """From here on functions of the package stand between a lock's methods and the program."""
     global _is_walked
     _is_walked = True
+    _put_methods(_IN_PYTHON)
+
+
+def _put_methods(methods: Iterable[dict[str, Any]]) -> None:
+    """Gives both kinds of locks these methods, by which they are acquired and released."""
+    for kind, own in zip((TracedLock, TracedRLock), methods):
+        for name, method in own.items():
+            for alias in (name, f"{name}_lock"):
+                if alias in vars(kind):
+                    setattr(kind, alias, method)
+
+
+_IN_PYTHON = [
+    {name: vars(kind)[name] for name in ("acquire", "__enter__", "release", "__exit__")}
+    for kind in (TracedLock, TracedRLock)
+]
+
+
+def be_quick(quick: Any) -> None:
+    """From here on locks are acquired and released by methods in C, which leave to these what is rare."""
+    if not _is_walked:
+        _put_methods(quick.lock_methods(
+            turns=TURNS, local=local, asyncio=ASYNCIO, nothing=no_loop, took=_took_by_c, gave=_gave_by_c,
+            lock=TracedLock, rlock=TracedRLock, token=Token, line=Line, section=Section, identity=LockIdentity,
+            stretch=Stretch, plain_lock=_PlainLock, release=_PlainLock.release, acquire_rlock=_PlainRLock.acquire,
+            release_rlock=_PlainRLock.release, owned_rlock=_PlainRLock._is_owned, most_of_stretch=MOST_OF_STRETCH,
+        ))
+
+
+def _took_by_c(lock: Any) -> None:
+    """It stands between `took` and the program, as a method in Python does."""
+    took(lock)
+
+
+def _gave_by_c(lock: Any) -> None:
+    """The same of `gave`."""
+    gave(lock)
 
 
 def took(lock: Any, has_waited: bool = True) -> None:

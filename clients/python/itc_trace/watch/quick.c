@@ -684,22 +684,28 @@ static PyObject *owner_of(PyObject *self, PyObject *const *words, Py_ssize_t cou
 
 /* The stretch of this thread. It is looked up once for each change of the stretches, and each change of the thread. */
 
+static struct {
+    uint64_t version, thread;
+    PyObject *stretch;
+} now;
+
+static inline PyObject *know_stretch(PyObject *stretch)
+{
+    now.version = ((PyDictObject *)given.stretches)->ma_version_tag;
+    now.thread = PyThreadState_Get()->id;
+    return now.stretch = stretch;
+}
+
 static inline PyObject *current_stretch(void)
 {
-    static uint64_t known_version, known_thread;
-    static PyObject *known;
-    uint64_t version = ((PyDictObject *)given.stretches)->ma_version_tag;
-    PyThreadState *thread = PyThreadState_Get();
-    if (version == known_version && thread->id == known_thread)
-        return known;
+    if (((PyDictObject *)given.stretches)->ma_version_tag == now.version && PyThreadState_Get()->id == now.thread)
+        return now.stretch;
     PyObject *key = PyLong_FromUnsignedLong(PyThread_get_thread_ident());
     if (key == NULL)
         return NULL;
-    known = PyDict_GetItemWithError(given.stretches, key);
+    PyObject *found = PyDict_GetItemWithError(given.stretches, key);
     Py_DECREF(key);
-    known_version = version;
-    known_thread = thread->id;
-    return known;
+    return know_stretch(found);
 }
 
 static inline int is_seen(Owner *owner, PyObject *mark)
@@ -1696,6 +1702,480 @@ static PyTypeObject CallingType = {
     .tp_dealloc = (destructor)calling_dealloc,
 };
 
+/* Locks of the program, as `gave` and `took` of locks.py note them. What is done here is what most turns of a loop come
+   to: the task that has released a free lock acquires it again, and goes on in its section. All else is left to Python,
+   and so is each wait: whoever looks at what a thread waits for needs its frame. */
+
+static struct {
+    PyObject *turns;          /* Which of a loop's callbacks each thread runs. */
+    PyObject *local;          /* Whose the thread is. */
+    PyObject *asyncio;        /* How asyncio is asked. */
+    PyObject *nothing;        /* How it is asked before the program has it. */
+    PyObject *took, *gave;    /* What is done for the rest. */
+    PyTypeObject *lock, *rlock, *token, *line, *section, *identity, *stretch;
+    PyTypeObject *plain_lock;
+    PyObject *release, *acquire_rlock, *release_rlock, *owned_rlock;  /* Methods of the library. */
+    long most_of_stretch;
+} of_locks;
+
+/* The same of both kinds of locks. */
+typedef struct {
+    Py_ssize_t token, identity, holder;
+    PyObject *python[4];      /* The methods in Python. */
+} Places;
+
+enum { ACQUIRE, ENTER, RELEASE, EXIT };
+
+static Places of_lock, of_rlock;
+
+static struct {
+    Py_ssize_t note, tracer, block;
+} in_state;
+
+static Py_ssize_t lock_inside, depth_of_rlock;
+static Py_ssize_t what_of_token, tracer_of_line, section_of_line, held_of_line;
+static Py_ssize_t token_of_section, stretch_of_section, is_entered_again;
+static Py_ssize_t block_of_identity, is_inside, signal_of_identity, taken_by, taken_at;
+static Py_ssize_t loop_of_stretch, turn_of_stretch, thread_of_stretch;
+static PyObject *text_running, *text_task_of, *text_left_task, *text_itc_line;
+
+#define FIELD(one, place) (*(PyObject **)((char *)(one) + (place)))
+
+static inline void set_field(PyObject *one, Py_ssize_t place, PyObject *value)
+{
+    Py_XSETREF(FIELD(one, place), Py_NewRef(value));
+}
+
+/* An attribute that need not be there. */
+static int look_up(PyObject *one, PyObject *name, PyObject **found)
+{
+    *found = PyObject_GetAttr(one, name);
+    if (*found != NULL)
+        return 0;
+    if (!PyErr_ExceptionMatches(PyExc_AttributeError))
+        return -1;
+    PyErr_Clear();
+    return 0;
+}
+
+/* The task of asyncio that takes a step in this thread. */
+static int look_for_task(PyObject **task)
+{
+    PyObject *running, *loop, *task_of;
+    *task = NULL;
+    if ((running = PyObject_GetAttr(of_locks.asyncio, text_running)) == NULL)
+        return -1;
+    if (running == of_locks.nothing) {
+        Py_DECREF(running);
+        return 0;
+    }
+    loop = PyObject_CallNoArgs(running);
+    Py_DECREF(running);
+    if (loop == NULL || loop == Py_None) {
+        Py_XDECREF(loop);
+        return loop == NULL ? -1 : 0;
+    }
+    if ((task_of = PyObject_GetAttr(of_locks.asyncio, text_task_of)) != NULL) {
+        *task = PyObject_CallOneArg(task_of, loop);
+        Py_DECREF(task_of);
+    }
+    Py_DECREF(loop);
+    if (*task == Py_None)
+        Py_CLEAR(*task);
+    return *task == NULL && PyErr_Occurred() ? -1 : 0;
+}
+
+/* As `line_of_now` of noting.py. Nothing is found where Python has to make a line. */
+static int look_for_line(PyObject **line)
+{
+    PyObject *task, *left = NULL;
+    *line = NULL;
+    if (look_for_task(&task) < 0 || (task != NULL && look_up(of_locks.local, text_left_task, &left) < 0)) {
+        Py_XDECREF(task);
+        return -1;
+    }
+    int result = task != NULL && task != left ? look_up(task, text_itc_line, line)
+        : look_up(of_locks.local, text_line, line);
+    Py_XDECREF(task);
+    Py_XDECREF(left);
+    if (*line != NULL
+        && (Py_TYPE(*line) != of_locks.line
+            || FIELD(*line, tracer_of_line) != FIELD(given.state, in_state.tracer)))
+        Py_CLEAR(*line);
+    return result;
+}
+
+/* Whether what is done now still belongs to the stretch: a task of a loop begins another one with each of its turns. */
+static int goes_on(PyObject *stretch)
+{
+    if (stretch == Py_None)
+        return 1;
+    if (stretch == NULL || Py_TYPE(stretch) != of_locks.stretch || PyDict_GET_SIZE(stretch) >= of_locks.most_of_stretch)
+        return 0;
+    if (PyLong_AsLong(FIELD(stretch, loop_of_stretch)) == 0)
+        return 1;
+    PyObject *turn = PyDict_GetItemWithError(of_locks.turns, FIELD(stretch, thread_of_stretch));
+    if (turn == NULL) {
+        PyErr_Clear();
+        return 0;
+    }
+    return is_same_number(FIELD(stretch, turn_of_stretch), turn);
+}
+
+static int is_of_block(PyObject *identity)
+{
+    return Py_TYPE(identity) == of_locks.identity
+        && is_same_number(FIELD(identity, block_of_identity), FIELD(given.state, in_state.block));
+}
+
+static int keep_place(PyObject *identity, PyThreadState *thread)
+{
+    PyFrameObject *frame = PyThreadState_GetFrame(thread);
+    if (frame == NULL)
+        return 0;
+    PyObject *place = PyLong_FromLong(PyFrame_GetLasti(frame));
+    PyCodeObject *code = PyFrame_GetCode(frame);
+    Py_DECREF(frame);
+    if (place != NULL) {
+        set_field(identity, taken_by, (PyObject *)code);
+        set_field(identity, taken_at, place);
+    }
+    Py_DECREF(code);
+    Py_XDECREF(place);
+    return place == NULL ? -1 : 1;
+}
+
+/* The section that the current task has left by its last release of this lock. A new reference, or nothing. */
+static PyObject *section_to_enter(PyObject *lock, const Places *places, PyObject **line)
+{
+    PyObject *token = FIELD(lock, places->token);
+    *line = NULL;
+    if (token == NULL || Py_TYPE(token) != of_locks.token || look_for_line(line) < 0 || *line == NULL)
+        return NULL;
+    PyObject *section = FIELD(*line, section_of_line);
+    /* What was asked may have run code of the program, and the lock has another token by then. */
+    if (token != FIELD(lock, places->token) || section == NULL || Py_TYPE(section) != of_locks.section
+        || FIELD(section, token_of_section) != token
+        || !goes_on(FIELD(section, stretch_of_section)) || PyTuple_GET_SIZE(FIELD(*line, held_of_line)) > 0)
+        return NULL;
+    return Py_NewRef(section);
+}
+
+static int go_on_in(PyObject *stretch)
+{
+    PyObject *thread = FIELD(stretch, thread_of_stretch);
+    if (PyDict_SetItem(given.stretches, thread, stretch) < 0)
+        return -1;
+    if (PyLong_AsUnsignedLong(thread) == PyThread_get_thread_ident())
+        know_stretch(stretch);
+    return 1;
+}
+
+/* Goes on in the section: 1 if that is done, and 0 if Python has to note the acquiring. */
+static int enter_again(PyObject *lock, const Places *places, PyThreadState *thread)
+{
+    PyObject *identity = FIELD(lock, places->identity), *line;
+    if (identity == NULL || !is_of_block(identity) || FIELD(identity, is_inside) != Py_False)
+        return 0;
+    PyObject *section = section_to_enter(lock, places, &line);
+    PyObject *held = section == NULL ? NULL : PyTuple_Pack(1, identity);
+    int result = held == NULL ? (PyErr_Occurred() ? -1 : 0) : keep_place(identity, thread);
+    if (result == 1) {
+        PyObject *stretch = FIELD(section, stretch_of_section);
+        set_field(section, is_entered_again, Py_True);
+        set_field(lock, places->holder, line);
+        set_field(line, held_of_line, held);
+        set_field(lock, places->token, Py_None);
+        if (stretch != Py_None)
+            result = go_on_in(stretch);
+    }
+    Py_XDECREF(held);
+    Py_XDECREF(section);
+    Py_XDECREF(line);
+    return result;
+}
+
+static int end_stretch(void)
+{
+    PyObject *stretch = current_stretch();
+    if (stretch == NULL)
+        return PyErr_Occurred() ? -1 : 1;
+    PyObject *key = PyLong_FromUnsignedLong(PyThread_get_thread_ident());
+    int result = key == NULL || PyDict_DelItem(given.stretches, key) < 0 ? -1 : 1;
+    Py_XDECREF(key);
+    if (result == 1)
+        know_stretch(NULL);
+    return result;
+}
+
+/* Leaves a section that was entered again, and in which nothing has happened that is not in its stretch. */
+static int leave_again(PyObject *lock, const Places *places)
+{
+    PyObject *identity = FIELD(lock, places->identity), *line;
+    if (identity == NULL || !is_of_block(identity) || FIELD(identity, signal_of_identity) != Py_None)
+        return 0;
+    if (look_for_line(&line) < 0)
+        return -1;
+    int result = 0;
+    PyObject *section = line == NULL ? NULL : FIELD(line, section_of_line);
+    if (section != NULL && Py_TYPE(section) == of_locks.section && FIELD(section, is_entered_again) == Py_True
+        && FIELD(FIELD(section, token_of_section), what_of_token) == identity) {
+        PyObject *held = FIELD(line, held_of_line);
+        if (PyTuple_GET_SIZE(held) == 1 && PyTuple_GET_ITEM(held, 0) == identity) {
+            Py_INCREF(section);
+            set_field(section, is_entered_again, Py_False);
+            set_field(lock, places->holder, Py_None);
+            set_field(line, held_of_line, no_words);
+            set_field(lock, places->token, FIELD(section, token_of_section));
+            result = end_stretch();
+            Py_DECREF(section);
+        }
+    }
+    Py_XDECREF(line);
+    return result;
+}
+
+/* Has Python note what is not noted by then. */
+static int note_by_python(PyObject *function, PyObject *lock, PyThreadState *thread)
+{
+    int is_followed = turn_from_followers(thread);
+    GIVE_ROOM(thread, ROOM);
+    PyObject *noted = PyObject_CallOneArg(function, lock);
+    GIVE_ROOM(thread, -ROOM);
+    turn_to_followers(thread, is_followed);
+    Py_XDECREF(noted);
+    return noted == NULL ? -1 : 0;
+}
+
+static int note_acquired(PyObject *lock, const Places *places)
+{
+    if (FIELD(given.state, in_state.note) == Py_None)
+        return 0;
+    PyThreadState *thread = PyThreadState_Get();
+    int result = enter_again(lock, places, thread);
+    return result == 0 ? note_by_python(of_locks.took, lock, thread) : result;
+}
+
+static int note_released(PyObject *lock, const Places *places)
+{
+    if (FIELD(given.state, in_state.note) == Py_None)
+        return 0;
+    int result = leave_again(lock, places);
+    return result == 0 ? note_by_python(of_locks.gave, lock, PyThreadState_Get()) : result;
+}
+
+/* A lock of the library, as its type has it. */
+typedef struct {
+    PyObject_HEAD
+    PyThread_type_lock lock;
+    PyObject *references;
+    char is_locked;
+} PlainLock;
+
+static inline PlainLock *plain_of_lock(PyObject *lock)
+{
+    PyObject *plain = FIELD(lock, lock_inside);
+    return plain == NULL || Py_TYPE(plain) != of_locks.plain_lock ? NULL : (PlainLock *)plain;
+}
+
+static PyObject *lock_acquired(PyObject *self, PyObject *python)
+{
+    PlainLock *plain = plain_of_lock(self);
+    if (plain == NULL || !PyThread_acquire_lock(plain->lock, NOWAIT_LOCK))
+        return PyObject_CallOneArg(python, self);
+    plain->is_locked = 1;
+    return note_acquired(self, &of_lock) < 0 ? NULL : Py_NewRef(Py_True);
+}
+
+static PyObject *lock_released(PyObject *self)
+{
+    PlainLock *plain = plain_of_lock(self);
+    if (plain == NULL)
+        return PyObject_CallOneArg(of_lock.python[RELEASE], self);
+    if (note_released(self, &of_lock) < 0)
+        return NULL;
+    if (!plain->is_locked)
+        return PyObject_CallOneArg(of_locks.release, (PyObject *)plain);
+    plain->is_locked = 0;
+    PyThread_release_lock(plain->lock);
+    Py_RETURN_NONE;
+}
+
+/* Acquires what is free, or its owner's own. */
+static int is_free(PyObject *method, PyObject *lock)
+{
+    PyObject *words[] = {lock, Py_False};
+    PyObject *acquired = PyObject_Vectorcall(method, words, 2, NULL);
+    Py_XDECREF(acquired);
+    return acquired == NULL ? -1 : acquired == Py_True;
+}
+
+/* How often its owner has acquired it, once it has done so more often by so many. */
+static long change_depth(PyObject *self, long more)
+{
+    PyObject *depth = FIELD(self, depth_of_rlock);
+    long now = (depth == NULL ? 0 : PyLong_AsLong(depth)) + more;
+    PyObject *changed = PyLong_FromLong(now);
+    if (changed == NULL)
+        return -1;
+    Py_XSETREF(FIELD(self, depth_of_rlock), changed);
+    return now;
+}
+
+static PyObject *rlock_acquired(PyObject *self, PyObject *python)
+{
+    int acquired = is_free(of_locks.acquire_rlock, self);
+    if (acquired <= 0)
+        return acquired < 0 ? NULL : PyObject_CallOneArg(python, self);
+    long depth = change_depth(self, 1);
+    if (depth < 0 || (depth == 1 && note_acquired(self, &of_rlock) < 0))
+        return NULL;
+    Py_RETURN_TRUE;
+}
+
+static PyObject *rlock_released(PyObject *self)
+{
+    PyObject *is_owned = PyObject_CallOneArg(of_locks.owned_rlock, self);
+    Py_XDECREF(is_owned);
+    if (is_owned == NULL)
+        return NULL;
+    if (is_owned == Py_True) {
+        long depth = change_depth(self, -1);
+        if ((depth < 0 && PyErr_Occurred()) || (depth == 0 && note_released(self, &of_rlock) < 0))
+            return NULL;
+    }
+    return PyObject_CallOneArg(of_locks.release_rlock, self);
+}
+
+/* Whoever does not wait for ever for a lock is left to Python. */
+static PyObject *with_words(PyObject *python, PyObject *self, PyObject *words, PyObject *named)
+{
+    PyObject *method = PyMethod_New(python, self);
+    PyObject *result = method == NULL ? NULL : PyObject_Call(method, words, named);
+    Py_XDECREF(method);
+    return result;
+}
+
+#define LOCK_METHODS(kind, when_left)                                                                          \
+    static PyObject *kind##_acquire(PyObject *self, PyObject *words, PyObject *named)                          \
+    {                                                                                                           \
+        PyObject *python = of_##kind.python[ACQUIRE];                                                          \
+        return PyTuple_GET_SIZE(words) == 0 && named == NULL                                                   \
+            ? kind##_acquired(self, python) : with_words(python, self, words, named);                          \
+    }                                                                                                           \
+                                                                                                                \
+    static PyObject *kind##_enter(PyObject *self, PyObject *ignored)                                           \
+    {                                                                                                           \
+        return kind##_acquired(self, of_##kind.python[ENTER]);                                                 \
+    }                                                                                                           \
+                                                                                                                \
+    static PyObject *kind##_release(PyObject *self, PyObject *ignored)                                         \
+    {                                                                                                           \
+        return kind##_released(self);                                                                          \
+    }                                                                                                           \
+                                                                                                                \
+    static PyObject *kind##_exit(PyObject *self, PyObject *const *words, Py_ssize_t count)                     \
+    {                                                                                                           \
+        return when_left ? kind##_released(self) : PyObject_CallOneArg(of_##kind.python[EXIT], self);          \
+    }                                                                                                           \
+                                                                                                                \
+    static PyMethodDef methods_of_##kind[] = {                                                                 \
+        {"acquire", (PyCFunction)(void (*)(void))kind##_acquire, METH_VARARGS | METH_KEYWORDS, NULL},          \
+        {"__enter__", kind##_enter, METH_NOARGS, NULL},                                                        \
+        {"release", kind##_release, METH_NOARGS, NULL},                                                        \
+        {"__exit__", (PyCFunction)(void (*)(void))kind##_exit, METH_FASTCALL, NULL},                           \
+        {NULL},                                                                                                 \
+    };
+
+LOCK_METHODS(lock, 1)
+LOCK_METHODS(rlock, Py_TYPE(self) == of_locks.rlock)  /* Another class may release it in its own way. */
+
+/* Where the fields of an object stand that has a slot for each. */
+typedef struct {
+    PyTypeObject **type;
+    const char *name;
+    Py_ssize_t *place;
+} Slot;
+
+static int find_slots(void)
+{
+    PyTypeObject *type_of_state = Py_TYPE(given.state);
+    const Slot slots_of_locks[] = {
+        {&of_locks.lock, "_lock", &lock_inside}, {&of_locks.lock, "_itc_token", &of_lock.token},
+        {&of_locks.lock, "_itc_identity", &of_lock.identity}, {&of_locks.lock, "_itc_holder", &of_lock.holder},
+        {&of_locks.rlock, "_depth", &depth_of_rlock}, {&of_locks.rlock, "_itc_token", &of_rlock.token},
+        {&of_locks.rlock, "_itc_identity", &of_rlock.identity}, {&of_locks.rlock, "_itc_holder", &of_rlock.holder},
+        {&of_locks.token, "what", &what_of_token},
+        {&of_locks.line, "tracer", &tracer_of_line}, {&of_locks.line, "section", &section_of_line},
+        {&of_locks.line, "held", &held_of_line}, {&of_locks.section, "token", &token_of_section},
+        {&of_locks.section, "stretch", &stretch_of_section},
+        {&of_locks.section, "is_entered_again", &is_entered_again},
+        {&of_locks.identity, "block", &block_of_identity}, {&of_locks.identity, "is_inside", &is_inside},
+        {&of_locks.identity, "signal", &signal_of_identity}, {&of_locks.identity, "taken_by", &taken_by},
+        {&of_locks.identity, "taken_at", &taken_at}, {&of_locks.stretch, "loop", &loop_of_stretch},
+        {&of_locks.stretch, "turn", &turn_of_stretch}, {&of_locks.stretch, "thread", &thread_of_stretch},
+        {&type_of_state, "note", &in_state.note}, {&type_of_state, "tracer", &in_state.tracer},
+        {&type_of_state, "block", &in_state.block},
+    };
+    for (size_t number = 0; number < sizeof slots_of_locks / sizeof *slots_of_locks; number++) {
+        const Slot *slot = &slots_of_locks[number];
+        PyObject *found = PyObject_GetAttrString((PyObject *)*slot->type, slot->name);
+        if (found == NULL)
+            return -1;
+        if (Py_TYPE(found) != &PyMemberDescr_Type || ((PyMemberDescrObject *)found)->d_member->type != T_OBJECT_EX) {
+            PyErr_Format(PyExc_TypeError, "%s has no slot", slot->name);
+            Py_DECREF(found);
+            return -1;
+        }
+        *slot->place = ((PyMemberDescrObject *)found)->d_member->offset;
+        Py_DECREF(found);
+    }
+    return 0;
+}
+
+/* The methods of a kind of locks, by their names. Keeps those in Python. */
+static PyObject *methods_for(PyTypeObject *type, PyMethodDef *methods, Places *places)
+{
+    PyObject *made = PyDict_New();
+    for (int number = ACQUIRE; made != NULL && number <= EXIT; number++) {
+        PyObject *python = PyObject_GetAttrString((PyObject *)type, methods[number].ml_name);
+        PyObject *method = python == NULL ? NULL : PyDescr_NewMethod(type, &methods[number]);
+        if (method == NULL || PyDict_SetItemString(made, methods[number].ml_name, method) < 0)
+            Py_CLEAR(made);
+        Py_XDECREF(method);
+        Py_XSETREF(places->python[number], python);
+    }
+    return made;
+}
+
+/* Gives the methods of both kinds of locks. What is handed over is kept for as long as the process lives. */
+static PyObject *lock_methods(PyObject *self, PyObject *words, PyObject *named)
+{
+    static char *names[] = {
+        "turns", "local", "asyncio", "nothing", "took", "gave", "lock", "rlock", "token", "line", "section",
+        "identity", "stretch", "plain_lock", "release", "acquire_rlock", "release_rlock", "owned_rlock",
+        "most_of_stretch", NULL,
+    };
+    if (!PyArg_ParseTupleAndKeywords(
+            words, named, "OOOOOOOOOOOOOOOOOOl", names, &of_locks.turns, &of_locks.local, &of_locks.asyncio,
+            &of_locks.nothing, &of_locks.took, &of_locks.gave, &of_locks.lock, &of_locks.rlock, &of_locks.token,
+            &of_locks.line, &of_locks.section, &of_locks.identity, &of_locks.stretch, &of_locks.plain_lock,
+            &of_locks.release, &of_locks.acquire_rlock, &of_locks.release_rlock, &of_locks.owned_rlock,
+            &of_locks.most_of_stretch)
+        || find_slots() < 0)
+        return NULL;
+    if (of_locks.plain_lock->tp_basicsize != sizeof(PlainLock))
+        return PyErr_Format(PyExc_TypeError, "a lock of this Python is another one");
+    Py_INCREF(named);  /* It has all of these. */
+    PyObject *locks = methods_for(of_locks.lock, methods_of_lock, &of_lock);
+    PyObject *rlocks = locks == NULL ? NULL : methods_for(of_locks.rlock, methods_of_rlock, &of_rlock);
+    if (rlocks == NULL) {
+        Py_XDECREF(locks);
+        return NULL;
+    }
+    return Py_BuildValue("NN", locks, rlocks);
+}
+
 /* Nodes of a syntax tree that are made for hooks: nodes.py has the same in Python, and says of each what it is. There
    are so many of them that what is made here is made before any look at the program. */
 
@@ -1996,6 +2476,7 @@ static PyMethodDef methods[] = {
     FAST("call_with_quick_nodes", call_with_quick_nodes),
     {"setup", (PyCFunction)(void (*)(void))setup, METH_VARARGS | METH_KEYWORDS, NULL},
     {"forget", forget, METH_NOARGS, NULL},
+    {"lock_methods", (PyCFunction)(void (*)(void))lock_methods, METH_VARARGS | METH_KEYWORDS, NULL},
     {NULL},
 };
 
@@ -2015,8 +2496,13 @@ static int fill_module(PyObject *made)
     text_line = PyUnicode_InternFromString("line");
     text_leave = PyUnicode_InternFromString("leave");
     text_constructor = PyUnicode_InternFromString("__init__");
+    text_running = PyUnicode_InternFromString("running");
+    text_task_of = PyUnicode_InternFromString("task_of");
+    text_left_task = PyUnicode_InternFromString("left_task");
+    text_itc_line = PyUnicode_InternFromString("_itc_line");
     no_words = PyTuple_New(0);
-    if (text_note == NULL || text_line == NULL || text_leave == NULL || text_constructor == NULL || no_words == NULL)
+    if (text_note == NULL || text_line == NULL || text_leave == NULL || text_constructor == NULL || no_words == NULL
+        || text_running == NULL || text_task_of == NULL || text_left_task == NULL || text_itc_line == NULL)
         return -1;
     if (set_forms() < 0)
         return -1;
