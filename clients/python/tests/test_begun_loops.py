@@ -3,9 +3,12 @@
 from __future__ import annotations
 
 import unittest
+from collections.abc import AsyncIterator
 from pathlib import Path
+from typing import Any
 
 from itc_trace import Verdict
+from itc_trace.watch.begun_loops import among, left_in_the_middle
 
 from .forked_runs import run_program
 from .support import ProgramCase, chosen
@@ -87,6 +90,26 @@ BY_OTHERS = {
     "a function by map": "def run(one): return start(add, one)\nlist(map(run, jobs))\n",
     "filter": "def run(one): return start(add, one)\nlist(filter(run, jobs))\n",
 }
+
+
+async def _wait() -> None:
+    """Its coroutine is left in the middle before it begins."""
+
+
+async def _steps() -> AsyncIterator[int]:
+    yield 1
+
+
+class LeftInTheMiddle(unittest.TestCase):
+    def test_each_kind_of_what_may_wait_is_found_among_all_objects(self) -> None:
+        waiting: list[Any] = [(one for one in "ab"), _wait(), _steps()]
+        others = [iter("ab"), [], int, _wait, object(), None, 1]
+        try:
+            for find in (among, left_in_the_middle):
+                self.assertEqual(find([*others, *waiting, *others]), waiting)
+                self.assertEqual(find([]), [])
+        finally:
+            waiting[1].close()
 
 
 class BegunLoops(ProgramCase):

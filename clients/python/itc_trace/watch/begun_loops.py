@@ -7,11 +7,13 @@ from __future__ import annotations
 
 import builtins
 import gc
-from collections.abc import Iterator
+from collections.abc import Callable, Iterator
 from types import AsyncGeneratorType, CoroutineType, FrameType, GeneratorType
+from typing import Any
 
 from ..model.frames_of_threads import caller_of, frame_of, frames_now
 from . import passed_over
+from .helper import quick
 from .places import LOOPS, LOOPS_OF, OF_OTHERS
 
 RUNS: dict[int, str] = {
@@ -22,6 +24,14 @@ RUNS: dict[int, str] = {
 A type of the program may hash by code of its own.
 """
 HELD_BY_OTHERS = "a loop that began before the first thread"
+
+
+def among(objects: list[Any]) -> list[Any]:
+    return [one for one in objects if id(type(one)) in RUNS]
+
+
+left_in_the_middle: Callable[[list[Any]], list[Any]] = among if quick is None else quick.left_in_the_middle
+"""Which of these objects are of such a type. There may be as many as the program has."""
 
 
 def begun() -> frozenset[int]:
@@ -49,8 +59,7 @@ def frames() -> Iterator[FrameType]:
         while frame is not None:
             yield frame
             frame = caller_of(frame)
-    for one in gc.get_objects():
-        name = RUNS.get(id(type(one)))
-        waiting = None if name is None or getattr(one, name) else frame_of(one)
+    for one in left_in_the_middle(gc.get_objects()):
+        waiting = None if getattr(one, RUNS[id(type(one))]) else frame_of(one)
         if waiting is not None and waiting.f_lasti >= 0:
             yield waiting

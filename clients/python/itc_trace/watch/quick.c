@@ -2447,6 +2447,19 @@ static PyObject *setup(PyObject *self, PyObject *words, PyObject *named)
     Py_RETURN_NONE;
 }
 
+/* Which objects of a list are generators, or the like: what may have been left in the middle of a loop. */
+static PyObject *left_in_the_middle(PyObject *self, PyObject *objects)
+{
+    PyObject *found = PyList_New(0);
+    for (Py_ssize_t place = 0; found != NULL && place < PyList_GET_SIZE(objects); place++) {
+        PyObject *one = PyList_GET_ITEM(objects, place);
+        if ((PyGen_CheckExact(one) || PyCoro_CheckExact(one) || PyAsyncGen_CheckExact(one))
+            && PyList_Append(found, one) < 0)
+            Py_CLEAR(found);
+    }
+    return found;
+}
+
 static PyObject *references(PyObject *self, PyObject *const *words, Py_ssize_t count)
 {
     WORDS(2)
@@ -2475,7 +2488,7 @@ static PyMethodDef methods[] = {
     FAST("as_statement", as_statement), {"copied", copied, METH_O, NULL},
     FAST("call_with_quick_nodes", call_with_quick_nodes),
     {"setup", (PyCFunction)(void (*)(void))setup, METH_VARARGS | METH_KEYWORDS, NULL},
-    {"forget", forget, METH_NOARGS, NULL},
+    {"forget", forget, METH_NOARGS, NULL}, {"left_in_the_middle", left_in_the_middle, METH_O, NULL},
     {"lock_methods", (PyCFunction)(void (*)(void))lock_methods, METH_VARARGS | METH_KEYWORDS, NULL},
     {NULL},
 };
