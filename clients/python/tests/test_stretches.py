@@ -5,11 +5,13 @@ from __future__ import annotations
 import _thread
 import asyncio
 import gc
+import json
 import sys
 import tempfile
 import threading
 import time
 import unittest
+from collections import Counter
 from pathlib import Path
 from typing import Any
 
@@ -19,7 +21,7 @@ from itc_trace.record.journal import Row, read_whole
 from itc_trace.record.noting import touched
 from itc_trace.model.stretches import SITES, STRETCHES, Site
 
-from .support import Step, TracedCase, fresh_tenant, in_turn, wait_until
+from .support import ProgramCase, Step, TracedCase, fresh_tenant, in_turn, run_traced, wait_until
 
 TURNS = 5000
 _start_untraced = (_thread.start_new_thread,)  # It is kept before any test has it traced.
@@ -236,6 +238,51 @@ class Events(TracedCase):
                 wait_until(lambda: '"x"' in Path(journal.name).read_text())
                 journal.seek(0)
                 self.assertEqual([row.thing for row in read_whole(journal).rows], ["x"])
+
+
+ONE_PLACE = """import threading
+class First: count = 0
+class Second: count = 0
+class Third: count = 0
+table = {"a": 0, "b": 0, "c": 0}
+lock = threading.Lock()
+def put(box):
+    box.count = 1
+def keep(key):
+    table[key] = 1
+def use():
+    put(First)
+    put(First)
+    put(Second)
+    with lock:
+        put(Third)
+        put(Third)
+    put(Third)
+    for key in ("a", "a", "b"):
+        keep(key)
+    with lock:
+        keep("c")
+        keep("c")
+    keep("c")
+threads = [threading.Thread(target=use) for _ in range(2)]
+for thread in threads: thread.start()
+for thread in threads: thread.join()
+"""
+"""Each place touches one thing twice, which is told once, and then another one, or the same with another lock held."""
+
+
+class OnePlace(ProgramCase):
+    def test_a_place_that_touched_one_thing_twice_tells_of_the_next_one_too(self) -> None:
+        for pure in ("", "1"):
+            with self.subTest(hooks="Python" if pure else "C"), tempfile.NamedTemporaryFile("r") as journal:
+                run_traced("--journal", journal.name, self.program(ONE_PLACE), ITC_TRACE_PURE=pure)
+                rows = [row for line in journal if (row := json.loads(line)).get("function") in ("put", "keep")]
+                names = {row["thing"]: row["name"] for row in rows if "name" in row}
+                told = Counter((names[row["thing"]], len(row.get("held", ()))) for row in rows if row["kind"] == "write")
+                self.assertEqual(told, dict.fromkeys([
+                    ("First.count", 0), ("Second.count", 0), ("Third.count", 1), ("Third.count", 0), ("table['a']", 0),
+                    ("table['b']", 0), ("table['c']", 1), ("table['c']", 0),
+                ], 2))
 
 
 class Private(TracedCase):

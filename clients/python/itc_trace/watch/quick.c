@@ -75,7 +75,10 @@ static PyObject *text_note, *text_line, *text_leave, *text_constructor, *no_word
 typedef struct {
     PyDictObject marks;
     PyObject *stretch;
+    uint64_t number;          /* No other one has it. */
 } Seen;
+
+static uint64_t number_of_seen;
 
 static int seen_traverse(Seen *self, visitproc visit, void *arg)
 {
@@ -102,6 +105,7 @@ static int seen_init(Seen *self, PyObject *words, PyObject *named)
     if (named != NULL || !PyArg_ParseTuple(words, "O", &stretch))
         return -1;
     Py_XSETREF(self->stretch, Py_NewRef(stretch));
+    self->number = ++number_of_seen;
     return 0;
 }
 
@@ -126,8 +130,10 @@ static PyTypeObject SeenType = {
 static Seen *new_seen(PyObject *stretch)
 {
     Seen *seen = (Seen *)PyDict_Type.tp_new(&SeenType, no_words, NULL);
-    if (seen != NULL)
+    if (seen != NULL) {
         seen->stretch = Py_NewRef(stretch);
+        seen->number = ++number_of_seen;
+    }
     return seen;
 }
 
@@ -726,6 +732,8 @@ typedef struct {
     unsigned version;
     int what;
     PyObject *site, *late, *name, *field;
+    uint64_t seen;            /* The number of what has its last touch. */
+    PyObject *key;            /* The key of this touch, if it has one. */
 } Decision;
 
 #define MOST_DECISIONS 16384  /* A power of two. Two that come to the same slot displace each other. */
@@ -745,6 +753,8 @@ static void clear_decision(Decision *known)
     Py_CLEAR(known->late);
     Py_CLEAR(known->name);
     Py_CLEAR(known->field);
+    Py_CLEAR(known->key);
+    known->seen = 0;
 }
 
 static PyObject *forget(PyObject *self, PyObject *ignored)
@@ -790,6 +800,27 @@ static inline Decision *decision_of(PyTypeObject *type, PyObject *site, const ch
         && HAS_VERSION(type) && is_same_number(known->site, site))
         return known;
     return decide(type, site, known, hook);
+}
+
+/* Whether the last touch of this place, by the same key, is this one once more. */
+static inline int is_seen_last(Owner *owner, Decision *decision, PyObject *key)
+{
+    Seen *seen = (Seen *)owner->seen;
+    return seen != NULL && seen->number == decision->seen && decision->seen != 0 && key == decision->key
+        && seen->stretch == current_stretch();
+}
+
+static inline int is_seen_at(Owner *owner, Decision *decision, PyObject *mark, PyObject *key)
+{
+    PyTypeObject *type = decision->type;
+    PyObject *site = decision->site;
+    if (!is_seen(owner, mark))
+        return 0;
+    if (decision->type == type && decision->site == site) {  /* Else a look at other marks has had it decided anew. */
+        decision->seen = ((Seen *)owner->seen)->number;
+        Py_XSETREF(decision->key, Py_XNewRef(key));
+    }
+    return 1;
 }
 
 /* Whether the object itself has the field: 0 or 1, and -1 if the Python part has to find out. No descriptor runs. */
@@ -984,7 +1015,8 @@ static PyObject *touch_field(PyObject *one, PyObject *site, Py_ssize_t limit, co
     if (what == NO_TOUCH)
         return Py_NewRef(one);
     Owner *owner = owner_in_use(one);
-    if (owner == NULL ? Py_REFCNT(one) <= limit : is_seen(owner, site))
+    if (owner == NULL ? Py_REFCNT(one) <= limit
+        : is_seen_last(owner, decision, NULL) || is_seen_at(owner, decision, site, NULL))
         return Py_NewRef(one);
     if (what == IF_OWN || what == OWN_OR_OF_CLASS) {
         /* A look into an object's own fields may have it decided anew. */
@@ -1139,7 +1171,7 @@ static PyObject *touch_keyed(PyObject *one, PyObject *key, PyObject *site, Py_ss
         Py_XDECREF(touched);
         return touched == NULL ? NULL : Py_NewRef(back);
     }
-    if (owner == NULL && Py_REFCNT(one) <= limit)
+    if (owner == NULL ? Py_REFCNT(one) <= limit : is_seen_last(owner, decision, key))
         return Py_NewRef(back);
     int result = -1;
     PyObject *mark = NULL;
@@ -1150,7 +1182,7 @@ static PyObject *touch_keyed(PyObject *one, PyObject *key, PyObject *site, Py_ss
         decision = decision_of(Py_TYPE(one), site, "before_element");
         if (decision == NULL)
             result = -1;
-        else if (owner != NULL && (owner = find_owner(one)) != NULL && is_seen(owner, mark))
+        else if (owner != NULL && (owner = find_owner(one)) != NULL && is_seen_at(owner, decision, mark, key))
             result = 0;
         else if (decision->what == OF_DICT || (decision->what == OF_LIST && _PyLong_Sign(key) >= 0))
             result = saw_key(one, key, site, mark, decision);
