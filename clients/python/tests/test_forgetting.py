@@ -368,5 +368,37 @@ class Tokens(unittest.TestCase):
         self.assertLess(len(looks), 2000)
 
 
+MAKING = """
+import gc, threading
+from itc_trace.watch import things
+kept = []
+class Node:
+    def __init__(self):
+        self.own = self
+        self.items = [self]
+class Finalized(Node):
+    def __del__(self):
+        kept.append(id(self) in things.MADE)
+def make():
+    for _ in range(2000):
+        Node().items.append(1)
+    for _ in range(20):
+        Finalized().items.append(1)
+threads = [threading.Thread(target=make) for _ in range(2)]
+for thread in threads: thread.start()
+for thread in threads: thread.join()
+gc.collect()
+print(len(things.MADE) < 400, len(kept), all(kept))
+"""
+
+
+class Made(ProgramCase):
+    def test_where_an_object_was_made_is_forgotten_with_it_but_for_its_finalizer(self) -> None:
+        for pure in ("", "1"):
+            with self.subTest(hooks="Python" if pure else "C"):
+                ran = run_traced(self.program(MAKING), ITC_TRACE_PURE=pure)
+                self.assertEqual(ran.stdout.split(), ["True", "40", "True"], ran.stderr)
+
+
 if __name__ == "__main__":
     unittest.main()

@@ -142,7 +142,7 @@ static Seen *new_seen(PyObject *stretch)
 typedef struct {
     PyObject_HEAD
     PyObject *base, *class_name, *maker, *site, *seen, *history, *things, *recipes, *reference, *name, *made, *making;
-    char is_sharing, is_shared, is_held;
+    char is_sharing, is_shared, is_held, is_finalized;
     void *one;
 } Owner;
 
@@ -341,8 +341,8 @@ static PyObject *owner_called(Owner *self, PyObject *words, PyObject *named)
     Py_INCREF(self);
     if (self->one != NULL && find_owner(self->one) == self)
         Py_XDECREF(take_owner(self->one));
-    self->one = NULL;
     int result = leave_owner(self);
+    self->one = NULL;
     Py_DECREF(self);
     turn_to_followers(thread, is_followed);
     return result < 0 ? NULL : Py_NewRef(Py_None);
@@ -390,8 +390,22 @@ static int make_room_for_held(void)
     return 0;
 }
 
+/* Forgets where an object was made that is gone. A finalizer may still touch it. */
+static int forget_made(Owner *owner)
+{
+    if (owner->one == NULL || owner->making == NULL || owner->is_finalized)
+        return 0;
+    PyObject *key = PyLong_FromVoidPtr(owner->one);
+    PyObject *made = key == NULL ? NULL : PyDict_GetItemWithError(given.made, key);
+    int result = made != NULL && made == owner->making ? PyDict_DelItem(given.made, key) : 0;
+    Py_XDECREF(key);
+    return result < 0 || PyErr_Occurred() ? -1 : 0;
+}
+
 static int leave_owner(Owner *owner)
 {
+    if (forget_made(owner) < 0)
+        return -1;
     PyObject *left = owner->things == NULL ? Py_NewRef(Py_None)
                                            : PyObject_CallMethodNoArgs((PyObject *)owner, text_leave);
     Py_XDECREF(left);
@@ -629,6 +643,7 @@ static Owner *new_owner(PyObject *one, PyObject *name)
     if (owner == NULL || key == NULL)
         goto fail;
     owner->one = one;
+    owner->is_finalized = type->tp_finalize != NULL;
     owner->base = PyLong_FromLongLong(next_base);
     next_base += 1LL << 32;
     owner->class_name = PyType_GetName(type);

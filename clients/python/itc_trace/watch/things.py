@@ -132,7 +132,7 @@ class OwnerFields:
 
     __slots__ = (
         "base", "class_name", "maker", "site", "seen", "history", "is_sharing", "is_shared", "things", "recipes",
-        "reference", "_name", "_made", "_making",
+        "reference", "is_finalized", "_name", "_made", "_making",
     )
 
     def __init__(self, base: int, class_name: str, name: str, making: Made | None) -> None:
@@ -152,6 +152,8 @@ class OwnerFields:
         self.recipes: dict[Any, dict[Any, Touched]] = {}
         """What is noted where a place touches it once more, in another stretch."""
         self.reference: Any = None
+        self.is_finalized = False
+        """Whether a finalizer may touch it once it is gone."""
         self._name = name
         self._made: str | None = None
         self._making = making
@@ -186,6 +188,10 @@ class Owner(Fields):
             self._made = "" if self._making is None else self._making.told()
         return self._made
 
+    @property
+    def making(self) -> Made | None:
+        return self._making
+
     def call(self, name: str, made: str) -> None:
         """Gives it another name, and says where it was made."""
         self._name, self._made, self._making = name, made, None
@@ -218,10 +224,12 @@ def _new_owner(one: Any, key: int, name: str) -> Owner:
     kind_name = name_of(type(one))
     made = MADE.get(key)
     owner = Owner(next(_bases), kind_name, name, made if made is not None and made.kind == kind_name else None)
+    owner.is_finalized = hasattr(type(one), "__del__")
 
     def gone(_: Any) -> None:
         if OWNERS.get(key) is owner:
             OWNERS.pop(key, None)
+        _forget_made(key, made, owner)
         owner.leave()
 
     try:
@@ -232,10 +240,17 @@ def _new_owner(one: Any, key: int, name: str) -> Owner:
     return OWNERS.setdefault(key, owner)
 
 
+def _forget_made(key: int, made: Made | None, owner: Owner) -> None:
+    """Forgets where an object was made that is gone, as the helper in C does."""
+    if made is not None and not owner.is_finalized and MADE.get(key) is made:
+        MADE.pop(key, None)
+
+
 def _left(key: int, is_gone: bool) -> None:
     """The object of this identity is known no more."""
     owner = OWNERS.pop(key, None)
     if is_gone and owner is not None:
+        _forget_made(key, owner.making, owner)
         owner.leave()
 
 
