@@ -145,16 +145,32 @@ class FreeLocks(TracedCase):
 
         self.races(scenario)
 
+    def test_one_that_is_acquired_again_within_another_is_held_beside_that(self) -> None:
+        told: list[list[str]] = []
+
+        def scenario() -> None:
+            outer, inner = threading.Lock(), threading.RLock()
+            with outer:
+                with inner:
+                    pass
+                with inner:
+                    told.append(held())
+            told.append(held())
+
+        made = scenario.__code__.co_firstlineno + 1
+        self.races(scenario)
+        self.assertEqual(told, [[f"lock outer (here:{made})", f"lock inner (here:{made})"], []])
+
     def test_what_comes_behind_the_release_is_not_within(self) -> None:
-        """Two tasks touch it at once, each behind a turn in which it has the lock."""
+        """Each of two tasks goes on in a section that it has left, and touches something behind that."""
         def scenario() -> None:
             guard = threading.Lock()
 
             def work() -> None:
-                for _ in range(3):
+                for _ in range(2):
                     with guard:
                         touch("within", write=True)
-                    touch("behind", write=True)
+                touch("behind", write=True)
 
             in_turn(work, work)
 

@@ -242,7 +242,7 @@ class Events(TracedCase):
 
 ONE_PLACE = """import threading
 class First: count = 0
-class Second: count = 0
+class Second: count = other = 0
 class Third: count = 0
 table = {"a": 0, "b": 0, "c": 0}
 lock = threading.Lock()
@@ -251,12 +251,14 @@ def put(box):
 def keep(key):
     table[key] = 1
 def use():
+    Second.other = 1
     put(First)
     put(First)
     put(Second)
-    with lock:
-        put(Third)
-        put(Third)
+    for _ in range(2):
+        with lock:
+            put(Third)
+            put(Third)
     put(Third)
     for key in ("a", "a", "b"):
         keep(key)
