@@ -365,6 +365,23 @@ await turn()
 place.state = "begun"
 await turn()
 place.state = "ended"
+## who looks starts the task that changes, and waits for it
+if key == 1:
+    seen = place.count
+    await asyncio.create_task(add())
+    place.count = seen + 1
+++
+async def add(): place.count += 1
+## who has written back starts the task that changes
+if key == 1:
+    seen = place.count
+    await turn()
+    place.count = seen + 1
+    task = asyncio.create_task(add())
+    await turn()
+    await task
+++
+async def add(): place.count += 1
 """
 
 SPLIT = """
@@ -580,6 +597,21 @@ if place.level > 0:
     place.level = 0
     await turn()
     place.level = 1
+## who looks starts the task that changes meanwhile
+if key == 1:
+    seen = place.count
+    task = asyncio.create_task(add())
+    await turn()
+    place.count = seen + 1
+    await task
+++
+async def add(): place.count += 1
+## all have looked before any of them writes
+seen = place.count
+await looked.wait()
+place.count = seen + 1
+++
+looked = asyncio.Barrier(3)
 ## a flag of a helper keeps nobody out
 seen = place.is_open
 place.is_open = True

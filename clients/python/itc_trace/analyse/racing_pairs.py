@@ -228,9 +228,9 @@ class _SplitPairs:
         """Of two groups the touches of the first one, each with those of the second that it races with."""
 
     def _unordered_later(self) -> dict[int, Events]:
-        """Of each read of a split the later changes that it is not in order with, and so of some changes."""
+        """Of each read of a split, and of each change, the later changes that it is not in order with."""
         reads = _events(row.event for split in self._splits for row in split.reads)
-        reads |= _events(split.change.event for split in self._splits if any(map(is_at_once, split.reads)))
+        reads |= _events(split.change.event for split in self._splits)
         changes = {event for alike in self._changes for event in alike.rows}
         return transposed((event, met) for event in changes if (met := self._unordered(event) & reads))
 
@@ -252,26 +252,18 @@ class _SplitPairs:
             for read in split.reads:
                 if other.kind in CONFLICTING[read.kind] and (met := self._between(split, read, other)):
                     between |= met
-                    if is_at_once(read):
-                        met &= self._unordered(read.event) | self._later.get(read.event, 0)
-                    if met:
-                        self._met[self._groups[read], other][read.event] |= met
+                    if beside := met & (self._unordered(read.event) | self._later.get(read.event, 0)):
+                        self._met[self._groups[read], other][read.event] |= beside
             if between and other.kind in CONFLICTING[change.kind]:
                 self._met[self._groups[change], other][change.event] |= between
 
     def _between(self, split: _Split, read: Row, other: _Alike) -> Events:
-        """Those changes of other tasks that are in order neither with the read nor with the change.
+        """Those changes of other tasks that may come behind the read and before the change.
 
-        What comes after the read by nothing but that it was taken at once may still come before the change.
+        What comes after the read in any case may, too: who reads may start the other task itself.
         """
         change = split.change
-        unordered = self._unordered(change.event)
-        if is_at_once(read):
-            unordered |= self._later.get(change.event, 0)
-        else:
-            after_read = self._later.get(read.event, 0)
-            up_to_read, up_to_change = (1 << read.event) - 1, (1 << change.event) - 1
-            unordered = unordered & (up_to_read | after_read) | after_read & ~up_to_change
+        unordered = self._unordered(change.event) | self._later.get(change.event, 0)
         events = other.without({*read.held, *change.held}) if self._with_locks else other.events
         return unordered & events & ~self._own[change.task]
 
