@@ -18,10 +18,11 @@ import os
 import re
 import sys
 import textwrap
-from collections.abc import Iterator
+from collections.abc import Iterable, Iterator
 from typing import NamedTuple
 
 from itc_trace import Races
+from itc_trace.analyse.races import Race
 from itc_trace.watch import passed_over
 
 from .pairs import Pair, races_of
@@ -1170,10 +1171,10 @@ def place_in(place: str) -> tuple[int, int] | None:
     return None if found is None else (int(found[1]), int(found[2]))
 
 
-def lines_told(races: Races) -> dict[int, set[int]]:
-    """Of each program the lines of the races that are told, if both sides are its own."""
+def lines_told(races: Iterable[Race]) -> dict[int, set[int]]:
+    """Of each program the lines of these races, if both sides are its own."""
     found: dict[int, set[int]] = {}
-    for race in (*races.races, *races.possible):
+    for race in races:
         sides = [place_in(side.place) for side in race.sides]
         one, other = sides
         if one is not None and other is not None and one[0] == other[0]:
@@ -1198,8 +1199,9 @@ def told_of(chosen: list[Construct]) -> Told:
     pairs: list[Pair] = chosen  # type: ignore[assignment]  # A program has its text as a pair has.
     passed_over.found.clear()
     _, plain = races_of(pairs, "", faults)
-    lines, stars = lines_told(plain), _stars(plain)
-    under_lock = lines_told(races_of(pairs, "lock", faults)[1])
+    lines, stars = lines_told([*plain.races, *plain.possible]), _stars(plain)
+    locked = races_of(pairs, "lock", faults)[1]
+    under_lock = lines_told([*locked.races, *locked.possible])
     passed_over.found.clear()
     answers = {
         number: Answer(frozenset(lines.get(number, ())), frozenset(stars.get(number, ()))) for number in range(len(chosen))
