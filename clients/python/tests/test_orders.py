@@ -1031,6 +1031,15 @@ class NoOrders(TracedCase):
 
         self.assert_race(scenario)
 
+    def test_a_queue_of_processes_orders_nothing_in_a_block(self) -> None:
+        def scenario() -> None:
+            jobs: multiprocessing.queues.Queue[int] = multiprocessing.Queue()
+            in_turn(lambda: (write(), jobs.put(1)), lambda: (jobs.get(), write()))
+            jobs.close()
+            jobs.join_thread()
+
+        self.assert_race(scenario)
+
     def test_a_descriptor_of_a_loop_orders_nothing(self) -> None:
         def scenario() -> None:
             one, other = os.pipe()
