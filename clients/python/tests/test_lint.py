@@ -37,6 +37,7 @@ OF_THE_LIBRARY = {
     "sync.locks": "_is_owned",
     "sync.managed": "_at_fork_reinit",
     "sync.managers": "_owned_by_manager _registry",
+    "sync.other_orders": "_state _unfinished_tasks _value",
     "sync.pipes": "_sem _semlock _unfinished_tasks",
     "sync.process_signals": "_cond _flag _lock _make_methods _semlock",
     "sync.processes": "_count _is_mine _is_zero _make_methods _registry",
