@@ -13,7 +13,7 @@ import re
 import sys
 import textwrap
 from collections import Counter
-from collections.abc import Iterator
+from collections.abc import Iterable, Iterator
 from typing import NamedTuple
 
 from itc_trace.watch import passed_over
@@ -21,7 +21,7 @@ from itc_trace.watch.process_state import CHANGES, LOOKS
 
 from .pairs import Pair, races_of
 
-SEEN, STARRED, NO_THING = "seen", "starred", "no thing"
+SEEN, STARRED, NO_THING = ANSWERS = "seen", "starred", "no thing"
 
 
 class Row(NamedTuple):
@@ -417,13 +417,22 @@ def _global_words(row: Row) -> set[str]:
     }
 
 
+def counts_by_chapter(found: Iterable[tuple[Row, str]]) -> str:
+    """A table for the page: how many rows of each chapter have each answer."""
+    counts = Counter((row.chapter, answer) for row, answer in found)
+    lines = [
+        f"| {name[0].upper()}{name[1:]} | {' | '.join(str(sum(counts[one, answer] for one in names)) for answer in ANSWERS)} |"
+        for name, names in [*((chapter.name, [chapter.name]) for chapter in CHAPTERS), ("all", [chapter.name for chapter in CHAPTERS])]
+    ]
+    return "\n".join(["| What is done to | Seen | With a star | No thing |", "|---|---|---|---|", *lines])
+
+
 def table() -> str:
     """The rows by chapters, as they are answered, and how many there are of each answer."""
     found, faults = answers()
     lines = [f"{answer:9} {row.chapter}: {row.one!r} beside {row.other!r}" for row, answer in found]
     lines += [f"wrong: {row.chapter}: {row.one!r} beside {row.other!r} is {answer}, and not {row.answer}" for row, answer in found if row.answer != answer]
-    counts = Counter(answer for _, answer in found)
-    return "\n".join([*lines, *faults, ", ".join(f"{count} {answer}" for answer, count in counts.most_common())])
+    return "\n".join([*lines, *faults, counts_by_chapter(found)])
 
 
 if __name__ == "__main__":

@@ -6,6 +6,7 @@ import importlib
 import re
 import unittest
 
+from .slips import counts_by_chapter, rows
 from .support import PACKAGE
 
 PAGE = PACKAGE.parent.parent / "docs" / "python.md"
@@ -28,6 +29,9 @@ class Page(unittest.TestCase):
             self.assertIn(f"`{name}`", heads)
         for name in ("contextvars", "atexit.register"):
             self.assertIn(f"| `{name}` |", PAGE.read_text())
+
+    def test_the_counts_of_what_is_seen_are_those_of_the_rows(self) -> None:
+        self.assertIn(f"\n{counts_by_chapter((row, row.answer) for row in rows())}\n", PAGE.read_text())
 
 
 if __name__ == "__main__":
