@@ -57,6 +57,13 @@ async def main():
                 for number in range(2): group.start_soon(close, f"end {late} {number} {way}", send.clone())
                 send.close()
                 group.start_soon(see_the_end, f"end {late}", way, receive, late)
+    limiter = anyio.CapacityLimiter(40)
+    await asyncio.gather(pass_through("many wrong", limiter, 1), pass_through("many wrong", limiter, 50))
+async def pass_through(name, limiter, times):
+    if times == 1: itc_trace.touch(name, write=True)
+    for _ in range(times):
+        async with limiter: pass
+    if times > 1: itc_trace.touch(name, write=True)
 async def close(name, send):
     await asyncio.sleep(0.02)
     if name.endswith("right"): itc_trace.touch(name, write=True)
@@ -135,7 +142,7 @@ class OtherOrders(ProgramCase):
 
     @needs("python3-anyio", "anyio")
     def test_what_anyio_hands_over_is_in_order(self) -> None:
-        self.check(ANYIO, "anyio", 4 * 3 + 3 * 2 * 3 + 2 * 2)
+        self.check(ANYIO, "anyio", 4 * 3 + 3 * 2 * 3 + 2 * 2 + 1)
 
     @needs("python3-tornado", "tornado")
     def test_what_tornado_hands_over_is_in_order(self) -> None:

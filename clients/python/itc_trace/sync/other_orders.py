@@ -20,14 +20,17 @@ from .base import Patches
 from .by_identity import ByIdentity
 from .later import once_imported
 from .permits import MOST_PERMITS
-from .queues import Items, note_done, take_done
+from .queues import MOST_PLACES, Items, note_done, take_done
 from .trio_orders import CLOSED
 
 LIBRARIES = frozenset(("anyio", "tornado"))
 
 
 class _Kind(NamedTuple):
-    """A class of permits, the methods that take and give one, and how many are free."""
+    """A class of permits, the methods that take and give one, and how many are free.
+
+    A limiter of many bounds threads and connections alone. Of such a one none seems free.
+    """
 
     module: str
     name: str
@@ -41,7 +44,7 @@ _KINDS = (
     _Kind("anyio._core._synchronization", "Semaphore", "acquire_nowait", "release", lambda permits: permits.value),
     _Kind(
         "anyio._backends._asyncio", "CapacityLimiter", "acquire_on_behalf_of_nowait", "release_on_behalf_of",
-        lambda permits: permits.available_tokens,
+        lambda permits: permits.available_tokens if permits.total_tokens <= MOST_PLACES else 0,
     ),
     _Kind("tornado.locks", "Semaphore", "acquire", "release", lambda permits: permits._value),
 )
