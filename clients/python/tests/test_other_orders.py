@@ -59,6 +59,16 @@ async def main():
                 group.start_soon(see_the_end, f"end {late}", way, receive, late)
     limiter = anyio.CapacityLimiter(40)
     await asyncio.gather(pass_through("many wrong", limiter, 1), pass_through("many wrong", limiter, 50))
+    permits = anyio.Semaphore(2)
+    await asyncio.gather(
+        take_one(0, ("of two wrong", "of two right"), permits), take_one(0.02, ("of two wrong",), permits),
+        take_one(0.04, ("of two right",), permits),
+    )
+async def take_one(pause, names, permits):
+    await asyncio.sleep(pause)
+    await permits.acquire()
+    for name in names: itc_trace.touch(name, write=True)
+    if not pause: permits.release()
 async def pass_through(name, limiter, times):
     if times == 1: itc_trace.touch(name, write=True)
     for _ in range(times):
@@ -142,7 +152,7 @@ class OtherOrders(ProgramCase):
 
     @needs("python3-anyio", "anyio")
     def test_what_anyio_hands_over_is_in_order(self) -> None:
-        self.check(ANYIO, "anyio", 4 * 3 + 3 * 2 * 3 + 2 * 2 + 1)
+        self.check(ANYIO, "anyio", 4 * 3 + 3 * 2 * 3 + 2 * 2 + 2)
 
     @needs("python3-tornado", "tornado")
     def test_what_tornado_hands_over_is_in_order(self) -> None:

@@ -199,14 +199,6 @@ def _turn(row: Row) -> int:
     return row.turn
 
 
-def is_at_once(row: Row) -> bool:
-    """Whether it is of a step that was taken within one of another task, which goes on behind it.
-
-    Such turns have numbers below 0.
-    """
-    return row.turn < 0
-
-
 class _SplitPairs:
     """Between two tasks of one loop: a read, a change by the same task that goes back to it in a later turn, and a
     change by the other task that may come in between."""
