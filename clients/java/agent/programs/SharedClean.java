@@ -185,6 +185,32 @@ public final class SharedClean {
         both(use, use);
     }
 
+    /** A thread that is handed an object, and does nothing with it. */
+    static final class Keeper extends Thread {
+        private final StringBuilder kept;
+        private final int[] numbers;
+
+        Keeper(StringBuilder kept, int[] numbers) {
+            this.kept = kept;
+            this.numbers = numbers;
+        }
+
+        @Override
+        public void run() {
+            System.out.println(isThere(kept, numbers));
+        }
+
+        private boolean isThere(StringBuilder text, int[] all) {
+            return text != null && all != null;
+        }
+    }
+
+    static void handedToOwnMethods() throws InterruptedException {
+        StringBuilder text = new StringBuilder("text");
+        int[] numbers = {1, 2};
+        both(new Keeper(text, numbers), new Keeper(text, numbers));
+    }
+
     private SharedClean() {}
 
     public static void main(String[] words) throws Exception {

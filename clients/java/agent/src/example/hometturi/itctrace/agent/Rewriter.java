@@ -141,7 +141,7 @@ final class Rewriter {
                         owner = classes.interfaceOfTheJdk(loader, call.owner);
                     }
                     if (owner != null) {
-                        wholes.rewrite(call, owner, line);
+                        wholes.rewrite(call, owner, classes.declares(loader, call.owner, call.name + call.desc), line);
                     } else if (call.owner.startsWith("[")) {
                         wholes.rewriteClone(call, line);
                     } else if (call.owner.equals("java/lang/Object")) {

@@ -66,18 +66,18 @@ final class WholeCalls {
     /** A method that any object has. */
     void rewriteOfAny(MethodInsnNode call, int line) {
         if (call.getOpcode() == Opcodes.INVOKEVIRTUAL && OF_ANY_OBJECT.contains(call.name)) {
-            rewrite(call, "java/lang/Object", line);
+            rewrite(call, "java/lang/Object", false, line);
         }
     }
 
-    /** The method of the JDK is one of this class, or of one below it. */
-    void rewrite(MethodInsnNode call, String owner, int line) {
+    /** The method is one of this class of the JDK, or of one below it. What one of the program does with what it gets is seen there. */
+    void rewrite(MethodInsnNode call, String owner, boolean isOfProgram, int line) {
         boolean isMaking = call.name.equals("<init>");
         boolean isStatic = call.getOpcode() == Opcodes.INVOKESTATIC;
         boolean isOnWhole = !isMaking && !isStatic && isWhole(owner);
         Type[] given = Type.getArgumentTypes(call.desc);
         List<Integer> touched = new ArrayList<>(isOnWhole ? List.of(-1) : List.of());
-        for (int place = 0; place < given.length; place++) {
+        for (int place = 0; place < given.length && !isOfProgram; place++) {
             if (isTouched(owner, call.name, given[place].getDescriptor())) {
                 touched.add(place);
             }
