@@ -17,11 +17,11 @@ def begin():
 
 
 def work(number):
-    local.rows.append(number)  # race: addition
+    local.rows.append(number)  # race: write
 
 
 with ThreadPoolExecutor(2, initializer=begin) as pool:
     jobs = [pool.submit(work, number) for number in range(12)]
     for job in jobs[:4]:
         job.result()
-    print(sum([len(rows) for rows in all_rows]) >= 0)  # race: length
+    print(sum([len(rows) for rows in all_rows]) >= 0)  # race: read
