@@ -223,6 +223,7 @@ static PyMemberDef owner_members[] = {
     {"_making", T_OBJECT, offsetof(Owner, making), 0, NULL},
     {"is_sharing", T_BOOL, offsetof(Owner, is_sharing), 0, NULL},
     {"is_shared", T_BOOL, offsetof(Owner, is_shared), 0, NULL},
+    {"is_finalized", T_BOOL, offsetof(Owner, is_finalized), 0, NULL},
     {NULL},
 };
 
