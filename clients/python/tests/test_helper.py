@@ -4,6 +4,7 @@ from __future__ import annotations
 
 import json
 import os
+import re
 import subprocess
 import sys
 import tempfile
@@ -27,6 +28,9 @@ NO_HELPER = "there is no compiler here, or another Python"
 
 Noted = frozenset[tuple[str, str, str, int]]
 
+OF_RUN = re.compile(r"\b\d{9,}\b")
+"""The identities of threads and objects, which differ between two runs."""
+
 
 def noted(program: Path, form: str, place: int) -> Noted:
     """The things that tasks share, with what was done to each, and where. The place is that of the program among all of its test."""
@@ -34,7 +38,8 @@ def noted(program: Path, form: str, place: int) -> Noted:
         journal = Path(folder, "journal")
         run_program(program, place, "--journal", str(journal), ITC_TRACE_PURE=FORMS[form])
         rows = [json.loads(line) for line in journal.read_text().splitlines()]
-    return frozenset((row["name"], row["kind"], os.path.basename(row["file"]), row["line"]) for row in rows if row.get("thing") and "name" in row)
+    touches = [row for row in rows if row.get("thing") and "name" in row]
+    return frozenset((OF_RUN.sub("a number", row["name"]), row["kind"], os.path.basename(row["file"]), row["line"]) for row in touches)
 
 
 def own_process(*texts: str, **environment: str) -> str:
