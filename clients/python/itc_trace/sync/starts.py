@@ -151,7 +151,9 @@ def _line_of(process: Any) -> Line | None:
 def _join(original: Any) -> Any:
     def join(self: Any, timeout: float | None = None) -> None:
         original(self, timeout)
-        if _line_of(self) is not None and self._popen is not None and self._popen.returncode is not None:
+        # Another thread may have been told the end, and has not noted it yet.
+        is_over = timeout is None or self._popen is not None and self._popen.returncode is not None
+        if _line_of(self) is not None and is_over:
             following.has_ended(_line_of(self))
 
     return join
