@@ -167,8 +167,10 @@ class Run:
                 continue
             if self._is_kept_out(change, between, touches[: touches.index(change)]):
                 continue
-            if between.kind in CONFLICTING[read.kind] and apart(read, between) and apart(change, between):
-                found.add(_by_event(read, between))
+            # What comes behind the read in any case may come before the change: its task may have begun it.
+            if between.kind in CONFLICTING[read.kind] and apart(change, between):
+                if apart(read, between):
+                    found.add(_by_event(read, between))
                 if between.kind in CONFLICTING[change.kind]:
                     found.add(_by_event(change, between))
         return found
