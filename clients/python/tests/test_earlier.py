@@ -77,7 +77,7 @@ def main(given):
         for thread in threads: thread.join()
     found = traced.races()
     print(*sorted(race.thing for race in found.races), *(one.text for one in found.unseen), sep="\\n")
-    print(*sorted(name for name in (str(locks[name].acquire) for name in ("local", "given")) if "built-in" in name))
+    print(*[name for name in ("given", "local") if not hasattr(locks[name], "_itc_token")])
 
 import itc_trace
 main(threading.Lock())

@@ -413,8 +413,11 @@ _IN_PYTHON = [
 
 
 def be_quick(quick: Any) -> None:
-    """From here on locks are acquired and released by methods in C, which leave to these what is rare."""
-    if not _is_walked:
+    """From here on locks are acquired and released by methods in C, which leave to these what is rare.
+
+    Those that another library has put in the place of the interpreter's keep these.
+    """
+    if not _is_walked and all(kind.__module__ == "_thread" for kind in (_PlainLock, _PlainRLock)):
         _put_methods(quick.lock_methods(
             turns=TURNS, local=local, asyncio=ASYNCIO, nothing=no_loop, took=_took_by_c, gave=_gave_by_c,
             lock=TracedLock, rlock=TracedRLock, token=Token, line=Line, section=Section, identity=LockIdentity,
