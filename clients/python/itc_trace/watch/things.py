@@ -26,7 +26,7 @@ from ..model.lines import Line, Touched, state
 from ..record.noting import line_of_now
 from ..model.stretches import SITES
 from .both_languages import LOOKED_THROUGH, MOST_HELD, MOST_MADE
-from .decisions import fields_of, is_of, name_of
+from .decisions import class_with, fields_of, is_of, name_of
 from .helper import quick
 from .holding import OLDEST, REFERENCES_OF_HELD, Held
 from .keys import UNKNOWN
@@ -224,7 +224,7 @@ def _new_owner(one: Any, key: int, name: str) -> Owner:
     kind_name = name_of(type(one))
     made = MADE.get(key)
     owner = Owner(next(_bases), kind_name, name, made if made is not None and made.kind == kind_name else None)
-    owner.is_finalized = hasattr(type(one), "__del__")
+    owner.is_finalized = class_with(type(one), "__del__") is not None
 
     def gone(_: Any) -> None:
         if OWNERS.get(key) is owner:
