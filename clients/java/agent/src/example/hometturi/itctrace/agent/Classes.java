@@ -9,10 +9,12 @@ import java.io.InputStream;
 import java.net.URL;
 import java.util.ArrayList;
 import java.util.Collections;
+import java.util.HashSet;
 import java.util.List;
 import java.util.Map;
 import java.util.Optional;
 import java.util.OptionalInt;
+import java.util.Set;
 import java.util.WeakHashMap;
 import java.util.concurrent.ConcurrentHashMap;
 import org.objectweb.asm.ClassReader;
@@ -30,6 +32,7 @@ final class Classes {
         final Type type;
         final boolean isWatched;
         private final List<Field> fields = new ArrayList<>();
+        private final Set<String> methods = new HashSet<>();
         private int size;
         private int number = -1;
         String above;
@@ -64,6 +67,7 @@ final class Classes {
         @Override
         public MethodVisitor visitMethod(int access, String name, String descriptor, String signature, String[] exceptions) {
             isInitialized |= name.equals("<clinit>");
+            methods.add(name + descriptor);
             return null;
         }
 
@@ -174,6 +178,16 @@ final class Classes {
             one = described.get().above;
         }
         return Watching.isOfJdk(one);
+    }
+
+    /** Whether the method that code of this loader calls is one of the program. One that is abstract is, too. */
+    boolean declares(ClassLoader loader, String owner, String method) {
+        for (Optional<Described> one = of(loader, owner); one.isPresent(); one = of(loader, one.get().above)) {
+            if (one.get().methods.contains(method)) {
+                return true;
+            }
+        }
+        return false;
     }
 
     /** The class of the JDK that this one is, or has above. Null if that is Object, or unknown. */
