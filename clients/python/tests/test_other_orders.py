@@ -137,7 +137,25 @@ tornado.ioloop.IOLoop.current().run_sync(main)
 """
 
 
+OTHER_VERSION = """
+import os, sys, tempfile
+with tempfile.TemporaryDirectory() as folder:
+    sys.path.insert(0, folder)
+    for name in ("tornado.locks", "tornado.queues", "anyio.streams.memory", "anyio._core._synchronization"):
+        path = os.path.join(folder, *name.split("."))
+        os.makedirs(os.path.dirname(path), exist_ok=True)
+        with open(f"{path}.py", "w") as module:
+            module.write("class Event: set = 3\\nQueue = None\\nclass MemoryObjectSendStream: pass\\n")
+    import anyio.streams.memory, anyio._core._synchronization, tornado.locks, tornado.queues
+    print(tornado.locks.Event.set, tornado.queues.Queue)
+"""
+
+
 class OtherOrders(ProgramCase):
+    def test_a_version_without_these_classes_is_left_as_it_is(self) -> None:
+        ran = run_traced(self.program(OTHER_VERSION))
+        self.assertEqual((ran.returncode, ran.stdout), (0, "3 None\n"), ran.stderr)
+
     def check(self, text: str, module: str, count: int) -> None:
         """Without the order each of so many things has a race, and with it none has."""
         program = self.program(text)

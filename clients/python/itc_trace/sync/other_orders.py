@@ -66,15 +66,20 @@ def put(patches: Patches) -> None:
     once_imported("tornado.queues", partial(_put_queues, patches))
 
 
+def _wrap_all(patches: Patches, module: ModuleType, wrapped: dict[tuple[str, str], Any]) -> None:
+    """Wraps methods of classes, or none: another version may have no such class here, or not with its own methods."""
+    if all(method in getattr(vars(module).get(name), "__dict__", ()) for name, method in wrapped):
+        for (name, method), how in wrapped.items():
+            patches.wrap(vars(module)[name], method, how)
+
+
 # Permits
 
 
 def _put_kind(patches: Patches, kind: _Kind, module: ModuleType) -> None:
-    """Another version of the library may have no such class here, or none with these methods of its own."""
-    found: Any = vars(module).get(kind.name)
-    if isinstance(found, type) and {kind.acquire, kind.release} <= vars(found).keys():
-        patches.wrap(found, kind.acquire, partial(_taking, kind.free))
-        patches.wrap(found, kind.release, partial(_giving, kind.free))
+    _wrap_all(patches, module, {
+        (kind.name, kind.acquire): partial(_taking, kind.free), (kind.name, kind.release): partial(_giving, kind.free),
+    })
 
 
 def _freed_of(permits: Any, free: float) -> deque[Token | None]:
@@ -115,10 +120,9 @@ def _giving(free: Callable[[Any], Any], original: Any) -> Any:
 
 
 def _put_events(patches: Patches, module: ModuleType) -> None:
-    kind: Any = vars(module)["Event"]
-    patches.wrap(kind, "set", _event_set)
-    for name in ("is_set", "wait"):
-        patches.wrap(kind, name, _event_seen)
+    _wrap_all(patches, module, {
+        ("Event", "set"): _event_set, ("Event", "is_set"): _event_seen, ("Event", "wait"): _event_seen,
+    })
 
 
 def _event_set(original: Any) -> Any:
@@ -152,19 +156,18 @@ def _items_of(queue: Any) -> Items:
 
 
 def _put_streams(patches: Patches, module: ModuleType) -> None:
-    sends, receives = vars(module)["MemoryObjectSendStream"], vars(module)["MemoryObjectReceiveStream"]
-    patches.wrap(sends, "send_nowait", partial(_putting, lambda stream: stream._state))
-    patches.wrap(sends, "send", _send)
-    patches.wrap(sends, "close", _close)
-    patches.wrap(receives, "receive_nowait", _receive_nowait)
-    patches.wrap(receives, "receive", _receive)
+    sends, receives = "MemoryObjectSendStream", "MemoryObjectReceiveStream"
+    _wrap_all(patches, module, {
+        (sends, "send_nowait"): partial(_putting, lambda stream: stream._state), (sends, "send"): _send,
+        (sends, "close"): _close, (receives, "receive_nowait"): _receive_nowait, (receives, "receive"): _receive,
+    })
 
 
 def _put_queues(patches: Patches, module: ModuleType) -> None:
-    patches.wrap(vars(module)["Queue"], "put_nowait", partial(_putting, lambda queue: queue))
-    patches.wrap(vars(module)["Queue"], "task_done", _task_done)
-    for name in ("Queue", "PriorityQueue", "LifoQueue"):
-        patches.wrap(vars(module)[name], "_get", _get)
+    _wrap_all(patches, module, {
+        ("Queue", "put_nowait"): partial(_putting, lambda queue: queue), ("Queue", "task_done"): _task_done,
+        **{(name, "_get"): _get for name in ("Queue", "PriorityQueue", "LifoQueue")},
+    })
 
 
 def _putting(known: Callable[[Any], Any], original: Any) -> Any:
