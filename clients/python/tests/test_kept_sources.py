@@ -14,7 +14,6 @@ from pathlib import Path
 
 from itc_trace.analyse.kept_sources import MOST_KEPT, add_sources, source_rows, sources_of
 from itc_trace.cli.process_sources import ProcessSources
-from itc_trace.cli.system_file import Described
 from itc_trace.record.journal import ProcessTold, SourceText, read_line, read_whole
 
 from .support import PACKAGE
@@ -22,10 +21,6 @@ from .test_report import SELLING
 
 ROW = '{"event":3,"task":"a","thing":"x","kind":"write","file":"%s","line":%d,"label":"write x"}\n'
 END = '{"end":true,"lines":1}\n'
-
-
-def described(folder: Path, *command: str) -> Described:
-    return Described("shop", list(command), str(folder), None, None, [], {}, True, False, [])
 
 
 class Rows(unittest.TestCase):
@@ -133,7 +128,7 @@ class Files(unittest.TestCase):
             ("java", "java", "shop/b/Store.java", of_java), ("java", "java", "other/Store.java", None),
         ):
             with self.subTest(file=file, folder=folder):
-                self.assertEqual(ProcessSources(described(self.folder / folder, command)).find(file), due)
+                self.assertEqual(ProcessSources(str(self.folder / folder), [command]).find(file), due)
 
     def test_the_file_that_describes_the_system_may_lie_elsewhere(self) -> None:
         of_java, other = self.write("app/src/main/java/shop/b/Store.java"), self.write("app/src/main/java/shop/a/Store.java")
@@ -146,9 +141,7 @@ class Files(unittest.TestCase):
             (["cargo", "run", "--manifest-path", of_rust], "src/main.rs", of_rust), (["cargo", "run"], "src/main.rs", None),
         ):
             with self.subTest(file=file, command=command[:2]):
-                told = described(self.folder / "elsewhere", command[0])
-                told.command = command
-                self.assertEqual(ProcessSources(told).find(file), due)
+                self.assertEqual(ProcessSources(str(self.folder / "elsewhere"), command).find(file), due)
 
 
 class Lists(unittest.TestCase):

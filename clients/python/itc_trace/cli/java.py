@@ -11,12 +11,15 @@ from dataclasses import dataclass, field
 from pathlib import Path
 from types import FrameType
 
+from ..analyse.kept_sources import source_rows
+from ..model.file_names import working_folder
 from ..model.verdict import BREAKS_OFF, END_OF_ALL, Cause, Unseen
 from ..record.collector import find_in_repository
 from ..record.environment import PARTS, Reporting
 from ..record.faults import Fault
 from ..record.journal import NoJournal, read_whole
 from .ending import Child
+from .process_sources import ProcessSources
 
 AGENT = "itc-trace-agent.jar"
 NAMED = "ITC_TRACE_AGENT"
@@ -119,7 +122,7 @@ class JavaProgram:
         return f"{self._said.process} runs, "
 
     def lines(self) -> list[str]:
-        """The lines of its journal. It has several if it starts further JVMs by the same words."""
+        """The lines of its journal, and the sources. It has several journals if it starts further JVMs by the same words."""
         lines: list[str] = []
         found = glob.glob(glob.escape(os.path.join(self._folder, "journal")) + "*")
         written = [path for path in sorted(found, key=lambda path: (len(path), path)) if os.path.getsize(path) > 0]
@@ -127,7 +130,8 @@ class JavaProgram:
             self.unseen.append(Unseen(Cause.JOURNAL, "the program reported nothing"))
         for path in written:
             lines += self._lines_of(path)
-        return [*lines, END_OF_ALL]
+        sources = ProcessSources(working_folder(), self._java.words)
+        return [*lines, *(one.row() for one in source_rows(lines, sources.find)), END_OF_ALL]
 
     def _lines_of(self, path: str) -> list[str]:
         with open(path, encoding="utf-8", errors="replace") as journal:

@@ -1,11 +1,10 @@
-"""Finds the source files that a process of a system names, which may lie elsewhere than the file that describes it."""
+"""Finds the source files that a process names, which may lie elsewhere than where it is started."""
 
 from __future__ import annotations
 
 import os
+from collections.abc import Sequence
 from pathlib import Path
-
-from .system_file import Described
 
 MOST_LOOKED_AT = 20_000
 """So many files of a process's folder are looked through at most."""
@@ -16,12 +15,12 @@ class ProcessSources:
     """The files that the journal of a process names.
 
     They are looked for in the process's folder, in those of the files that its command names, in the current one, and
-    in those above. The file that describes the system may lie elsewhere.
+    in those above. The file that describes a system may lie elsewhere.
     """
 
-    def __init__(self, described: Described) -> None:
-        folder = Path(described.directory)
-        words = [folder / word for part in described.command for word in part.split(os.pathsep)]
+    def __init__(self, directory: str, command: Sequence[str]) -> None:
+        folder = Path(directory)
+        words = [folder / word for part in command for word in part.split(os.pathsep)]
         named = [word for word in words if os.path.exists(word)]
         folders = [one.resolve() for one in (folder, *(word if word.is_dir() else word.parent for word in named))]
         self._roots = list(dict.fromkeys([*folders, Path.cwd()]))

@@ -414,7 +414,9 @@ class Running:
                 say(f"itc_trace: process {process.name} reported {len(written)} times: it was started again")
             own = [path for path in written if self._is_journal(process, path)]
             yield from _lines_of(process, own)
-            found = source_rows(_lines_of(process, own), ProcessSources(process.described).find)
+            described = process.described
+            sources = ProcessSources(described.directory, described.command)
+            found = source_rows(_lines_of(process, own), sources.find)
             yield from (one.row() for one in found)
         yield END_OF_ALL
 
