@@ -2,8 +2,8 @@
 
 Each method of `Races`, `MoreRaces` and `SharedRaces` is a program with a race, and each of `Clean`, `MoreClean` and `SharedClean` one
 without. A line that races says so in a comment of the source, as in `race: lostUpdate`. Exactly these lines have to be listed. Those of
-`Stars` and `SharedStars` have no race either, and each line with a comment as `star: sharedMap` has to be named as not looked into. A run
-of those of `Children` has to be incomplete, and names where they start another JVM. The odd programs of `Odd` have to write what they
+`Stars` and `SharedStars` have no race either, and each line with a comment as `star: sharedMap` has to be named as not looked into. The
+races of `Meant` are silenced by comments, but for lines that say so. A run of those of `Children` has to be incomplete, and names where they start another JVM. The odd programs of `Odd` have to write what they
 write unwatched.
 
 Usage: clients/watched_java.py FOLDER, with the agent and the built programs in FOLDER. The last line is 'watched_java: N passed'.
@@ -62,16 +62,17 @@ class Ran(NamedTuple):
     report: dict[str, Any]
 
 
-def watched(folder: Path, words: list[str], *options: str) -> Ran:
-    """Runs a program with the agent."""
+def watched(folder: Path, words: list[str], *options: str, sources: Path | None = None) -> Ran:
+    """Runs a program with the agent, with its sources beside its classes if they are named."""
+    classes = ":".join(str(one) for one in (folder / "programs", sources) if one is not None)
     environment = {
         **os.environ, "PYTHONPATH": str(CLIENTS / "python"), "ITC_TRACE_AGENT": str(folder / "itc-trace-agent.jar"),
     }
     with tempfile.NamedTemporaryFile(suffix=".json") as report:
         command = [sys.executable, "-m", "itc_trace", "java", "--all", "--json", report.name, *options, "--", *BRIEF]
         ran = subprocess.run(
-            [*command, "-cp", str(folder / "programs"), *words], env=environment, capture_output=True, text=True,
-            timeout=MOST_SECONDS, check=False,
+            [*command, "-cp", classes, *words], env=environment, capture_output=True, text=True, timeout=MOST_SECONDS,
+            check=False,
         )
         told = Path(report.name).read_text()
     return Ran(ran.returncode, ran.stdout, ran.stderr, json.loads(told) if told else {})
@@ -112,6 +113,16 @@ def fault_of_parent(folder: Path, program: Program) -> str | None:
     return None
 
 
+def fault_of_meant(folder: Path, program: Program) -> str | None:
+    """What is wrong with a run of a program whose races are silenced, but for lines that say so."""
+    ran = watched(folder, [program.type, program.name], sources=SOURCES)
+    due, is_silenced = RACES if program.lines else NO_RACE, bool(ran.report.get("silenced"))
+    texts = [side["source"] for finding in ran.report.get("findings", ()) for side in finding["sides"]]
+    if ran.status != due or lines_of(ran.report) != program.lines or is_silenced == bool(program.lines) or not all(texts):
+        return f"status {ran.status}, {sorted(lines_of(ran.report))}, silenced: {is_silenced}, sources: {texts}\n{ran.errors}"
+    return None
+
+
 def fault_of(folder: Path, program: Program) -> str | None:
     """What is wrong with a run of the program."""
     ran = watched(folder, [program.type, program.name])
@@ -142,7 +153,7 @@ def fault_of_odd(folder: Path, program: Program) -> str | None:
 FAULTS = (
     ("Races", fault_of), ("MoreRaces", fault_of), ("Clean", fault_of), ("MoreClean", fault_of), ("Stars", fault_of_starred),
     ("SharedRaces", fault_of), ("SharedClean", fault_of), ("SharedStars", fault_of_starred), ("Children", fault_of_parent),
-    ("Odd", fault_of_odd),
+    ("Odd", fault_of_odd), ("Meant", fault_of_meant),
 )
 """The classes of programs, and what looks at a run of one."""
 

@@ -1,4 +1,4 @@
-"""Races that the program's author means: by a comment `# itc: benign` on one of their lines, or by a file of patterns.
+"""Races that the program's author means: by a comment `itc: benign` on one of their lines, or by a file of patterns.
 
 A line of the file has a pattern of the thing, and none, one or two of the places: `stock['left'] shop.py:8 shop.py:*`.
 A `*` stands for any letters, also for a space. A word that begins with `#` begins a comment.
@@ -7,22 +7,21 @@ A `*` stands for any letters, also for a space. A word that begins with `#` begi
 from __future__ import annotations
 
 import re
-import tokenize
 from collections.abc import Iterable, Iterator, Sequence
 from dataclasses import dataclass, field
-from functools import cache
 from itertools import permutations, takewhile
 from pathlib import Path, PurePath
 from typing import TypeVar
 
 from ..record.faults import Fault
 from ..model.finding import Finding, FoundSide, Known, named
+from ..model.sources import Sources
+from .benign_comments import lines_with_comment
 from .deadlocks import Deadlock, LockSide
 from .races import Race, Races, Side
 
 One = TypeVar("One", Race, Deadlock)
 AnySide = Side | LockSide | FoundSide
-COMMENT = re.compile(r"#\s*itc:\s*benign\b")
 PLACE = re.compile(r"[^:*].*:\d+|.*\*.*")
 MOST_PLACES = 2
 
@@ -75,12 +74,15 @@ class Looking:
         found.deadlocks = list(self._left(found.deadlocks, found))
         found.possible = list(self._left(found.possible, found))
         found.possible_deadlocks = list(self._left(found.possible_deadlocks, found))
-        found.hidden = [race for race in found.hidden if not self._is_meant(race) and not self._is_known(race, found)]
+        found.hidden = [
+            race for race in found.hidden
+            if not self._is_meant(race, found.sources) and not self._is_known(race, found)
+        ]
 
     def _left(self, races: Iterable[One], found: Races) -> Iterator[One]:
         """Those that are neither meant nor in the baseline."""
         for race in races:
-            if self._is_meant(race):
+            if self._is_meant(race, found.sources):
                 found.meant.append(race)
                 continue
             known = race.finding(found.sources).known_as
@@ -93,10 +95,10 @@ class Looking:
     def _is_known(self, race: Race, found: Races) -> bool:
         return race.finding(found.sources).known_as in self._known
 
-    def _is_meant(self, race: Race | Deadlock) -> bool:
+    def _is_meant(self, race: Race | Deadlock, sources: Sources) -> bool:
         fitting = {pattern for pattern in self.patterns if pattern.fits(race)}
         self._fitting |= fitting
-        return bool(fitting) or any(_has_comment(side) for side in race.sides)
+        return bool(fitting) or any(_has_comment(side, sources) for side in race.sides)
 
     def unfitting(self) -> Iterator[str]:
         """The lines of files by which no race is meant, in words for a person."""
@@ -115,22 +117,9 @@ class Looking:
         return [one for one in self.baseline if one not in self.met]
 
 
-def _has_comment(side: Side | LockSide) -> bool:
+def _has_comment(side: Side | LockSide, sources: Sources) -> bool:
     file, _, line = side.place.rpartition(":")
-    return line.isdigit() and int(line) in _lines_with_comment(file)
-
-
-@cache
-def _lines_with_comment(file: str) -> frozenset[int]:
-    """The lines of a source file that have the comment. A text that reads the same is none."""
-    try:
-        with tokenize.open(file) as source:
-            tokens = list(tokenize.generate_tokens(source.readline))
-    except (OSError, SyntaxError, UnicodeDecodeError, tokenize.TokenError):
-        return frozenset()
-    return frozenset(
-        token.start[0] for token in tokens if token.type == tokenize.COMMENT and COMMENT.match(token.string)
-    )
+    return line.isdigit() and int(line) in lines_with_comment(sources.path(file) or file)
 
 
 def read_patterns(file: str) -> list[Pattern]:
