@@ -15,7 +15,9 @@ const (
 	journalVariable = "ITC_TRACE_JOURNAL"
 	// partsVariable says that the relay divides a long run into parts.
 	partsVariable = "ITC_TRACE_PARTS"
-	mostName      = 24
+	// nurseriesVariable has two numbers, as in "2 3": from how many children on a task has nurseries, and how many each of these starts.
+	nurseriesVariable = "ITC_TRACE_NURSERIES"
+	mostName          = 24
 	// mostTag is how many letters and digits of the name of a process stand before the names of its tasks.
 	mostTag     = 8
 	anyProcess  = "p"
@@ -29,6 +31,7 @@ type environment struct {
 	port                     int
 	tenant, process, journal string
 	hasParts                 bool
+	width                    width
 }
 
 // readEnvironment gives nil if the environment names no port.
@@ -49,7 +52,22 @@ func readEnvironment() (*environment, error) {
 	if process == "" {
 		process = anyProcess
 	}
-	return &environment{port, tenant, process, os.Getenv(journalVariable), os.Getenv(partsVariable) != ""}, nil
+	wide, err := widthOf(os.Getenv(nurseriesVariable))
+	if err != nil {
+		return nil, err
+	}
+	return &environment{port, tenant, process, os.Getenv(journalVariable), os.Getenv(partsVariable) != "", wide}, nil
+}
+
+func widthOf(named string) (wide width, err error) {
+	wide = width{fewChildren, manyPlaces}
+	if named == "" {
+		return wide, nil
+	}
+	if count, _ := fmt.Sscanf(named, "%d %d", &wide.children, &wide.places); count < 2 || wide.children < 0 || wide.places < 1 {
+		err = fmt.Errorf("%s is %s, which is not two numbers: set it to two as in \"32 32\"", nurseriesVariable, named)
+	}
+	return wide, err
 }
 
 func isLetterOrDigit(next rune) bool {

@@ -43,6 +43,10 @@ type task struct {
 	isEnded  atomic.Bool
 	// isLeft tells whether nobody can wait for it any more, and isKept whether it has ended and somebody may.
 	isLeft, isKept bool
+	// offspring counts the tasks that it has started itself, nursery starts its next ones, and starter has started it.
+	offspring offspring
+	nursery   *nursery
+	starter   starter
 	// children are processes that it has started and that have ended since.
 	children []*task
 	hasChild atomic.Bool

@@ -62,6 +62,7 @@ type tracer struct {
 	replies      *bufio.Reader
 	journal      *os.File
 	hasParts     bool
+	width        width
 	parent       *parentProcess
 	strangers    strangers
 	tasksMutex   sync.Mutex
@@ -101,7 +102,7 @@ func newTracer(from *environment) (*tracer, error) {
 	}
 	t := &tracer{
 		begun: time.Now(), connection: connection, replies: bufio.NewReaderSize(connection, mostUnsent), names: map[string]int{},
-		hasParts: from.hasParts, tasks: map[*task]bool{}, strangers: strangers{known: map[uint64]bool{}, limit: manyStrangers},
+		hasParts: from.hasParts, width: from.width, tasks: map[*task]bool{}, strangers: strangers{known: map[uint64]bool{}, limit: manyStrangers},
 		changed: make(chan struct{}, 1), hurried: make(chan struct{}, 1), sent: make(chan struct{}),
 	}
 	t.mostKept.Store(manyKept)
@@ -388,6 +389,10 @@ func (t *tracer) tellLeft(gone *task) {
 		t.tellGone("leave ", gone.name)
 		t.mutex.Unlock()
 	}
+	if gone.joinedBy == nil {
+		t.notJoined(gone.starter)
+		gone.starter = starter{}
+	}
 	t.keepNot(gone)
 }
 
@@ -423,7 +428,7 @@ func (t *tracer) spawn(parent *task, hint string, at *site) *task {
 	t.tasksMutex.Unlock()
 	parent.mutex.Lock()
 	defer parent.mutex.Unlock()
-	parent.report(&report{kind: "spawn", name: child.name, site: at, label: "start " + child.name})
+	t.startChild(parent, child, at)
 	child.know(source{parent, nil}, parent.events)
 	return child
 }
@@ -447,6 +452,7 @@ func (t *tracer) end(of *task, isAwaited bool) {
 	if !isLeft {
 		of.end = of.mark(ending, nowhere)
 	}
+	t.leaveNursery(of)
 	of.report(&report{kind: "end", label: "end"})
 	of.isEnded.Store(true)
 	of.known = nil // Else each keeps the ones that it came after.
@@ -463,8 +469,9 @@ func (t *tracer) join(by, child *task, at *site) {
 	child.mutex.Lock()
 	joinedBy, end := child.joinedBy, child.end
 	isFirst := child.isEnded.Load() && joinedBy == nil
+	from := child.starter
 	if isFirst {
-		child.joinedBy = by
+		child.joinedBy, child.starter = by, starter{}
 		t.keepNot(child)
 	}
 	child.mutex.Unlock()
@@ -472,6 +479,7 @@ func (t *tracer) join(by, child *task, at *site) {
 	case isFirst:
 		by.mutex.Lock()
 		by.report(&report{kind: "join", name: child.name, site: at, label: "join " + child.name})
+		t.joined(by, from)
 		by.mutex.Unlock()
 		by.know(source{child, nil}, child.events)
 	case joinedBy != nil && joinedBy != by && end != nil:
@@ -635,6 +643,7 @@ func (t *tracer) close() {
 	for _, one := range t.liveTasks() {
 		one.mutex.Lock()
 		one.settle()
+		t.endNursery(one)
 		one.mutex.Unlock()
 	}
 	if t.parent != nil {
