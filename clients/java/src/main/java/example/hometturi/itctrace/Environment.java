@@ -1,5 +1,6 @@
 package example.hometturi.itctrace;
 
+import example.hometturi.itctrace.Nurseries.Width;
 import java.io.FileOutputStream;
 import java.io.IOException;
 import java.io.OutputStream;
@@ -11,10 +12,14 @@ import java.util.Optional;
 
 /**
  * Where a process reports to, as whoever starts it says: the collector's port and tenant, the process's name in full, its journal,
- * whether the relay divides a long run into parts, and what it is if the process that started it has begun its task already.
+ * whether the relay divides a long run into parts, how many children a task starts itself, and what it is if the process that started it
+ * has begun its task already.
  */
-record Environment(int port, String tenant, String process, String journal, boolean hasParts, Optional<Child> child) {
+record Environment(int port, String tenant, String process, String journal, boolean hasParts, Width width, Optional<Child> child) {
     static final String JOURNAL = "ITC_TRACE_JOURNAL";
+    /** Says how many children a task starts itself, and how many a nursery starts for it. */
+    static final String NURSERIES = "ITC_TRACE_NURSERIES";
+
     private static final String CHILD = "ITC_TRACE_CHILD";
     private static final int MOST_PORT = 65535;
     /** How many letters and digits of a process's name stand before the names of its threads. */
@@ -56,6 +61,7 @@ record Environment(int port, String tenant, String process, String journal, bool
                         process.isEmpty() ? "p" : process,
                         named.getOrDefault(JOURNAL, ""),
                         !named.getOrDefault("ITC_TRACE_PARTS", "").isEmpty(),
+                        Width.of(named.getOrDefault(NURSERIES, "")),
                         child));
     }
 

@@ -51,6 +51,16 @@ final class Gone {
         return watched(task, "leave " + task.name);
     }
 
+    /** Nobody can join this nursery once it is gone. */
+    Watched watch(Nurseries.Offspring nursery, String task) {
+        return watched(nursery, "leave " + task);
+    }
+
+    /** The message was for one task alone, which has received it. */
+    void received(String message) {
+        lines.append("forget ").append(message).append('\n');
+    }
+
     private Watched watched(Object of, String line) {
         Watched made = new Watched(of, queue, line);
         kept.add(made);

@@ -42,6 +42,12 @@ final class Task {
     Mark end;
 
     Task joinedBy;
+    /** Of the tasks that it has started, and of those that its own starter has. The latter is null once nobody can join it any more. */
+    final Nurseries.Offspring offspring = new Nurseries.Offspring();
+
+    Nurseries.Offspring starter;
+    /** How many of its events were reported. */
+    int events;
     /** By which it is told that nobody can wait for it any more. Null if nobody wants to know. */
     Gone.Watched watched;
     /** How many stretches between two synchronizations it had. Only the task's own thread changes it. */

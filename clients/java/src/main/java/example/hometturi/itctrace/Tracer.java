@@ -110,6 +110,7 @@ final class Tracer {
     private final boolean hasParts;
 
     private final Gone gone = new Gone();
+    private final Nurseries nurseries;
     /** The threads that nobody was seen to start. */
     private final Map<Thread, Task> strangers = new LinkedHashMap<>();
 
@@ -164,6 +165,7 @@ final class Tracer {
         live.add(main);
         live.add(others);
         names = new Names(others.name.substring(0, others.name.length() - "others".length()), "others");
+        nurseries = new Nurseries(environment.width(), names, hasParts ? gone : null, this::tell);
         if (!isChild) {
             unwritten.append(Row.process(process, names.prefix.substring(0, names.prefix.length() - "_".length())));
         }
@@ -306,6 +308,7 @@ final class Tracer {
             return;
         }
         segment.event = new Touches();
+        task.events++;
         segment.stretch.tell(segment.event);
         task.time = Math.max(segment.time, task.time);
         if (segment.rows.isEmpty()) {
@@ -522,12 +525,7 @@ final class Tracer {
         holdBack();
         leave(parent);
         Task child = new Task(names.fresh(hint));
-        tell(
-                parent,
-                "spawn " + parent.name + " " + child.name,
-                Row.of(parent.name, "spawn", site, "start " + child.name, null),
-                Refusable.NEVER,
-                null);
+        nurseries.start(parent, child, site, () -> freshMessage(Nurseries.MESSAGE));
         child.begin(parent);
         live.add(child);
         if (hasParts) {
@@ -572,6 +570,7 @@ final class Tracer {
             }
             task.isEnded = true;
             leave(task);
+            nurseries.leave(task);
             tell(task, "end " + task.name, Row.of(task.name, "end", Site.NONE, "end", null), Refusable.NEVER, null);
             live.remove(task);
             if (isChild && task != main && task != keeper) {
@@ -579,6 +578,7 @@ final class Tracer {
                 keepEnded();
             } else if (!isAwaited) {
                 gone.leave(task.watched);
+                nurseries.left(task);
             }
             task.forget();
             done(task);
@@ -605,6 +605,7 @@ final class Tracer {
             leave(task);
             Row row = Row.of(task.name, "join", site, "join " + child.name, null);
             tell(task, "join " + task.name + " " + child.name, row, Refusable.NEVER, null);
+            nurseries.joined(task, child);
             done(task);
         } else if (child.joinedBy != task && child.end != null) {
             take(task, child.end.place, child.end.noted, site);
@@ -687,7 +688,14 @@ final class Tracer {
 
     // Reports
 
+    /** The same with no more to say of it. Its name is that of a task or a message, or null. */
+    private void tell(Task task, String kind, String name, Site site, String label) {
+        String request = kind + " " + task.name + (name == null ? "" : " " + name);
+        tell(task, request, Row.of(task.name, kind, site, label, null), Refusable.NEVER, null);
+    }
+
     private void tell(Task task, String request, Row row, Refusable refusable, CountDownLatch answered) {
+        task.events++;
         task.time = Math.max(row.time(), task.time);
         report(new Report(request, row.withTime(task.time), null, refusable, answered));
     }
@@ -747,6 +755,7 @@ final class Tracer {
         }
         stage = Stage.ENDING;
         live.forEach(this::tellWaiting);
+        live.forEach(nurseries::end);
         settle();
     }
 
