@@ -1,5 +1,6 @@
 //! Where a process reports to, as whoever starts it says in its environment.
 
+use crate::tracer::Width;
 use std::fs::{File, OpenOptions};
 use std::io;
 
@@ -51,6 +52,7 @@ pub(crate) struct Environment {
     pub process: String,
     /// Whether the relay divides a long run into parts.
     pub has_parts: bool,
+    pub width: Width,
     pub child: Option<Child>,
     journal: Option<String>,
 }
@@ -71,6 +73,7 @@ impl Environment {
             tenant: named("ITC_TRACE_TENANT").unwrap_or("trace".into()),
             process: process.unwrap_or("p".into()),
             has_parts: named("ITC_TRACE_PARTS").is_some(),
+            width: Width::read()?,
             child,
             journal: named(JOURNAL),
         }))

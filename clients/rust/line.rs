@@ -139,12 +139,31 @@ pub(crate) struct Line {
     /// The time of its last event.
     pub time: Time,
     pub has_ended: bool,
+    /// How many of its events were reported.
+    pub events: u64,
+    /// How many tasks that nobody has joined yet it has started itself.
+    pub children: usize,
+    /// The nursery that starts its next ones, and who has started it.
+    pub nursery: Option<Task>,
+    pub starter: Option<Task>,
     many: usize,
 }
 
 impl Line {
     pub fn new(task: Task, name: Arc<str>, known: Known) -> Line {
-        Line { name, open: VecDeque::from([Segment::new(task)]), known, position: 0, time: None, has_ended: false, many: MANY_SEGMENTS }
+        Line {
+            name,
+            open: VecDeque::from([Segment::new(task)]),
+            known,
+            position: 0,
+            time: None,
+            has_ended: false,
+            events: 0,
+            children: 0,
+            nursery: None,
+            starter: None,
+            many: MANY_SEGMENTS,
+        }
     }
 
     pub fn last(&mut self) -> &mut Segment {

@@ -1,6 +1,8 @@
 //! Reports for one process to one tenant, in batches. The program's threads only add to what is to be sent. A thread of the tracer sends
 //! it and writes the journal, and another one reads the replies.
 
+mod nurseries;
+
 use crate::ending;
 use crate::environment::{tag_of, task_of, Child, Environment, MOST_NAME};
 use crate::journal::{self, Event, HeldLock, LockName, Row, Site};
@@ -8,6 +10,8 @@ use crate::line::{Known, Segment, Touch, LAST};
 use crate::lines::Lines;
 use crate::names::Names;
 use crate::place::{Forgotten, Kind, Mark, Message, Noted, Place, What};
+use nurseries::Nursery;
+pub(crate) use nurseries::Width;
 use std::collections::{HashMap, VecDeque};
 use std::fs::File;
 use std::io::{self, BufRead, BufReader, Write};
@@ -122,6 +126,11 @@ struct State {
     forgotten: Arc<Forgotten>,
     /// Tasks that nobody can wait for any more, since the relay was told so last.
     left: Vec<Arc<str>>,
+    /// Messages that were for one task alone, which has received them, since then.
+    received: Vec<String>,
+    width: Width,
+    /// Those that may still start tasks or be joined.
+    nurseries: HashMap<Task, Nursery>,
     /// In a child process, a task that comes after all that have ended and that nobody waits for.
     keeper: Option<Task>,
     stage: Stage,
@@ -497,6 +506,9 @@ impl State {
             has_parts: environment.has_parts,
             forgotten: Arc::default(),
             left: Vec::new(),
+            received: Vec::new(),
+            width: environment.width,
+            nurseries: HashMap::new(),
             keeper: None,
             stage: Stage::Running,
             wanted: 0,
@@ -653,6 +665,7 @@ impl State {
         let mut rows = std::mem::take(&mut segment.rows);
         rows[0].time = segment.time.max(line.time);
         line.time = rows[0].time;
+        line.events += 1;
         self.touches.insert(self.touch_events, Touches { event: None, is_closed: false, fresh: rows });
         let stands_for = StandsFor::Touches(self.touch_events);
         self.report(Report { request: format!("local {name}"), stands_for, refusable: Refusable::Never, answered: None });
@@ -725,9 +738,14 @@ impl State {
 
     fn leave_all(&mut self) {
         for task in self.lines.of(|_| true) {
+            if self.lines.get(task).is_none() {
+                continue; // It is a nursery, and has ended with its own task.
+            }
             self.tell_waiting(task);
             if self.lines[task].has_ended {
                 self.tell_end(task);
+            } else {
+                self.end_nursery(task);
             }
         }
     }
@@ -785,16 +803,18 @@ impl State {
     fn spawn(&mut self, parent: Task, hint: &str, site: Site) -> Task {
         let name: Arc<str> = self.names.fresh(hint).into();
         self.leave(parent);
-        let row = Row::new(&self.lines[parent].name, "spawn", site, format!("start {name}"));
-        self.tell(parent, format!("spawn {} {name}", row.task), row, Refusable::Never);
+        let starter = self.start(parent, &name, site);
         let mut known = self.lines[parent].known.clone();
         known.add(parent, self.lines[parent].position, Kind::Meant);
-        self.lines.add(name, known)
+        let child = self.lines.add(name, known);
+        self.lines[child].starter = Some(starter);
+        child
     }
 
     /// Reports the end of a task that does nothing more.
     fn tell_end(&mut self, task: Task) {
         self.leave(task);
+        self.leave_nursery(task);
         let row = Row::new(&self.lines[task].name, "end", None, "end".into());
         self.tell(task, format!("end {}", row.task), row, Refusable::Never);
         self.lines.remove(task);
@@ -807,11 +827,12 @@ impl State {
             self.keeper = Some(keeper);
             return self.join(keeper, task, None);
         }
-        let name = self.lines[task].name.clone();
+        let (name, starter) = (self.lines[task].name.clone(), self.lines[task].starter);
         self.tell_end(task);
         if self.has_parts {
             self.left.push(name);
         }
+        self.not_joined(starter);
     }
 
     /// A task goes on though it has ended, as what is local to a thread may.
@@ -826,12 +847,13 @@ impl State {
         if self.stage == Stage::Over || task == child || self.lines.get(child).map_or(true, |line| !line.has_ended) {
             return;
         }
-        let (name, position) = (self.lines[child].name.clone(), self.lines[child].position);
+        let (name, position, starter) = (self.lines[child].name.clone(), self.lines[child].position, self.lines[child].starter);
         self.tell_end(child);
         self.lines[task].known.add(child, position, Kind::Meant);
         self.leave(task);
         let row = Row::new(&self.lines[task].name, "join", site, format!("join {name}"));
         self.tell(task, format!("join {} {name}", row.task), row, Refusable::Never);
+        self.joined(task, starter);
     }
 
     fn send_outside(&mut self, task: Task, site: Site, answered: Sender<()>) -> String {
@@ -877,6 +899,7 @@ impl State {
     fn tell_and_answer(&mut self, task: Task, request: String, row: Row, refusable: Refusable, answered: Option<Sender<()>>) {
         let time = row.time.or_else(journal::now).max(self.lines[task].time);
         self.lines[task].time = time;
+        self.lines[task].events += 1;
         self.report(Report { request, stands_for: StandsFor::Row(Row { time, ..row }), refusable, answered });
     }
 
@@ -905,6 +928,7 @@ impl State {
     /// Tells what gives no order any more, behind all receipts of it. The next part of the trace begins without it.
     fn tell_gone(&mut self) {
         self.forgotten.take().iter().for_each(|message| self.unsent += &format!("forget {message}\n"));
+        self.received.drain(..).for_each(|message| self.unsent += &format!("forget {message}\n"));
         self.left.drain(..).for_each(|task| self.unsent += &format!("leave {task}\n"));
     }
 
