@@ -25,6 +25,7 @@ from itc_trace import Races
 from itc_trace.analyse.races import Race
 from itc_trace.watch import passed_over
 
+from . import further_constructs
 from .pairs import Pair, races_of
 
 TOLD, STARRED, CLEAN = "told", "starred", "clean"
@@ -1141,7 +1142,7 @@ def second(): list(map(items.__getitem__, [0]))
 CHAPTERS = {
     "objects and classes": OBJECTS, "statements": STATEMENTS, "iterators and coroutines": STEPS,
     "copies and comparisons": COPIES, "the library": LIBRARY, "what the process has once": PROCESS,
-    "what is handed on": HANDED,
+    "what is handed on": HANDED, **further_constructs.CHAPTERS,
 }
 
 

@@ -80,7 +80,7 @@ class Hashed:
 point, hashed = Point(), Hashed()
 """
 FUNCTIONS = """
-import functools
+import builtins, code, functools, timeit, types
 def outer():
     left = 1
     def inner(): return left
@@ -218,6 +218,16 @@ starred | work.__code__ = other.__code__ | work()
 starred | setattr(work, "__code__", other.__code__) | work()
 starred | exec("count = 2", globals()) | work()
 starred | eval("work()") | work()
+starred | run = exec | work()
+starred | list(map(eval, ["1"])) | work()
+starred | builtins.exec("count = 2") | work()
+starred | getattr(builtins, "exec") | work()
+starred | code.InteractiveInterpreter({}).runsource("1") | work()
+starred | timeit.timeit("1", number=1) | work()
+starred | types.FunctionType(work.__code__, {"count": 1})(1, b=2) | work()
+starred | type(work)(work.__code__, {"count": 1})(1, b=2) | work()
+no thing | types.FunctionType(work.__code__, globals())(1, b=2) | work()
+no thing | timeit.timeit(lambda: 1, number=1) | work()
 no thing | work() | work()
 no thing | work.__module__ | work.__module__
 """),

@@ -14,8 +14,20 @@ from ..record import noting
 from ..sync import gevent_tasks, twisted_flows
 from .learned import Learned
 
-BUILT_IN = frozenset(("exec", "eval", "memoryview"))
-_FUNCTIONS = frozenset(("mmap.mmap", "weakref.proxy", "string.Formatter"))
+TEXTS = frozenset(("exec", "eval"))
+"""Functions of the language that run a text. Whoever has one by another name may call it."""
+BUILT_IN = TEXTS | {"memoryview"}
+_MODULE_OF_BUILTINS = "builtins"
+_MAKING_FUNCTIONS = frozenset(("types.FunctionType", "types.LambdaType"))
+"""Classes that make a function of some code, whose variables may be those of any dictionary."""
+_RUNNING_TEXTS = frozenset(
+    "code.InteractiveInterpreter code.InteractiveConsole code.interact cProfile.run cProfile.runctx profile.run "
+    "profile.runctx pdb.run pdb.runeval pdb.runctx doctest.testmod doctest.testfile trace.Trace".split()
+)
+"""Functions and classes of the library that run a text which they are given."""
+_MEASURING = frozenset(("timeit.timeit", "timeit.repeat", "timeit.Timer"))
+"""Those that run a text, or call a function."""
+_FUNCTIONS = frozenset(("mmap.mmap", "weakref.proxy", "string.Formatter", "builtins.memoryview", *_RUNNING_TEXTS))
 _CALLERS = frozenset("enter enterabs add_signal_handler add_reader add_writer".split())
 """Methods of the library that call what they are given, and are not followed."""
 _FOLLOWED = ("concurrent.futures.", "asyncio.", "trio.", "multiprocessing.", "itertools.", "operator.")
@@ -77,10 +89,41 @@ def look_at_call(
     called = node.func.attr if isinstance(node.func, ast.Attribute) else getattr(node.func, "id", "")
     if called in _STARTING:
         learned.passed_over.append((f"{TASKS_OF}{called}", node.lineno))
-    if isinstance(node.func, ast.Name) and node.func.id in BUILT_IN and is_builtin(node.func.id):
-        learned.passed_over.append((node.func.id, node.lineno))
-    elif name in _FUNCTIONS:
+    if called in BUILT_IN and isinstance(node.func, ast.Name) and is_builtin(called):
+        learned.passed_over.append((called, node.lineno))
+    elif name in _FUNCTIONS or name in _MEASURING and not _is_function(node):
         learned.passed_over.append((str(name).rpartition(".")[2], node.lineno))
+    elif _has_other_variables(node, name):
+        learned.passed_over.append((_FUNCTION_TYPE if name is None else name.rpartition(".")[2], node.lineno))
+
+
+def look_at_text(name: str, line: int, learned: Learned) -> None:
+    """Keeps where a function that runs a text gets another name, or is given to others."""
+    learned.passed_over.append((name, line))
+
+
+def is_of_builtins(imported: str | None) -> bool:
+    """Whether what is imported by this dotted name is the module of what is built in."""
+    return imported == _MODULE_OF_BUILTINS
+
+
+_FUNCTION_TYPE = "FunctionType"
+
+
+def _is_function(node: ast.Call) -> bool:
+    """Whether what is measured is written there as a function."""
+    return bool(node.args) and isinstance(node.args[0], ast.Lambda)
+
+
+def _has_other_variables(node: ast.Call, name: str | None) -> bool:
+    """Whether a function is made of some code, with variables that may be others than those of its module."""
+    if len(node.args) < 2 and not node.keywords:
+        return False
+    code = node.args[0] if node.args else None
+    is_of_code = name is None and len(node.args) > 1 and isinstance(code, ast.Attribute) and code.attr == "__code__"
+    variables = node.args[1] if len(node.args) > 1 else None
+    is_own = isinstance(variables, ast.Call) and isinstance(variables.func, ast.Name) and variables.func.id == "globals"
+    return (is_of_code or name in _MAKING_FUNCTIONS) and not is_own
 
 
 STORING = frozenset(("setattr", "delattr"))

@@ -202,6 +202,7 @@ class Rewriter:
 
     def module(self, tree: ast.Module) -> ast.Module:
         tree.body = self._statements(tree.body)
+        self._scopes.note_texts()
         del self._patterns  # It refers to this object, which would have the tree wait for the collector.
         return tree
 

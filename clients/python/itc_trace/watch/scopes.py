@@ -8,6 +8,7 @@ from collections.abc import Callable
 from typing import Any
 
 from ..model.kinds import MAPS, METHODS
+from . import passed_over
 from .learned import OF_CLASSES, Learned
 from .process_state import CHANGED_STATE, changed_by, kept_in
 
@@ -167,6 +168,8 @@ class Scopes:
         self._called: set[str] = set()
         self._called_by: dict[str, set[str]] = {}
         self._has_modules_by_name = False
+        self._texts: list[tuple[Scope, str, str, int]] = []
+        """Where a name of what runs a text stands: its scope, the variable that it is found by, and its line."""
         self._stored_in_any: set[str] = set()
         """The attributes that are stored in what may be a module, if it was found by its name."""
         self._walk_all(tree.body)
@@ -185,6 +188,21 @@ class Scopes:
             scope.end()
         for scope in self.all:
             self._note_captures(scope)
+
+    def note_texts(self) -> None:
+        """Keeps where what runs a text has another name, in the order of lines with what is kept already."""
+        for scope, name, variable, line in self._texts:
+            if self._runs_text(scope.owner(variable), name, variable):
+                passed_over.look_at_text(name, line, self.learned)
+        self.learned.passed_over.sort(key=lambda one: one[1])
+
+    def _runs_text(self, owner: Scope, name: str, variable: str) -> bool:
+        """Whether a name stands for what the language runs a text with."""
+        if not variable:  # It is written as a text, which a module that imports this one may look up.
+            return any(map(passed_over.is_of_builtins, self.module.imported.values()))
+        if variable != name:
+            return passed_over.is_of_builtins(owner.imported.get(variable))
+        return owner.kind is MODULE and name not in owner.bound and self.learned.is_builtin(name)
 
     @staticmethod
     def _note_captures(scope: Scope) -> None:
@@ -238,6 +256,8 @@ class Scopes:
     def _visit_Constant(self, node: ast.Constant) -> int:
         if type(node.value) is int:
             self.learned.look_at_number(node.value)
+        elif type(node.value) is str and node.value in passed_over.TEXTS:
+            self._texts.append((self.module, node.value, "", node.lineno))
         return 0
 
     def _opened(self, node: Any, kind: str, name: str = "") -> Scope:
@@ -260,6 +280,8 @@ class Scopes:
         scope = self._scope
         if type(node.ctx) is ast.Load:
             scope.used.add(node.id)
+            if node.id in passed_over.TEXTS:
+                self._texts.append((scope, node.id, node.id, node.lineno))
         elif scope.kind == COMPREHENSION and self._is_target:
             scope.add_bindings(node.id, FIRST_BINDING)
         else:
@@ -296,8 +318,11 @@ class Scopes:
         return 0
 
     def _visit_ImportFrom(self, node: ast.ImportFrom) -> int:
+        is_of_builtins = not node.level and passed_over.is_of_builtins(node.module)
         for one in node.names:
             self._import(one.asname or one.name, f"{'.' * node.level}{node.module or ''}.{one.name}")
+            if is_of_builtins and one.name in passed_over.TEXTS:
+                passed_over.look_at_text(one.name, node.lineno, self.learned)
         return 0
 
     def _import(self, name: str, dotted: str) -> None:
@@ -331,6 +356,8 @@ class Scopes:
                 self.learned.add_elsewhere(node.attr)
         elif node.attr == "modules" and isinstance(node.value, ast.Name) and node.value.id == "sys":
             self.module.is_open = self._has_modules_by_name = True
+        elif node.attr in passed_over.TEXTS and isinstance(node.value, ast.Name):
+            self._texts.append((self._scope, node.attr, node.value.id, node.lineno))
         elif node.attr == MAPS:
             self.learned.add_field(MAPS)  # The list of a chain may be changed.
         return self._walk(node.value)
@@ -392,7 +419,10 @@ class Scopes:
         for keyword in node.keywords:
             if keyword.arg is not None and isinstance(keyword.value, ast.Attribute) and keyword.value.attr in METHODS:
                 self.learned.add_field(keyword.arg)
+        count = len(self._texts)
         inside = self._walk(function) | LATE
+        if isinstance(function, ast.Name):
+            del self._texts[count:]  # A call by its own name is kept as calls are.
         if node.args:
             inside |= self._walk_all(node.args)
         if node.keywords:
