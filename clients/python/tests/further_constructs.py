@@ -4,6 +4,127 @@ attributes of classes below those of the language, and texts that are run.
 
 from __future__ import annotations
 
+BELOW = """
+## a variable of a class of lists
+class Rows(list): limit = 3
+rows = Rows()
+def first(): Rows.limit = 4  # race
+def second(): rows.limit  # race
+## a variable of a class of dictionaries, in its own method
+class Table(dict):
+    limit = 3
+    def is_full(self): return len(self) > self.limit  # race
+table = Table()
+def first(): Table.limit = 4  # race
+def second(): table.is_full()
+## variables of classes of numbers and sets
+class Number(int): unit = 0
+class Share(float): unit = 1
+class Marks(frozenset): unit = 1
+number, share, marks = Number(1), Share(1), Marks()
+def first():
+    Number.unit = 1  # race
+    Share.unit = 1  # race
+    Marks.unit = 1  # race
+def second():
+    number.unit  # race
+    share.unit  # race
+    marks.unit  # race
+## a variable of a class of rows with names
+import collections
+class Pair(collections.namedtuple("Pair", "x y")): scale = 1
+pair = Pair(1, 2)
+def first(): Pair.scale = 2  # race
+def second(): pair.scale * pair.x  # race
+## a variable of a class of dictionaries, by a class below
+class Table(dict): limit = 1
+class Lower(Table): pass
+table = Lower()
+def first(): Table.limit = 4  # race
+def second(): table.limit  # race
+## a number of a deque begins at that of its class
+import collections
+class Line(collections.deque): count = 0
+line = Line()
+def first(): line.count += 1  # race
+def second(): line.count  # race
+## a variable of a class of bytes and of a text in memory
+import io
+class Bytes(bytearray): limit = 1
+class Text(io.StringIO): limit = 1
+data, text = Bytes(), Text()
+def first():
+    Bytes.limit = 4  # race
+    Text.limit = 4  # race
+def second():
+    data.limit  # race
+    text.limit  # race
+## fields that are not there yet
+class Name(str): pass
+class Table(dict): pass
+class Rows(list): pass
+name, table, rows = Name("a"), Table(), Rows()
+def first():
+    name.seen = 1  # race
+    table.seen = 1  # race
+    rows.seen = 1  # race
+def second():
+    getattr(name, "seen", None)  # race
+    hasattr(table, "seen")  # race
+    try: rows.seen  # race
+    except AttributeError: pass
+## slots of a class of dictionaries
+class Table(dict):
+    __slots__ = ("last",)
+table = Table()
+table.last = 1
+def first(): table.last = 2  # race
+def second(): table.last  # race
+## a method of a class of dictionaries is replaced
+class Table(dict):
+    def size(self): return len(self)
+table = Table()
+def free(self): return 3
+def first(): Table.size = free  # race
+def second(): table.size()  # race
+## a property of a class of rows is replaced by one in C
+class Row(tuple):
+    @property
+    def size(self): return 1
+row = Row()
+def first(): Row.size = property(len)  # race
+def second(): row.size  # race
+## a method of a set is replaced
+class Marks(set):
+    def size(self): return 1
+marks = Marks()
+def free(): return 3
+def first(): marks.size = free  # race
+def second(): marks.size()  # race
+## a class of lists has a way of its own to find attributes
+class Rows(list):
+    asked = 0
+    def __getattribute__(self, name):
+        Rows.asked += 1  # race
+        return super().__getattribute__(name)
+rows = Rows()
+def first(): rows.copy
+def second(): Rows.asked  # race
+## an object of a class of dictionaries has its own in place of that of the class
+import collections
+class Table(collections.defaultdict): limit = 1
+table = Table()
+table.limit = 5
+def first(): Table.limit = 4
+def second(): table.limit
+## fields of a row with names are only read
+import collections
+class Pair(collections.namedtuple("Pair", "x y")): scale = 1
+pair = Pair(1, 2)
+def first(): pair.x, pair.scale
+def second(): pair.x, pair.scale
+"""
+
 TEXTS = """
 ## what runs a text has another name
 run = exec  # star exec
@@ -59,5 +180,6 @@ def second(): isinstance(evaluate, type(evaluate)), model.exec("exec")
 """
 
 CHAPTERS = {
+    "attributes of classes below those of the language": BELOW,
     "texts and code that run": TEXTS,
 }

@@ -52,6 +52,9 @@ PLAIN = ids_of({
 BARE = ids_of({object, types.SimpleNamespace, BaseException})
 """Types that find attributes in the usual way, though their own tables name the methods that do so."""
 
+_USUAL = BARE | PLAIN | ids_of((property, *(kind for kinds in TYPES.values() for kind in kinds)))
+"""Types whose attributes are found in the usual way, and so are those of classes below."""
+
 _BASES = tuple((kind, family) for family, kinds in TYPES.items() for kind in kinds)
 _EXACT: dict[int, int] = {id(kind): family for kind, family in _BASES}
 NO_FAMILY = -1
@@ -418,13 +421,18 @@ def _decide(kind: type, name: str, kinds: str) -> int:
         return AS_KEY
     if owner is not None and (_is_plain_field(owner, name) or _is_field_of_library(owner, name)):
         return FIELD
-    if _has(kind, "__getattribute__"):
+    if _finds_by_itself(kind):
         return OWN_FIELD
     if owner is not None:
         return _decide_of_class(kind, owner, name, kinds)
     if _has(kind, "__getattr__") or "w" in kinds and _has(kind, "__setattr__"):
         return OWN_FIELD
     return OF_CLASS if kinds == "r" and is_stored_in_class(name) and is_watched_class(kind) else FIELD
+
+
+def _finds_by_itself(kind: type) -> bool:
+    """Whether a class has a way of its own to find attributes. A container of the language has the usual one."""
+    return any("__getattribute__" in _vars_of(one) for one in _mro_of(kind) if id(one) not in _USUAL)
 
 
 def _finds_keys(kind: type, kinds: str, is_missing: bool) -> bool:
