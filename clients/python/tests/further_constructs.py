@@ -4,6 +4,123 @@ attributes of classes below those of the language, and texts that are run.
 
 from __future__ import annotations
 
+GETTERS = """
+## a property is found by attrgetter
+import operator
+class Row:
+    price = property(operator.attrgetter("_price"))
+    def __init__(self): self._price = 1
+row = Row()
+def first(): row._price = 2  # race
+def second(): row.price  # race
+## a property is found by attrgetter in another object
+import operator
+class Inner: pass
+class Row:
+    price = property(operator.attrgetter("inner.price"))
+    def __init__(self): self.inner, self.inner.price = Inner(), 1
+row = Row()
+def first(): row.inner.price = 2  # race
+def second(): row.price  # race
+## a property of a class above is asked for by its name
+import operator
+class Row:
+    price = property(operator.attrgetter("_price"))
+    def __init__(self): self._price = 1
+class Lower(Row): pass
+row = Lower()
+def first(): row._price = 2  # race
+def second(): getattr(row, "price")  # race
+## a property is found by itemgetter
+import operator
+class Table(dict):
+    price = property(operator.itemgetter("price"))
+table = Table(price=1)
+def first(): table["price"] = 2  # race
+def second(): table.price  # race
+## a property is the length of a list
+class Rows(list):
+    size = property(len)
+rows = Rows()
+def first(): rows.append(1)  # race
+def second(): rows.size  # race
+## a property is a copy of a list
+class Rows(list):
+    all = property(list.copy)
+rows = Rows([1])
+def first(): rows.append(2)  # race
+def second(): rows.all  # race
+## a property takes from a list by methodcaller
+import operator
+class Rows(list):
+    last = property(operator.methodcaller("pop"))
+rows = Rows([1])
+def first(): rows.last  # race
+def second(): len(rows)  # race
+## a property is found in C, and set by a function
+import operator
+class Row:
+    price = property(operator.attrgetter("_price"), lambda self, price: setattr(self, "_price", price))  # race
+    def __init__(self): self._price = 1
+row = Row()
+def first(): row.price = 2
+def second(): row.price  # race
+## a property of a row is an element that may change
+import operator
+class Pair(tuple):
+    rows = property(operator.itemgetter(0))
+pair = Pair(([1],))
+def first(): pair[0].append(1)  # race
+def second(): len(pair.rows)  # race
+## a property by itemgetter is another element
+import operator
+class Table(dict):
+    price = property(operator.itemgetter("price"))
+table = Table(price=1)
+def first(): table["left"] = 2
+def second(): table.price
+## a property by attrgetter has a lock around it
+import operator, threading
+guard = threading.Lock()
+class Row:
+    price = property(operator.attrgetter("_price"))
+    def __init__(self): self._price = 1
+row = Row()
+def first():
+    with guard: row._price = 2
+def second():
+    with guard: row.price
+## rows are grouped by an element
+import itertools, operator
+rows = [{"kind": 1}, {"kind": 2}]
+def first(): rows[0]["kind"] = 3  # race
+def second(): [*itertools.groupby(rows, operator.itemgetter("kind"))]  # race
+## rows are grouped by another element
+import itertools, operator
+rows = [{"kind": 1}, {"kind": 2}]
+def first(): rows[0]["left"] = 3
+def second(): [*itertools.groupby(rows, operator.itemgetter("kind"))]
+## rows are passed over by a getter that has a name
+import itertools, operator
+rows = [{"kind": 1}, {"kind": 2}]
+of_kind = operator.itemgetter("kind")
+def first(): rows[0]["kind"] = 3  # race
+def second(): [*itertools.filterfalse(of_kind, rows)]  # race
+## objects are taken as long as a field says so
+import itertools, operator
+class Row:
+    def __init__(self): self.left = 1
+rows = [Row()]
+def first(): rows[0].left = 3  # race
+def second():
+    for one in itertools.takewhile(operator.attrgetter("left"), rows): pass  # race
+## lists are added to the first one
+import itertools, operator
+rows = [[1], [2]]
+def first(): len(rows[0])  # race
+def second(): [*itertools.accumulate(rows, operator.iadd)]  # race
+"""
+
 BELOW = """
 ## a variable of a class of lists
 class Rows(list): limit = 3
@@ -180,6 +297,7 @@ def second(): isinstance(evaluate, type(evaluate)), model.exec("exec")
 """
 
 CHAPTERS = {
+    "functions in C that classes have, and that steps call": GETTERS,
     "attributes of classes below those of the language": BELOW,
     "texts and code that run": TEXTS,
 }

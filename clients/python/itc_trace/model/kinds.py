@@ -349,6 +349,11 @@ CHANGED_ARGUMENT = {name: 1 for _, name in _functions(SECOND)}
 """Which argument a function changes, if it is not the first one."""
 STEPPING = frozenset(name for _, name in _functions(STEPS))
 """Functions that look at what they are given step by step, as others look at what they give."""
+CALLED_BY_STEPS = {
+    **dict.fromkeys(("itertools.accumulate", "itertools.groupby"), 1),
+    **dict.fromkeys([f"itertools.{name}" for name in ("dropwhile", "filterfalse", "starmap", "takewhile")], 0),
+}
+"""Which argument these call at each step."""
 CHANGING_HEAPS = tuple(
     name for row in _FUNCTIONS if row.module == "heapq" and row.words == REWRITE for name in row.names.split()
 )

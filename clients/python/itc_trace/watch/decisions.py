@@ -26,10 +26,13 @@ from typing import Any
 
 from .helper import quick
 from ..model.kinds import DICT, REFERRED, TYPES, WITH_ONE_INSIDE
+from ..sync.handed_on import HANDED, is_of_container
 from .learned import OF_CLASSES, STORED_FIELDS
 from .places import DELETED, SKIPPED, Access
 
 SKIP, FIELD, OWN_FIELD, OF_CLASS, OF_TYPE, OF_MODULE, AS_KEY, OF_METHOD, OF_SUPER, OF_CLASS_ALONE, OF_LOCAL = range(11)
+BY_GETTER = 11
+"""What an attribute is that a function in C gives, as that of `property(attrgetter("_name"))`."""
 
 WATCHED: set[str] = set()
 """The names of the modules that were rewritten."""
@@ -421,6 +424,8 @@ def _decide(kind: type, name: str, kinds: str) -> int:
         return AS_KEY
     if owner is not None and (_is_plain_field(owner, name) or _is_field_of_library(owner, name)):
         return FIELD
+    if owner is not None and kinds == "r" and is_by_getter(_vars_of(owner)[name]):
+        return BY_GETTER
     if _finds_by_itself(kind):
         return OWN_FIELD
     if owner is not None:
@@ -433,6 +438,11 @@ def _decide(kind: type, name: str, kinds: str) -> int:
 def _finds_by_itself(kind: type) -> bool:
     """Whether a class has a way of its own to find attributes. A container of the language has the usual one."""
     return any("__getattribute__" in _vars_of(one) for one in _mro_of(kind) if id(one) not in _USUAL)
+
+
+def is_by_getter(value: Any) -> bool:
+    """Whether it is a property whose value a function in C finds, which has no hooks."""
+    return type(value) is property and type(value.fget) in HANDED and is_of_container(value.fget)
 
 
 def _finds_keys(kind: type, kinds: str, is_missing: bool) -> bool:

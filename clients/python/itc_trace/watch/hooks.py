@@ -44,7 +44,7 @@ from .both_languages import (
     OTHER, OWN_OR_OF_CLASS,
 )
 from .decisions import (
-    AS_KEY, BY_ELEMENTS, COMPOSED, FIELD, FILES, OF_CLASS, OF_CLASS_ALONE, OF_LOCAL, OF_METHOD, OF_MODULE, OF_SUPER,
+    AS_KEY, BY_ELEMENTS, BY_GETTER, COMPOSED, FIELD, FILES, OF_CLASS, OF_CLASS_ALONE, OF_LOCAL, OF_METHOD, OF_MODULE, OF_SUPER,
     OF_TYPE, OWN_FIELD, PLAIN, RESUMED, SKIP, STEPPED, VIEWS, WATCHED, class_with, decision, family_of, field_inside,
     fields_of, forget_decisions, has_own_method, has_setter, has_watched_method, ids_of, is_bound_by_code, is_made,
     is_of, is_of_library, is_other_container, is_watched_class, mro_of, name_of, value_of_element, value_of_field,
@@ -284,6 +284,10 @@ def _touch_field(one: Any, site: int, access: Access | None = None) -> None:
         _touch_class_of_super(one, access.name, mark, site)
     elif found == OF_LOCAL:
         find_in_local(one, access.name)
+    elif found == BY_GETTER:
+        _call_getter(one, access.name)
+        if access.name in STORED_FIELDS:
+            _touch_classes_of(one, access.name, mark, site)
     elif found == OF_CLASS_ALONE:
         _touch_classes_of(one, access.name, mark, site)
     elif found == OF_CLASS and kinds == READ_ONLY and access.name not in fields_of(one):
@@ -297,6 +301,20 @@ def _touch_field(one: Any, site: int, access: Access | None = None) -> None:
         saw(owner_of(one, ""), mark, late, found == FIELD and not is_in_place)
         if is_in_place and access.what == "field":
             _touch_in_place(value_of_field(one, access.name), access.text, site)
+
+
+def _call_getter(one: Any, name: str) -> None:
+    """A property is asked for whose function in C looks at the object."""
+    owner, place = class_with(type(one), name), _place_in_program()
+    if owner is not None and place is not None:
+        called(vars_of(owner)[name].fget, (one,), place)
+
+
+def _place_in_program() -> Place | None:
+    frame: Any = _getframe(1)
+    while frame is not None and frame.f_globals is _OWN_VARIABLES:
+        frame = frame.f_back
+    return None if frame is None else (frame.f_code, frame.f_lasti)
 
 
 def _touch_module(one: Any, name: str, kinds: str, mark: Any, site: int) -> None:

@@ -15,7 +15,7 @@ from typing import Any
 from ..model.conflicts import ADDITION, ITERATION, KEYS, LENGTH, REWRITE
 from . import held_lines, on_stack, passed_over
 from ..model.kinds import (
-    CHANGED_ARGUMENT, COMPARED, CONSUMING, CONTENT, DEPTHS_OF_METHODS, EACH, IN_PLACE_FUNCTIONS, IN_PLACE_METHODS,
+    CALLED_BY_STEPS, CHANGED_ARGUMENT, COMPARED, CONSUMING, CONTENT, DEPTHS_OF_METHODS, EACH, IN_PLACE_FUNCTIONS, IN_PLACE_METHODS,
     KEYED, LATE_METHODS, METHODS, ORDERED, RANKED, RANKING, READERS, SHOWING, SHOWN, STATE, STEPPERS, STEPPING, TRUTH,
     WRITTEN, depth_of, known_function,
 )
@@ -1075,7 +1075,7 @@ class Rewriter:
         None, if it tells nothing.
         """
         if name in STEPPING:
-            return self._call_stepping(node)
+            return self._call_stepping(node, CALLED_BY_STEPS.get(name))
         if name == "os.getenv" and node.args and type(node.args[0]) is not ast.Starred:
             node.args = [self._child(one) for one in node.args]
             site = self._site(node, "method", "", "get", "os.environ")
@@ -1181,11 +1181,12 @@ class Rewriter:
             return STATE if words & WHOLE_OBJECTS else depth
         return depth
 
-    def _call_stepping(self, node: ast.Call) -> ast.expr:
+    def _call_stepping(self, node: ast.Call, called: int | None) -> ast.expr:
         """A function that goes through what it is given as others go through what it gives. It may call some of it."""
         node.args = [*node.args]
         for place, one in enumerate(node.args):
-            if type(one) is ast.Attribute and one.attr in METHODS or self._is_called_by_others(one):
+            is_method = type(one) is ast.Attribute and one.attr in METHODS
+            if is_method or place == called or self._is_called_by_others(one):
                 node.args[place] = self._handed(one)
             elif type(one) is ast.Starred:
                 node.args[place] = self._starred(one, KEYS, EACH)
