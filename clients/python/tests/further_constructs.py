@@ -1,5 +1,5 @@
-"""Further programs for `tests.constructs`: what goes past the syntax that hooks stand in, as functions in C that classes have,
-attributes of classes below those of the language, and texts that are run.
+"""Further programs for `tests.constructs`, past the syntax that hooks stand in: functions in C that classes have,
+attributes of classes below those of the language, texts that are run, and dictionaries of fields.
 """
 
 from __future__ import annotations
@@ -296,8 +296,151 @@ def first(): model.eval().exec("1"), evaluate("eval")
 def second(): isinstance(evaluate, type(evaluate)), model.exec("exec")
 """
 
+DICTIONARIES = """
+## the fields of an object are kept by vars
+class S: pass
+s = S(); s.x = 1
+d = vars(s)
+def first(): d["x"] = 2  # race
+def second(): s.x  # race
+## the fields of an object are kept in a field
+class S:
+    def __init__(self):
+        self.x = 1
+        self.all = self.__dict__
+s = S()
+def first(): s.all["x"] = 2  # race
+def second(): s.x  # race
+## the fields of an object are given back
+class S:
+    def __init__(self): self.x = 1
+    def all(self): return self.__dict__
+s = S()
+d = s.all()
+def first(): d["x"] = 2  # race
+def second(): s.x  # race
+## the fields of an object are handed to a class
+class S:
+    def __init__(self): self.x = 1
+class View:
+    def __init__(self, rows): self.rows = rows
+s = S()
+v = View(vars(s))
+def first(): v.rows["x"] = 2  # race
+def second(): s.x  # race
+## the fields of an object are handed on by a word
+class S:
+    def __init__(self): self.x = 1
+s = S()
+class View:
+    def __init__(self, rows): self.rows = rows
+v = View(rows=s.__dict__)
+def first(): v.rows.update(x=2)  # race
+def second(): s.x  # race
+## the fields of objects are kept in containers
+class S:
+    def __init__(self): self.x = 1
+s, t = S(), S()
+l, m = [vars(s)], {"t": vars(t)}
+def first():
+    l[0]["x"] = 2  # race
+    m["t"]["x"] = 2  # race
+def second():
+    s.x  # race
+    t.x  # race
+## the fields of an object are kept by a walrus
+class S:
+    def __init__(self): self.x = 1
+s = S()
+if (d := s.__dict__): pass
+def first(): d["x"] = 2  # race
+def second(): s.x  # race
+## the variables of a module are kept
+x = 1
+g = globals()
+def first(): g["x"] = 2  # race
+def second(): x  # race
+## a field of a namespace, by the dictionary of its fields
+import types
+ns = types.SimpleNamespace(a=1)
+def first(): vars(ns)["a"] = 2  # race
+def second(): ns.a  # race
+## fields of a namespace are updated
+import types
+ns = types.SimpleNamespace(a=1)
+def first(): vars(ns).update(a=2)  # race
+def second(): ns.a  # race
+## a field of an exception, by the dictionary of its fields
+e = ValueError(1)
+e.n = 1
+def first(): e.__dict__["n"] = 2  # race
+def second(): e.n  # race
+## a field of an object that has slots and a dictionary
+class S:
+    __slots__ = ("__dict__",)
+s = S(); s.x = 1
+def first(): s.__dict__["x"] = 2  # race
+def second(): s.x  # race
+## a field of a number, by the dictionary of its fields
+class N(int): pass
+n = N(1); n.x = 1
+def first(): n.__dict__["x"] = 2  # race
+def second(): n.x  # race
+## the fields of a row are gone through
+class N(tuple): pass
+n = N(); n.x = 1
+def first(): n.x = 2  # race
+def second():
+    for name, value in vars(n).items(): pass  # race
+## the fields of a namespace are copied
+import types
+ns = types.SimpleNamespace(a=1)
+def first(): ns.a = 2  # race
+def second(): dict(vars(ns))  # race
+## another field of a namespace
+import types
+ns = types.SimpleNamespace(a=1, b=2)
+def first(): vars(ns)["a"] = 2
+def second(): ns.b, vars(ns)["b"]
+## two namespaces have a field of one name
+import types
+ns, ot = types.SimpleNamespace(a=1), types.SimpleNamespace(a=1)
+def first(): vars(ns)["a"] = 2
+def second(): vars(ot)["a"], ot.a
+## the names of the fields of a namespace
+import types
+ns = types.SimpleNamespace(a=1)
+def first(): vars(ns)["a"] = 2
+def second(): list(vars(ns)), len(vars(ns))
+## the fields of a function are kept
+def f(): pass
+f.n = 1
+d = f.__dict__
+def first(): d["n"] = 2  # race
+def second(): f.n  # race
+## the fields of a class are kept
+class C: n = 1
+d = vars(C)
+def first(): C.n = 2  # race
+def second(): d["n"]  # race
+## the variables of a module that is made are kept
+import types
+m = types.ModuleType("m"); m.n = 1
+d = m.__dict__
+def first(): d["n"] = 2  # race
+def second(): m.n  # race
+## a kept dictionary has another field
+class S:
+    def __init__(self): self.x = self.y = 1
+s = S()
+d = vars(s)
+def first(): d["x"] = 2
+def second(): d["y"], s.y
+"""
+
 CHAPTERS = {
     "functions in C that classes have, and that steps call": GETTERS,
     "attributes of classes below those of the language": BELOW,
     "texts and code that run": TEXTS,
+    "dictionaries of fields": DICTIONARIES,
 }

@@ -44,13 +44,13 @@ from .both_languages import (
     OTHER, OWN_OR_OF_CLASS,
 )
 from .decisions import (
-    AS_KEY, BY_ELEMENTS, BY_GETTER, COMPOSED, FIELD, FILES, OF_CLASS, OF_CLASS_ALONE, OF_LOCAL, OF_METHOD, OF_MODULE, OF_SUPER,
-    OF_TYPE, OWN_FIELD, PLAIN, RESUMED, SKIP, STEPPED, VIEWS, WATCHED, class_with, decision, family_of, field_inside,
-    fields_of, forget_decisions, has_own_method, has_setter, has_watched_method, ids_of, is_bound_by_code, is_made,
-    is_of, is_of_library, is_other_container, is_watched_class, mro_of, name_of, value_of_element, value_of_field,
-    vars_of, without_own,
+    AS_KEY, BY_ELEMENTS, BY_GETTER, COMPOSED, FIELD, FILES, OF_CLASS, OF_CLASS_ALONE, OF_LOCAL, OF_METHOD,
+    OF_MODULE, OF_SUPER, OF_TYPE, OWN_FIELD, PLAIN, RESUMED, SKIP, STEPPED, VIEWS, WATCHED, class_with, decision,
+    family_of, field_inside, fields_of, forget_decisions, has_own_method, has_setter, has_watched_method, ids_of,
+    is_bound_by_code, is_made, is_of, is_of_library, is_other_container, is_watched_class, mro_of, name_of,
+    value_of_element, value_of_field, vars_of, without_own,
 )
-from .as_fields import FIELDS_OF, keep_fields_of, object_of
+from .as_fields import FIELDS_OF, FieldsOf, keep_fields_of, object_of
 from .comparing import compared_in
 from .given_away import hand_over, has_inside, toucher
 from .held_lines import PREFIX_OF_HELD
@@ -719,7 +719,9 @@ def _touch_by_name(one: Any, name: Any, kinds: str, site: int) -> None:
     if type(name) is not str:
         return
     mark = site, name
-    if issubclass(kind, types.ModuleType):
+    if kind is FieldsOf:
+        saw(one.owner, mark, (field_late, mark, one.kind, name, kinds, site))
+    elif issubclass(kind, types.ModuleType):
         _touch_module(one, name, kinds, mark, site)
     elif issubclass(kind, type):
         _touch_type(one, name, kinds, mark, site)
@@ -732,7 +734,7 @@ def _touch_all_fields(one: Any, site: int, kind: str | None) -> None:
     if kind is None or kind in (LENGTH, KEYS):
         return
     kinds = "w" if kind in CHANGING else READ_ONLY
-    for name in list(fields_of(one)):
+    for name in list(one.fields if type(one) is FieldsOf else fields_of(one)):
         _touch_by_name(one, name, kinds, site)
 
 
@@ -1715,7 +1717,7 @@ def _nothing(*_: Any) -> None:
 HOOKS: dict[str, Callable[..., Any]] = {
     name[5:]: one for name, one in list(globals().items()) if name.startswith("hook_")
 }
-ALWAYS = frozenset(("after_making", "at_constructor"))
+ALWAYS = frozenset(("after_making", "at_constructor", "before_fields", "before_fields_local", "after_variables"))
 BUILDS_CLASSES = "__build_class__"
 """A name of the builtins that nothing else has."""
 QUIET: dict[str, Callable[..., Any]] = {

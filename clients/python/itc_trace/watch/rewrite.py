@@ -15,9 +15,9 @@ from typing import Any
 from ..model.conflicts import ADDITION, ITERATION, KEYS, LENGTH, REWRITE
 from . import held_lines, on_stack, passed_over
 from ..model.kinds import (
-    CALLED_BY_STEPS, CHANGED_ARGUMENT, COMPARED, CONSUMING, CONTENT, DEPTHS_OF_METHODS, EACH, IN_PLACE_FUNCTIONS, IN_PLACE_METHODS,
-    KEYED, LATE_METHODS, METHODS, ORDERED, RANKED, RANKING, READERS, SHOWING, SHOWN, STATE, STEPPERS, STEPPING, TRUTH,
-    WRITTEN, depth_of, known_function,
+    CALLED_BY_STEPS, CHANGED_ARGUMENT, COMPARED, CONSUMING, CONTENT, DEPTHS_OF_METHODS, EACH, IN_PLACE_FUNCTIONS,
+    IN_PLACE_METHODS, KEYED, LATE_METHODS, METHODS, ORDERED, RANKED, RANKING, READERS, SHOWING, SHOWN, STATE,
+    STEPPERS, STEPPING, TRUTH, WRITTEN, depth_of, known_function,
 )
 from .helper import quick
 from .patterns import Patterns
@@ -28,7 +28,7 @@ from .placing import placed
 from .process_state import CHANGED_STATE, LEVEL, LEVELS, PRINTED, kept_in, touched_by
 from .scopes import (
     CLASS, COMPREHENSION, DELEGATING, FIELDS, FUNCTION, LATE, MODULE, OF_EXCEPTIONS, SCOPED, Scope, Scopes,
-    arguments_of,
+    arguments_of, is_kept,
 )
 from .templates import field_paths
 from .undoing import mark as mark_undoing
@@ -911,7 +911,9 @@ class Rewriter:
             is_in_function, is_of_base = self._scope.kind is FUNCTION, _is_super(node.value)
             passed_over.look_at_attribute(node, self._learned, is_in_function, is_of_base, self._import_of(node.value))
         if node.attr == "__dict__":
-            if type(node.ctx) is ast.Load:
+            if is_kept(node):
+                node.value = self._kept_fields(node.value)
+            elif type(node.ctx) is ast.Load:
                 node.value = self._operand(node.value, "before_fields")
             else:
                 node.value = self._operand(node.value, "before_new_fields", self._site(node, "field", "w"))
@@ -922,6 +924,10 @@ class Rewriter:
         if thing is None or not self._learned.is_field(CHANGED_STATE + thing):
             return node
         return at(node, ast.BoolOp(ast.Or(), [self._state(node, thing, READ), node]))
+
+    def _kept_fields(self, node: Any) -> ast.expr:
+        """The object whose fields something may keep as a dictionary: it is known from then on whose they are."""
+        return self._hook("before_fields", node, self._child(node))
 
     def _touch_attribute(self, node: ast.Attribute) -> None:
         kinds = "r" if type(node.ctx) is ast.Load else "w"
@@ -1215,7 +1221,8 @@ class Rewriter:
         if name in OF_ATTRIBUTES and len(node.args) > 1:
             self._attribute_by_name(node, OF_ATTRIBUTES[name])
         elif name == "vars" and len(node.args) == 1 and type(node.args[0]) is not ast.Starred:
-            node.args = [self._operand(node.args[0], "before_fields")]
+            one = node.args[0]
+            node.args = [self._kept_fields(one) if is_kept(node) else self._operand(one, "before_fields")]
         elif name in READERS or name in STEPPERS:
             is_called = name in ("map", "filter") or name == "iter" and len(node.args) > 1
             self._keep_loop_of_others(node, is_called)

@@ -7,7 +7,7 @@ import ast
 from collections.abc import Callable
 from typing import Any
 
-from ..model.kinds import MAPS, METHODS
+from ..model.kinds import MAPS, METHODS, READERS
 from . import passed_over
 from .learned import OF_CLASSES, Learned
 from .process_state import CHANGED_STATE, changed_by, kept_in
@@ -294,13 +294,32 @@ class Scopes:
 
     def _visit_Assign(self, node: ast.Assign) -> int:
         """What is bound to the value of a call is bound behind it."""
+        _mark_kept(node.value)
         return self._walk(node.value) | self._walk_all(node.targets)
 
     def _visit_AnnAssign(self, node: ast.AnnAssign) -> int:
+        _mark_kept(node.value)
         inside = 0 if node.value is None else self._walk(node.value)
         return inside | self._walk(node.target) | self._walk(node.annotation)
 
+    def _visit_Return(self, node: ast.Return) -> int:
+        _mark_kept(node.value)
+        return self._walk_inside(node)
+
+    def _visit_Dict(self, node: ast.Dict) -> int:
+        for one in node.values:
+            _mark_kept(one)
+        return self._walk_inside(node)
+
+    def _visit_row(self, node: Any) -> int:
+        for one in node.elts:
+            _mark_kept(one)
+        return self._walk_inside(node)
+
+    _visit_Tuple = _visit_List = _visit_row
+
     def _visit_NamedExpr(self, node: ast.NamedExpr) -> int:
+        _mark_kept(node.value)
         return self._walk(node.value) | self._walk(node.target)
 
     def _visit_Global(self, node: ast.Global) -> int:
@@ -360,7 +379,7 @@ class Scopes:
             self._texts.append((self._scope, node.attr, node.value.id, node.lineno))
         elif node.attr == MAPS:
             self.learned.add_field(MAPS)  # The list of a chain may be changed.
-        return self._walk(node.value)
+        return self._walk(node.value) | (SCOPED if is_kept(node) else 0)
 
     def _note_stored_in_module(self, node: ast.Attribute, whole: ast.expr) -> None:
         """The attribute may be a variable of another module, or have what the library keeps once."""
@@ -420,14 +439,20 @@ class Scopes:
             if keyword.arg is not None and isinstance(keyword.value, ast.Attribute) and keyword.value.attr in METHODS:
                 self.learned.add_field(keyword.arg)
         count = len(self._texts)
-        inside = self._walk(function) | LATE
+        inside = self._walk(function) | (LATE | SCOPED if is_kept(node) else LATE)
         if isinstance(function, ast.Name):
             del self._texts[count:]  # A call by its own name is kept as calls are.
-        if node.args:
-            inside |= self._walk_all(node.args)
-        if node.keywords:
-            inside |= self._walk_all(node.keywords)
+        if node.args or node.keywords:
+            inside |= self._walk_arguments(node, isinstance(function, ast.Name) and name in READERS)
         return inside
+
+    def _walk_arguments(self, node: ast.Call, is_reader: bool) -> int:
+        """What a function is given, which may keep it, unless it is one of the language that only looks at it."""
+        for one in () if is_reader else node.args:
+            _mark_kept(one)
+        for keyword in node.keywords:
+            _mark_kept(keyword.value)
+        return self._walk_all(node.args) | self._walk_all(node.keywords)
 
     def _note_call(self, function: ast.Name | ast.Attribute) -> None:
         """Another task may be there once this was called: by its name, or as it is of another module of the program."""
@@ -579,6 +604,24 @@ def mark(node: Any) -> int:
                 inside |= mark(child)
     node.inside = inside = inside | SCOPED * isinstance(node, SCOPED_KINDS) | LATE * isinstance(node, LATE_KINDS)
     return inside
+
+
+OF_VARIABLES = frozenset(("vars", "globals"))
+"""Functions that give the dictionary of what has fields, or variables."""
+
+
+def _mark_kept(node: ast.expr | None) -> None:
+    """Marks a dictionary of fields that something may keep. Whose it is has to be known from then on."""
+    if isinstance(node, ast.Attribute):
+        if node.attr == "__dict__":
+            node.is_kept = True  # type: ignore[attr-defined]
+    elif isinstance(node, ast.Call) and isinstance(node.func, ast.Name) and node.func.id in OF_VARIABLES:
+        node.is_kept = True  # type: ignore[attr-defined]
+
+
+def is_kept(node: ast.expr) -> bool:
+    """Whether it is such a dictionary. Its hook is there while there is one task, too."""
+    return "is_kept" in node.__dict__
 
 
 def _is_method_of_type(function: ast.expr) -> bool:
