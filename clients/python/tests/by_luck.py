@@ -316,6 +316,22 @@ def second():
     table["a"]  # race
     len(rows)  # race
     LOOK
+## the lock that a queue has itself
+jobs = queue.Queue()
+def first():
+    CHANGE
+    with jobs.mutex: jobs.queue.clear()
+def second():
+    with jobs.mutex: jobs.queue.clear()
+    LOOK
+## a condition that a queue has itself
+jobs = queue.PriorityQueue()
+def first():
+    CHANGE
+    with jobs.not_empty: jobs.not_empty.notify_all()
+def second():
+    with jobs.not_empty: jobs.not_empty.notify_all()
+    LOOK
 ## a permit of a pool of permits that grows
 permits = threading.Semaphore(1)
 def first():

@@ -13,6 +13,7 @@ from typing import NamedTuple
 
 from .constructs import Construct, lines_told
 from .pairs import Pair, races_of
+from .queues_looked_into import QUEUES_LOOKED_INTO
 
 BEGIN = """\
 import asyncio, collections, contextlib, functools, queue, threading, time, weakref
@@ -1437,7 +1438,7 @@ def run():
 with self.ready: return min => return min
 """
 
-TABLES = (QUEUES, LOCKS, STARTS, FUTURES, LOOPS, LIBRARY)
+TABLES = (QUEUES, LOCKS, STARTS, FUTURES, LOOPS, LIBRARY, QUEUES_LOOKED_INTO)
 RACE, POSSIBLE = "race", "possible"
 
 

@@ -24,6 +24,7 @@ from ..record import plain
 from ..record.tuple_items import c_types
 from .holders import Holder, holders_of, replace
 from .locks import TracedRLock, gave, is_of_condition, stands_for_rlock, took, traced_lock, traced_rlock
+from .queues import is_plain, mutex_of
 from .threads import MOST_PERMITS
 from .waiters import Waiters
 
@@ -145,7 +146,7 @@ def follow_earlier() -> None:
 def _wanted() -> tuple[type, ...]:
     pools = sys.modules.get(_POOLS)
     more = () if pools is None else (vars(pools)["ThreadPool"],)
-    return (*_LOCKS, threading.Condition, threading.Semaphore, _SimpleQueue, *more)
+    return (*_LOCKS, threading.Condition, threading.Semaphore, queue.Queue, _SimpleQueue, *more)
 
 
 @contextmanager
@@ -186,6 +187,8 @@ class _Found:
             self._follow_condition(one)
         elif issubclass(kind, threading.Semaphore):
             _follow_semaphore(one)
+        elif issubclass(kind, queue.Queue):
+            self._follow_queue(one)
         else:
             _leave(one, f"{kind.__name__} {self._name(one)}".strip())
 
@@ -234,6 +237,18 @@ class _Found:
             if condition._lock is lock:
                 _rebind(condition, made)
         return made
+
+    def _follow_queue(self, one: Any) -> None:
+        """What the program does with the lock of a queue is seen from here on."""
+        lock = one.mutex
+        if type(lock) in _LOCKS:
+            made = mutex_of(one, None) if is_plain(one) else traced_lock(None, lock=lock)
+            made._itc_identity.is_found(self._name(one), self._place(one))
+            for holder in self._of(lock):
+                replace(holder, lock, made)
+            for condition in self._conditions.values():
+                if condition._lock is lock:
+                    _rebind(condition, made)
 
     def _follow_condition(self, condition: Any) -> None:
         lock = condition._lock

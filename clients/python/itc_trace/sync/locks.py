@@ -133,6 +133,14 @@ class TracedLock(metaclass=_LikeLock):
         return repr(self._lock)
 
 
+QUIET: set[type] = {_PlainLock}
+"""The types of locks whose conditions tell of nothing if the library alone waits there."""
+
+
+def are_quiet(kind: type) -> None:
+    QUIET.add(kind)
+
+
 class TracedRLock(_PlainRLock, metaclass=_LikeRLock):  # type: ignore[misc]
     """A lock that its owner may acquire again. Only what happens outermost is a message."""
 

@@ -6,9 +6,10 @@ import _thread
 import math
 import queue
 import threading
-from collections import deque
-from collections.abc import Iterable
-from types import FunctionType
+import weakref
+from collections import Counter, deque
+from collections.abc import Callable, Iterable
+from types import FrameType, FunctionType
 from typing import Any
 
 from ..model.lines import DONE_ITEM, QUEUE, ROOM, Token, state
@@ -16,7 +17,7 @@ from ..record.nesting import Items as ItemsUnderLocks
 from ..record.noting import mark, take
 from ..model.frames import frame_at, is_internal
 from .base import Patches, name_as
-from .locks import TracedLock, gave, took, traced_lock
+from .locks import TracedLock, are_quiet, gave, took, traced_lock
 
 _guard = vars(_thread)["RLock"]()
 _own_steps: set[Any] = set()
@@ -30,6 +31,8 @@ and to tell it would take an event an item."""
 
 
 _CONDITIONS = frozenset({"not_empty", "not_full", "all_tasks_done"})
+_OF_CONDITIONS = frozenset({"threading", "itc_trace.sync.threads"})
+"""The modules whose code acquires the lock of a condition for whoever calls."""
 _INSIDE = ("_init", "_put", "_get", "_qsize")
 """Methods that a queue calls while it holds its own lock."""
 
@@ -52,15 +55,22 @@ def put(patches: Patches) -> None:
 def _begin(original: Any) -> Any:
     def __init__(self: Any, maxsize: int = 0) -> None:
         original(self, maxsize)
-        frame, kind = frame_at(1), type(self)
+        frame = frame_at(1)
         if not is_internal(frame):
             self._itc_waits = ItemsUnderLocks(frame)
-        if any(getattr(getattr(kind, name), "__module__", "") != "queue" for name in _INSIDE) or _waits_by_itself(kind):
-            _trace_lock(self, frame)
+        if not is_plain(self):
+            _trace_lock(self, traced_lock(frame))
         elif not is_internal(frame):
-            self.mutex = traced_lock(frame, _Mutex, self.mutex)
+            _trace_lock(self, mutex_of(self, frame))
 
     return __init__
+
+
+def is_plain(one: Any) -> bool:
+    """Whether no code of the program runs while the queue holds its lock."""
+    kind = type(one)
+    are_own = all(getattr(getattr(kind, name), "__module__", "") == "queue" for name in _INSIDE)
+    return are_own and not _waits_by_itself(kind)
 
 
 def _waits_by_itself(kind: type) -> bool:
@@ -72,45 +82,81 @@ def _waits_by_itself(kind: type) -> bool:
 
 
 class _Mutex(TracedLock):
-    """The lock of a queue, as the program has it.
+    """The lock of a queue, as the program has it, also by the queue's conditions.
 
-    What the library does while it holds the lock gives no order by that.
+    What the library does while it holds the lock gives no order by that. If the program acquires it, it comes after who
+    has put what lies there. What the program itself puts there or takes out is known as it releases the lock.
     """
 
-    __slots__ = ()
+    __slots__ = ("_itc_queue", "_itc_unfinished")
+
+    _itc_queue: Any
+    _itc_unfinished: int
 
     def acquire(self, blocking: bool = True, timeout: float = -1) -> bool:
         if not self._lock.acquire(blocking, timeout):
             return False
-        if state.note is not None and not is_internal(frame_at(1)):
-            took(self)
+        if state.note is not None and _is_by_program(frame_at(1)):
+            self._is_taken(blocking and timeout < 0)
         return True
 
     def __enter__(self) -> bool:
         self._lock.acquire()
-        if state.note is not None and not is_internal(frame_at(1)):
-            took(self)
+        if state.note is not None and _is_by_program(frame_at(1)):
+            self._is_taken(True)
         return True
 
     def release(self) -> None:
-        if state.note is not None and not is_internal(frame_at(1)):
-            gave(self)
+        if state.note is not None and _is_by_program(frame_at(1)):
+            self._is_given()
         self._lock.release()
 
     def __exit__(self, *_: object) -> None:
-        if state.note is not None and not is_internal(frame_at(1)):
-            gave(self)
+        if state.note is not None and _is_by_program(frame_at(1)):
+            self._is_given()
         self._lock.release()
+
+    def _is_taken(self, has_waited: bool) -> None:
+        took(self, has_waited)
+        one = self._itc_queue()
+        if one is not None:
+            self._itc_unfinished = one.unfinished_tasks
+            for token in items_of(one).last():
+                take(token, 3)
+
+    def _is_given(self) -> None:
+        one = self._itc_queue()
+        if one is not None and self._lock.locked():
+            items_of(one).become(_lying_in(one), lambda: mark(QUEUE, 4))
+            if one.unfinished_tasks != self._itc_unfinished:
+                note_done(one)
+        gave(self)
 
 
 name_as(_Mutex, "lock", "_thread")
+are_quiet(_Mutex)
 
 
-def _trace_lock(one: Any, frame: Any) -> None:
-    """Gives the queue a traced lock, as code of the program runs while it is held."""
-    one.mutex = traced_lock(frame)
-    for name in ("not_empty", "not_full", "all_tasks_done"):
-        setattr(one, name, threading.Condition(one.mutex))
+def mutex_of(one: Any, frame: FrameType | None) -> Any:
+    """What stands before the lock of the queue."""
+    made = traced_lock(frame, _Mutex, one.mutex)
+    made._itc_queue, made._itc_unfinished = weakref.ref(one), 0
+    made._itc_identity.is_inside = True
+    return made
+
+
+def _is_by_program(frame: FrameType | None) -> bool:
+    """Whether the program acquires or releases the lock, by itself or by a condition of the queue."""
+    while frame is not None and frame.f_globals.get("__name__") in _OF_CONDITIONS:
+        frame = frame.f_back
+    return not is_internal(frame)
+
+
+def _trace_lock(one: Any, lock: Any) -> None:
+    """Gives the queue a traced lock."""
+    one.mutex = lock
+    for name in _CONDITIONS:
+        setattr(one, name, threading.Condition(lock))
 
 
 class Items:
@@ -150,6 +196,38 @@ class Items:
             if tokens:
                 self._tokens[number] = tokens
             return token
+
+    def last(self) -> list[Token | None]:
+        """The places after which all items were put that lie there. Of each task the last one will do."""
+        with _guard:
+            several = [tokens[-1] for tokens in self._tokens.values() if isinstance(tokens, deque)]
+            single = {token.line: token for token in self._tokens.values() if isinstance(token, Token)}
+        return [*single.values(), *several]
+
+    def become(self, lying: list[object], marked: Callable[[], Token | None]) -> None:
+        """The program has put items there or taken some out by itself: what lies there now is this."""
+        counts = Counter(map(id, lying))
+        with _guard:
+            known = {
+                number: list(tokens) if isinstance(tokens, deque) else [tokens]
+                for number, tokens in self._tokens.items()
+            }
+            token = marked() if any(count > len(known.get(number, ())) for number, count in counts.items()) else None
+            self._tokens = {
+                number: _one_or_several(_resized(known.get(number, []), count, token, self._is_stack))
+                for number, count in counts.items()
+            }
+
+
+def _resized(tokens: list[Token | None], count: int, token: Token | None, is_stack: bool) -> list[Token | None]:
+    """So many tokens: those of items that are gone are left out, and new items have this one."""
+    if count <= len(tokens):
+        return tokens[:count] if is_stack else tokens[len(tokens) - count:]
+    return [*tokens, *[token] * (count - len(tokens))]
+
+
+def _one_or_several(tokens: list[Token | None]) -> Token | deque[Token | None] | None:
+    return tokens[0] if len(tokens) == 1 else deque(tokens)
 
 
 def add_stack(kind: type) -> None:

@@ -18,7 +18,7 @@ from .base import Patches, like
 from .left_behind import ended, started
 from ..record.awaited import await_at_exit
 from .locks import (
-    IS_CALLED, OnePermit, TracedLock, TracedRLock, allocate_lock, gave, is_of_condition, took,
+    IS_CALLED, QUIET, OnePermit, TracedLock, TracedRLock, allocate_lock, gave, is_of_condition, took,
 )
 from .python_rlocks import known_lock, new_rlock, rlock_of_condition
 from .waiters import Waiters
@@ -287,12 +287,20 @@ def _lock_of_condition(frame: FrameType | None) -> Any:
     return threading.RLock() if are_replaced() else rlock_of_condition(frame)
 
 
+def _may_be_waited_for(lock: Any, frame: FrameType | None) -> None:
+    """Somebody waits at a condition of the lock, or notifies. For that of a queue, the program itself has to do so."""
+    while type(lock) in QUIET and frame is not None and frame.f_globals.get("__name__") == "threading":
+        frame = frame.f_back  # `notify_all` and `wait_for` stand there.
+    if type(lock) not in QUIET or not is_internal(frame):
+        is_of_condition(known_lock(lock))
+
+
 def _condition_notify(original: Any) -> Any:
     def notify(self: Any, n: int = 1) -> None:
         lock, waiters = self._lock, self._waiters
-        if not waiters and type(lock) is _PLAIN_LOCK and type(self) is threading.Condition and lock.locked():
+        if not waiters and type(lock) in QUIET and type(self) is threading.Condition and lock.locked():
             return  # Nobody waits, and the lock is the library's own: there is nothing to do and nothing to tell.
-        is_of_condition(known_lock(lock))
+        _may_be_waited_for(lock, frame_at(1))
         if waiters and type(waiters) is Waiters and self._is_owned():
             waiters.are_notified(mark(NOTIFY), n)
         original(self, n)
@@ -302,7 +310,7 @@ def _condition_notify(original: Any) -> Any:
 
 def _condition_wait(original: Any) -> Any:
     def wait(self: Any, timeout: float | None = None) -> bool:
-        is_of_condition(known_lock(self._lock))
+        _may_be_waited_for(self._lock, frame_at(1))
         is_woken = False
         try:
             is_woken = bool(original(self, timeout))
