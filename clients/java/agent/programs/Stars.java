@@ -3,13 +3,9 @@ import java.util.ArrayList;
 import java.util.HashMap;
 import java.util.List;
 import java.util.Map;
-import java.util.concurrent.ArrayBlockingQueue;
-import java.util.concurrent.BlockingQueue;
-import java.util.concurrent.BrokenBarrierException;
 import java.util.concurrent.CompletableFuture;
 import java.util.concurrent.ConcurrentHashMap;
 import java.util.concurrent.ConcurrentMap;
-import java.util.concurrent.CyclicBarrier;
 import java.util.concurrent.ForkJoinPool;
 import java.util.concurrent.RecursiveTask;
 import java.util.concurrent.locks.Condition;
@@ -104,32 +100,6 @@ public final class Stars {
                     }
                 };
         both(grow, grow);
-    }
-
-    static void queued() throws InterruptedException {
-        BlockingQueue<Store> orders = new ArrayBlockingQueue<>(2);
-        both(
-                () -> {
-                    try {
-                        for (int turn = 0; turn < 5; turn++) {
-                            Store store = new Store();
-                            store.left = turn;
-                            orders.put(store);
-                        }
-                    } catch (InterruptedException interrupted) {
-                        Thread.currentThread().interrupt();
-                    }
-                },
-                () -> {
-                    try {
-                        for (int turn = 0; turn < 5; turn++) {
-                            Store store = orders.take();
-                            store.left++;
-                        }
-                    } catch (InterruptedException interrupted) {
-                        Thread.currentThread().interrupt();
-                    }
-                });
     }
 
     static void readers() throws InterruptedException {
@@ -246,23 +216,6 @@ public final class Stars {
         int sum = IntStream.range(0, 1_000).parallel().map(number -> number + store.left).sum(); // star: inParallel
         store.left = sum;
         System.out.println(store.left);
-    }
-
-    static void barrier() throws InterruptedException {
-        CyclicBarrier barrier = new CyclicBarrier(2);
-        Store one = new Store();
-        Store other = new Store();
-        both(() -> meet(barrier, one, other), () -> meet(barrier, other, one));
-    }
-
-    private static void meet(CyclicBarrier barrier, Store own, Store others) {
-        try {
-            own.left = 4;
-            barrier.await();
-            System.out.println(others.left);
-        } catch (InterruptedException | BrokenBarrierException failed) {
-            throw new IllegalStateException(failed);
-        }
     }
 
     static void reflected() throws Exception {

@@ -8,8 +8,10 @@ import java.util.Arrays;
 import java.util.ArrayDeque;
 import java.util.Date;
 import java.util.Deque;
+import java.util.List;
 import java.util.Set;
 import java.util.concurrent.CompletableFuture;
+import java.util.concurrent.ConcurrentHashMap;
 import java.util.concurrent.CountDownLatch;
 import java.util.concurrent.ForkJoinTask;
 import java.util.concurrent.FutureTask;
@@ -58,6 +60,27 @@ public final class Watched {
     /** Those that tell of their orders by themselves, and what is below them. */
     private static final Set<Class<?>> EXACT =
             Set.of(FutureTask.class, ThreadPoolExecutor.class, CompletableFuture.class, ForkJoinTask.class);
+
+    /** The same by their names, if the agent has rewritten them. */
+    private static final Set<String> REWRITTEN = ConcurrentHashMap.newKeySet();
+
+    static {
+        for (String name :
+                List.of(
+                        "ArrayBlockingQueue", "LinkedBlockingQueue", "LinkedBlockingDeque", "PriorityBlockingQueue", "DelayQueue",
+                        "SynchronousQueue", "LinkedTransferQueue", "ConcurrentLinkedQueue", "ConcurrentLinkedDeque", "Exchanger",
+                        "CyclicBarrier", "Phaser", "CopyOnWriteArrayList", "CopyOnWriteArraySet")) {
+            REWRITTEN.add(CONCURRENT + name);
+        }
+    }
+
+    /** A class of the JDK runs as it is. What its objects order is not followed exactly. */
+    public static void unfollowed(String name) {
+        REWRITTEN.remove(name);
+        if (name.endsWith("CopyOnWriteArrayList")) {
+            REWRITTEN.remove(CONCURRENT + "CopyOnWriteArraySet");
+        }
+    }
 
     /** Whether an object gives an order that is not followed exactly, by its class. */
     private static final ClassValue<Boolean> IS_UNFOLLOWED =
@@ -839,7 +862,8 @@ public final class Watched {
         }
         for (Class<?> one = type; one != null; one = one.getSuperclass()) {
             String name = one.getName();
-            if (FOLLOWED.contains(one) || name.startsWith("java.util.concurrent.Executors$") || Throwable.class == one) {
+            String outer = name.substring(0, Math.max(name.indexOf('$'), 0));
+            if (FOLLOWED.contains(one) || REWRITTEN.contains(name) || REWRITTEN.contains(outer) || name.startsWith("java.util.concurrent.Executors$") || Throwable.class == one) {
                 return false;
             }
             if (name.equals(CONCURRENT + "locks.AbstractQueuedSynchronizer$ConditionObject")

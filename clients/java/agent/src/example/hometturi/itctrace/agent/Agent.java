@@ -28,11 +28,17 @@ public final class Agent {
         if (Watched.isOn()) {
             instrumentation.addTransformer(new OfTheJdk(), true);
             instrumentation.addTransformer(new OfFutures(), true);
+            instrumentation.addTransformer(new OfHandovers(), true);
             for (Class<?> type : OfTheJdk.CLASSES) {
                 retransform(instrumentation, type);
             }
             for (Class<?> type : OfFutures.CLASSES) {
                 retransform(instrumentation, type);
+            }
+            for (Class<?> type : instrumentation.getAllLoadedClasses()) {
+                if (OfHandovers.isOfThese(type.getName().replace('.', '/'))) {
+                    retransform(instrumentation, type);
+                }
             }
             if (hasFailed) {
                 Watched.unwatched("the agent does not know the classes of JDK " + Runtime.version().feature());

@@ -5,9 +5,8 @@ import java.lang.ref.ReferenceQueue;
 import java.util.ArrayList;
 import java.util.HashSet;
 import java.util.List;
-import java.util.Queue;
 import java.util.Set;
-import java.util.concurrent.ConcurrentLinkedQueue;
+import java.util.concurrent.atomic.AtomicReference;
 
 /**
  * What gives no order any more, which the relay of a trace in parts is told: messages that nobody can receive, and tasks that nobody can
@@ -23,13 +22,16 @@ final class Gone {
 
     private final ReferenceQueue<Object> queue = new ReferenceQueue<>();
     private final Set<Watched> kept = new HashSet<>();
-    /** Places that were sent and have lost their last mark. */
-    private final Queue<Place> unmarked = new ConcurrentLinkedQueue<>();
+    /** Places that were sent and have lost their last mark. No queue of the JDK is used, as the agent follows those. */
+    private final AtomicReference<Unmarked> unmarked = new AtomicReference<>();
     /** The same, where it is not told yet that nobody can receive their messages: a task may mark its last place once more. */
     private final List<Place> idle = new ArrayList<>();
     /** What is told next. */
     private final StringBuilder lines = new StringBuilder();
     private int limit = MANY;
+
+    /** A place, and those that were added before it. */
+    private record Unmarked(Place place, Unmarked next) {}
 
     /** A message or a task that somebody may come after. */
     static final class Watched extends PhantomReference<Object> {
@@ -69,7 +71,7 @@ final class Gone {
 
     /** The place was sent, and has no mark any more. */
     void unmark(Place place) {
-        unmarked.add(place);
+        unmarked.updateAndGet(next -> new Unmarked(place, next));
     }
 
     /** Nobody can come after it any more, and the relay knows that. */
@@ -90,8 +92,8 @@ final class Gone {
 
     /** Adds a line for each that is gone since the last time. */
     void tell(StringBuilder unsent) {
-        for (Place place = unmarked.poll(); place != null; place = unmarked.poll()) {
-            idle.add(place);
+        for (Unmarked one = unmarked.getAndSet(null); one != null; one = one.next) {
+            idle.add(one.place);
         }
         idle.removeIf(place -> place.isMarkedAgain() || leaves(place));
         for (Object gone = queue.poll(); gone != null; gone = queue.poll()) {

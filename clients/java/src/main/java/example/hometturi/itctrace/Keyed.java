@@ -3,6 +3,7 @@ package example.hometturi.itctrace;
 import java.lang.ref.Reference;
 import java.lang.ref.ReferenceQueue;
 import java.lang.ref.WeakReference;
+import java.util.Collection;
 import java.util.Map;
 import java.util.concurrent.ConcurrentHashMap;
 import java.util.function.Supplier;
@@ -42,9 +43,30 @@ final class Keyed<V> {
         if (known != null) {
             return known;
         }
-        for (Reference<?> old = gone.poll(); old != null; old = gone.poll()) {
-            values.remove(old);
-        }
+        forgetGone();
         return values.computeIfAbsent(new Key(object, gone), key -> make.get());
+    }
+
+    void put(Object object, V value) {
+        forgetGone();
+        values.put(new Key(object, gone), value);
+    }
+
+    /** Gives what was kept. Null if that is nothing. */
+    V remove(Object object) {
+        return values.remove(new Key(object, null));
+    }
+
+    /** What is kept of all that live. */
+    Collection<V> all() {
+        return values.values();
+    }
+
+    private void forgetGone() {
+        for (Reference<?> old = gone.poll(); old != null; old = gone.poll()) {
+            if (values.remove(old) instanceof Place.Mark mark) {
+                mark.end(); // Nobody comes after it any more.
+            }
+        }
     }
 }

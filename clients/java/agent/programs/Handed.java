@@ -1,0 +1,328 @@
+import java.util.ArrayList;
+import java.util.Comparator;
+import java.util.List;
+import java.util.Queue;
+import java.util.concurrent.ArrayBlockingQueue;
+import java.util.concurrent.BlockingQueue;
+import java.util.concurrent.BrokenBarrierException;
+import java.util.concurrent.ConcurrentLinkedDeque;
+import java.util.concurrent.ConcurrentLinkedQueue;
+import java.util.concurrent.CopyOnWriteArrayList;
+import java.util.concurrent.CopyOnWriteArraySet;
+import java.util.concurrent.CyclicBarrier;
+import java.util.concurrent.DelayQueue;
+import java.util.concurrent.Delayed;
+import java.util.concurrent.Exchanger;
+import java.util.concurrent.LinkedBlockingDeque;
+import java.util.concurrent.LinkedBlockingQueue;
+import java.util.concurrent.LinkedTransferQueue;
+import java.util.concurrent.Phaser;
+import java.util.concurrent.PriorityBlockingQueue;
+import java.util.concurrent.SynchronousQueue;
+import java.util.concurrent.TimeUnit;
+import java.util.concurrent.TransferQueue;
+
+/** Programs that hand something over by a queue, an exchanger, a barrier or a phaser, without a race. */
+public final class Handed {
+    static final class Store implements Delayed {
+        int left = 2;
+        int sold;
+
+        @Override
+        public long getDelay(TimeUnit unit) {
+            return 0;
+        }
+
+        @Override
+        public int compareTo(Delayed other) {
+            return 0;
+        }
+    }
+
+    /** What may be interrupted. */
+    interface Body {
+        void run() throws Exception;
+    }
+
+    static void both(Body one, Body other) throws InterruptedException {
+        Thread first = new Thread(() -> run(one), "first");
+        Thread second = new Thread(() -> run(other), "second");
+        first.start();
+        second.start();
+        first.join();
+        second.join();
+    }
+
+    static void run(Body body) {
+        try {
+            body.run();
+        } catch (Exception failed) {
+            throw new IllegalStateException(failed);
+        }
+    }
+
+    private static void handOver(BlockingQueue<Store> orders) throws InterruptedException {
+        both(
+                () -> {
+                    for (int turn = 0; turn < 6; turn++) {
+                        Store store = new Store();
+                        store.left = turn;
+                        orders.put(store);
+                    }
+                },
+                () -> {
+                    for (int turn = 0; turn < 6; turn++) {
+                        Store store = orders.take();
+                        store.left++;
+                    }
+                });
+    }
+
+    static void queuedInArray() throws InterruptedException {
+        handOver(new ArrayBlockingQueue<>(2));
+    }
+
+    static void queuedInNodes() throws InterruptedException {
+        handOver(new LinkedBlockingQueue<>());
+    }
+
+    static void queuedInDeque() throws InterruptedException {
+        handOver(new LinkedBlockingDeque<>(3));
+    }
+
+    static void queuedByPriority() throws InterruptedException {
+        handOver(new PriorityBlockingQueue<>(4, Comparator.comparing(Store::hashCode)));
+    }
+
+    static void queuedWithDelay() throws InterruptedException {
+        DelayQueue<Store> orders = new DelayQueue<>();
+        both(
+                () -> {
+                    Store store = new Store();
+                    store.left = 5;
+                    orders.put(store);
+                },
+                () -> System.out.println(orders.take().left));
+    }
+
+    static void queuedByHand() throws InterruptedException {
+        handOver(new SynchronousQueue<>());
+    }
+
+    static void queuedFairly() throws InterruptedException {
+        handOver(new SynchronousQueue<>(true));
+    }
+
+    static void transferredBoth() throws InterruptedException {
+        TransferQueue<Store> orders = new LinkedTransferQueue<>();
+        Store store = new Store();
+        both(
+                () -> {
+                    orders.put(new Store());
+                    store.left = 3;
+                    orders.transfer(store);
+                    System.out.println(store.sold);
+                },
+                () -> {
+                    orders.take().left++;
+                    store.sold = 4;
+                    System.out.println(orders.take().left);
+                });
+    }
+
+    private static void pollAll(Queue<Store> orders) throws InterruptedException {
+        both(
+                () -> {
+                    for (int turn = 0; turn < 6; turn++) {
+                        Store store = new Store();
+                        store.left = turn;
+                        orders.add(store);
+                    }
+                },
+                () -> {
+                    for (int turn = 0; turn < 6; ) {
+                        Store store = orders.poll();
+                        if (store != null) {
+                            store.left++;
+                            turn++;
+                        }
+                    }
+                });
+    }
+
+    static void polled() throws InterruptedException {
+        pollAll(new ConcurrentLinkedQueue<>());
+    }
+
+    static void polledFromDeque() throws InterruptedException {
+        pollAll(new ConcurrentLinkedDeque<>());
+    }
+
+    static void peekedAt() throws InterruptedException {
+        BlockingQueue<Store> orders = new LinkedBlockingQueue<>();
+        both(
+                () -> {
+                    Store store = new Store();
+                    store.left = 8;
+                    orders.put(store);
+                },
+                () -> {
+                    while (orders.peek() == null) {
+                        Thread.onSpinWait();
+                    }
+                    for (Store store : orders) {
+                        System.out.println(store.left);
+                    }
+                });
+    }
+
+    static void drained() throws InterruptedException {
+        BlockingQueue<Store> orders = new ArrayBlockingQueue<>(8);
+        BlockingQueue<Store> others = new LinkedBlockingQueue<>();
+        both(
+                () -> {
+                    for (int turn = 0; turn < 3; turn++) {
+                        Store store = new Store();
+                        store.left = 8;
+                        orders.put(store);
+                        Store other = new Store();
+                        other.left = 9;
+                        others.put(other);
+                    }
+                },
+                () -> {
+                    List<Store> all = new ArrayList<>();
+                    while (all.size() < 6) {
+                        orders.drainTo(all);
+                        others.drainTo(all, 2);
+                    }
+                    for (Store store : all) {
+                        System.out.println(store.left);
+                    }
+                });
+    }
+
+    /** The same element is put by two, and who takes it twice comes after both. */
+    static void samePill() throws InterruptedException {
+        BlockingQueue<String> ended = new LinkedBlockingQueue<>();
+        Store one = new Store();
+        Store other = new Store();
+        Thread reading =
+                new Thread(
+                        () ->
+                                run(
+                                        () -> {
+                                            ended.take();
+                                            ended.take();
+                                            System.out.println(one.left + other.left);
+                                        }));
+        reading.start();
+        both(
+                () -> {
+                    one.left = 4;
+                    ended.put("end");
+                },
+                () -> {
+                    other.left = 4;
+                    ended.put("end");
+                });
+        reading.join();
+    }
+
+    static void exchanged() throws InterruptedException {
+        Exchanger<Store> exchanger = new Exchanger<>();
+        Body swap =
+                () -> {
+                    Store own = new Store();
+                    for (int turn = 0; turn < 5; turn++) {
+                        own.left++;
+                        own = exchanger.exchange(own);
+                    }
+                };
+        both(swap, swap);
+    }
+
+    static void metAtBarrier() throws InterruptedException {
+        Store total = new Store();
+        Store one = new Store();
+        Store other = new Store();
+        CyclicBarrier barrier = new CyclicBarrier(2, () -> total.left += one.left + other.left);
+        both(() -> meet(barrier, one, other, total), () -> meet(barrier, other, one, total));
+    }
+
+    private static void meet(CyclicBarrier barrier, Store own, Store others, Store total)
+            throws InterruptedException, BrokenBarrierException {
+        for (int turn = 0; turn < 4; turn++) {
+            own.left = turn;
+            barrier.await();
+            System.out.println(others.left + total.left > 99);
+            barrier.await();
+        }
+    }
+
+    static void phased() throws InterruptedException {
+        Store one = new Store();
+        Store other = new Store();
+        Store total = new Store();
+        Phaser phaser =
+                new Phaser(2) {
+                    @Override
+                    protected boolean onAdvance(int phase, int parties) {
+                        total.left += one.left + other.left;
+                        return false;
+                    }
+                };
+        both(() -> step(phaser, one, other, total), () -> step(phaser, other, one, total));
+    }
+
+    private static void step(Phaser phaser, Store own, Store others, Store total) {
+        for (int turn = 0; turn < 4; turn++) {
+            own.left = turn;
+            phaser.arriveAndAwaitAdvance();
+            System.out.println(others.left + total.left > 99);
+            phaser.arriveAndAwaitAdvance();
+        }
+    }
+
+    static void arrived() throws InterruptedException {
+        Phaser phaser = new Phaser(2);
+        Store store = new Store();
+        both(
+                () -> {
+                    store.left = 7;
+                    phaser.arriveAndDeregister();
+                },
+                () -> {
+                    int phase = phaser.arrive();
+                    phaser.awaitAdvance(phase);
+                    System.out.println(store.left);
+                });
+    }
+
+    static void listening() throws InterruptedException {
+        List<Store> listeners = new CopyOnWriteArrayList<>();
+        CopyOnWriteArraySet<Store> all = new CopyOnWriteArraySet<>();
+        both(
+                () -> {
+                    Store store = new Store();
+                    store.left = 7;
+                    listeners.add(store);
+                    all.add(store);
+                },
+                () -> {
+                    while (listeners.isEmpty() || all.isEmpty()) {
+                        Thread.onSpinWait();
+                    }
+                    for (Store store : listeners) {
+                        System.out.println(store.left);
+                    }
+                    all.forEach(store -> System.out.println(store.left));
+                });
+    }
+
+    private Handed() {}
+
+    public static void main(String[] words) throws Exception {
+        Handed.class.getDeclaredMethod(words[0]).invoke(null);
+    }
+}

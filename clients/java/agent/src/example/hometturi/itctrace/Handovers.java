@@ -1,0 +1,154 @@
+package example.hometturi.itctrace;
+
+import example.hometturi.itctrace.Place.Mark;
+import java.util.concurrent.ArrayBlockingQueue;
+import java.util.concurrent.Phaser;
+
+/** What queues, exchangers, barriers and phasers of the JDK call by the agent: who hands something over, and who gets it. */
+public final class Handovers {
+    /** Of each node of a queue where its element was put. */
+    private static final Keyed<Mark> NODES = new Keyed<>();
+
+    private static final Keyed<Elements> ELEMENTS = new Keyed<>();
+    private static final Keyed<Phases> PHASES = new Keyed<>();
+
+    private Handovers() {}
+
+    // Queues that have a node for each element
+
+    public static void putsNode(Object node, Object item) {
+        Mark mark = item == null ? null : Traced.mark(Elements.ITEM, Traced.site());
+        if (mark != null) {
+            NODES.put(node, mark);
+        }
+    }
+
+    public static Object seesItem(Object node, Object item) {
+        Mark mark = item == null || !Traced.isOn() ? null : NODES.known(node);
+        if (mark != null) {
+            Traced.take(mark, Traced.site());
+        }
+        return item;
+    }
+
+    /** The element of the node has left. The queue is locked. */
+    public static void losesItem(Object node) {
+        if (Traced.isOn()) {
+            Mark.endIfAny(NODES.remove(node));
+        }
+    }
+
+    // Nodes at which two threads meet
+
+    public static void meets(Object node) {
+        Traced.before(node);
+    }
+
+    public static void met(Object node) {
+        Traced.after(node);
+    }
+
+    /** Whether this thread has met the one that waits there. */
+    public static void metIf(boolean isMet, Object node) {
+        if (isMet) {
+            Traced.after(node);
+        }
+    }
+
+    /** What stands in the node if it is not what this thread brings. */
+    public static Object meetsItem(Object node, Object item, Object own) {
+        if (item != own) {
+            Traced.after(node);
+        }
+        return item;
+    }
+
+    public static Object seesOffer(Object node, Object item) {
+        if (item != null) {
+            Traced.after(node);
+        }
+        return item;
+    }
+
+    /** The node that this one was matched with. One that matches itself was cancelled. */
+    public static Object meetsNode(Object node, Object match) {
+        if (match != null && match != node) {
+            Traced.after(match);
+        }
+        return match;
+    }
+
+    // Queues without nodes
+
+    private static Elements of(Object queue) {
+        return ELEMENTS.of(queue, () -> new Elements(queue instanceof ArrayBlockingQueue));
+    }
+
+    public static void puts(Object queue, Object element) {
+        if (element != null && Traced.isOn()) {
+            of(queue).put(element, Traced.site());
+        }
+    }
+
+    public static void took(Object element, Object queue) {
+        if (element != null && Traced.isOn()) {
+            of(queue).take(element, true, Traced.site());
+        }
+    }
+
+    public static void saw(Object element, Object queue) {
+        if (element != null && Traced.isOn()) {
+            of(queue).take(element, false, Traced.site());
+        }
+    }
+
+    public static void sawAll(Object queue) {
+        if (Traced.isOn()) {
+            of(queue).takeAll(Traced.site());
+        }
+    }
+
+    public static void muddles(Object queue) {
+        if (Traced.isOn()) {
+            of(queue).takeAll(Traced.site());
+            of(queue).muddle();
+        }
+    }
+
+    public static void clears(Object queue) {
+        if (Traced.isOn()) {
+            of(queue).clear();
+        }
+    }
+
+    // Phasers
+
+    private static Phases of(Phaser phaser) {
+        return PHASES.of(phaser.getRoot(), Phases::new);
+    }
+
+    /** A party cannot miss the phase that it is about to arrive in. */
+    public static void arrives(Phaser phaser) {
+        if (Traced.isOn() && phaser.getPhase() >= 0) {
+            of(phaser).arrive(phaser.getPhase(), Traced.site());
+        }
+    }
+
+    public static void advances(Phaser phaser) {
+        if (Traced.isOn()) {
+            of(phaser).advance(phaser.getPhase(), Traced.site());
+        }
+    }
+
+    public static void sawPhase(int phase, Phaser phaser) {
+        if (Traced.isOn()) {
+            of(phaser).see(phase, Traced.site());
+        }
+    }
+
+    public static void sawEnd(boolean isTerminated, Phaser phaser) {
+        if (isTerminated) {
+            sawPhase(-1, phaser);
+        }
+    }
+}
