@@ -153,7 +153,8 @@ def fault_of_odd(folder: Path, program: Program) -> str | None:
 FAULTS = (
     ("Races", fault_of), ("MoreRaces", fault_of), ("Clean", fault_of), ("MoreClean", fault_of), ("Stars", fault_of_starred),
     ("SharedRaces", fault_of), ("SharedClean", fault_of), ("SharedStars", fault_of_starred), ("Children", fault_of_parent),
-    ("Handed", fault_of), ("HandedRaces", fault_of), ("Odd", fault_of_odd), ("Meant", fault_of_meant),
+    ("Handed", fault_of), ("HandedRaces", fault_of), ("Guarded", fault_of), ("GuardedRaces", fault_of), ("Odd", fault_of_odd),
+    ("Meant", fault_of_meant),
 )
 """The classes of programs, and what looks at a run of one."""
 

@@ -8,10 +8,6 @@ import java.util.concurrent.ConcurrentHashMap;
 import java.util.concurrent.ConcurrentMap;
 import java.util.concurrent.ForkJoinPool;
 import java.util.concurrent.RecursiveTask;
-import java.util.concurrent.locks.Condition;
-import java.util.concurrent.locks.Lock;
-import java.util.concurrent.locks.ReadWriteLock;
-import java.util.concurrent.locks.ReentrantReadWriteLock;
 import java.util.stream.IntStream;
 
 /**
@@ -100,61 +96,6 @@ public final class Stars {
                     }
                 };
         both(grow, grow);
-    }
-
-    static void readers() throws InterruptedException {
-        ReadWriteLock lock = new ReentrantReadWriteLock();
-        Store store = new Store();
-        both(
-                () -> {
-                    for (int turn = 0; turn < 10; turn++) {
-                        lock.writeLock().lock();
-                        try {
-                            store.left++;
-                        } finally {
-                            lock.writeLock().unlock();
-                        }
-                    }
-                },
-                () -> {
-                    Lock reading = lock.readLock();
-                    for (int turn = 0; turn < 10; turn++) {
-                        reading.lock();
-                        try {
-                            System.out.println(store.left > 0);
-                        } finally {
-                            reading.unlock();
-                        }
-                    }
-                });
-    }
-
-    static void conditionOfWriters() throws InterruptedException {
-        ReentrantReadWriteLock lock = new ReentrantReadWriteLock();
-        Condition isFull = lock.writeLock().newCondition();
-        Store store = new Store();
-        both(
-                () -> {
-                    rest(); // The other one waits by then.
-                    lock.writeLock().lock();
-                    try {
-                        store.left = 9;
-                        isFull.signalAll();
-                    } finally {
-                        lock.writeLock().unlock();
-                    }
-                },
-                () -> {
-                    lock.writeLock().lock();
-                    try {
-                        while (store.left != 9) {
-                            isFull.awaitUninterruptibly();
-                        }
-                        System.out.println(store.left);
-                    } finally {
-                        lock.writeLock().unlock();
-                    }
-                });
     }
 
     static void completed() throws Exception {

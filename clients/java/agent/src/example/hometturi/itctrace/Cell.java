@@ -104,12 +104,13 @@ final class Cell {
 
     private void note(Own own, Place place) {
         Stretch stretch = own.stretch();
-        if (stretch != null) {
-            note(own, place, stretch);
+        if (stretch != null && !Trusting.keeps(own, this, place, stretch)) {
+            note(own, place, stretch, own.task().stretches);
         }
     }
 
-    private synchronized void note(Own own, Place place, Stretch stretch) {
+    /** Notes what this thread has done in one of its stretches, by its number. */
+    synchronized void note(Own own, Place place, Stretch stretch, long number) {
         Task task = own.task();
         Touch mine = null;
         for (Touch one = first; one != null; one = one.next) {
@@ -123,7 +124,7 @@ final class Cell {
         if (mine == null) {
             mine = add(new Touch(own, place));
         }
-        mine.number = task.stretches;
+        mine.number = number;
         mine.waiting = stretch;
         if (conflicts(task, place.writes) && !mine.isTold) {
             tellWaiting(mine);

@@ -69,7 +69,8 @@ public final class Watched {
                 List.of(
                         "ArrayBlockingQueue", "LinkedBlockingQueue", "LinkedBlockingDeque", "PriorityBlockingQueue", "DelayQueue",
                         "SynchronousQueue", "LinkedTransferQueue", "ConcurrentLinkedQueue", "ConcurrentLinkedDeque", "Exchanger",
-                        "CyclicBarrier", "Phaser", "CopyOnWriteArrayList", "CopyOnWriteArraySet")) {
+                        "CyclicBarrier", "Phaser", "CopyOnWriteArrayList", "CopyOnWriteArraySet", "locks.ReentrantReadWriteLock",
+                        "locks.StampedLock")) {
             REWRITTEN.add(CONCURRENT + name);
         }
     }
@@ -93,7 +94,9 @@ public final class Watched {
 
     private static final Keyed<VolatileCell> ATOMICS = new Keyed<>();
     private static final Keyed<TracedLock> LOCKS = new Keyed<>();
-    private static final Keyed<TracedLock> CONDITIONS = new Keyed<>();
+    private static final Keyed<ReportingLock> CONDITIONS = new Keyed<>();
+    private static final Keyed<ReadWriteOrder> ORDERS = new Keyed<>();
+    private static final Keyed<FollowedSide> SIDES = new Keyed<>();
     private static final Keyed<Deque<Task>> JOBS = new Keyed<>();
     private static final Keyed<Shared> SHARED = new Keyed<>();
 
@@ -336,7 +339,7 @@ public final class Watched {
     }
 
     /** The same as if the program had called the JDK by itself. */
-    private static void strip(Throwable thrown) {
+    static void strip(Throwable thrown) {
         thrown.setStackTrace(
                 Arrays.stream(thrown.getStackTrace()).filter(frame -> !frame.getClassName().startsWith(FRAMES)).toArray(StackTraceElement[]::new));
     }
@@ -352,6 +355,7 @@ public final class Watched {
 
     public static void threadEnds(Thread thread) {
         if (Traced.isOn()) {
+            Trusting.end(Traced.own(), true);
             Traced.ends(thread);
         }
     }
@@ -497,6 +501,7 @@ public final class Watched {
 
     public static void jobEnds(Object executor) {
         if (Traced.isOn() && Traced.own().isInJob()) {
+            Trusting.end(Traced.own(), true);
             Traced.before(executor);
             Traced.own().endJob();
         }
@@ -504,13 +509,23 @@ public final class Watched {
 
     // Locks
 
-    private static TracedLock followed(Lock lock) {
-        return lock instanceof ReentrantLock ? LOCKS.of(lock, () -> new TracedLock(new ReentrantLock())) : null;
+    private static ReportingLock followed(Lock lock) {
+        if (lock instanceof ReentrantLock) {
+            return LOCKS.of(lock, () -> new TracedLock(new ReentrantLock()));
+        }
+        ReportingLock known = lock == null ? null : SIDES.known(lock);
+        Object whole = known == null ? Whole.of(lock) : null;
+        return whole == null ? known : SIDES.of(lock, () -> new FollowedSide(orderOf(whole), Whole.isOfWriters(lock)));
+    }
+
+    /** The order of a lock for readers and writers. */
+    static ReadWriteOrder orderOf(Object whole) {
+        return ORDERS.of(whole, ReadWriteOrder::new);
     }
 
     /** A thread that only tries has not waited for the lock. */
     private static boolean acquired(Lock lock, boolean isAcquired, boolean hasWaited) {
-        TracedLock followed = isAcquired ? followed(lock) : null;
+        ReportingLock followed = isAcquired ? followed(lock) : null;
         if (followed != null) {
             followed.acquired(hasWaited);
         }
@@ -557,7 +572,7 @@ public final class Watched {
 
     public static void unlock(Lock lock) {
         try {
-            TracedLock followed = followed(lock);
+            ReportingLock followed = followed(lock);
             if (followed != null) {
                 followed.releasing(false);
             }
@@ -571,7 +586,7 @@ public final class Watched {
     public static Condition newCondition(Lock lock) {
         try {
             Condition condition = lock.newCondition();
-            TracedLock followed = followed(lock);
+            ReportingLock followed = followed(lock);
             if (followed != null) {
                 followed.becomeGuard();
                 CONDITIONS.of(condition, () -> followed);
@@ -587,7 +602,7 @@ public final class Watched {
     }
 
     private static Runnable lend(Condition condition) {
-        TracedLock followed = condition == null ? null : CONDITIONS.known(condition);
+        ReportingLock followed = condition == null ? null : CONDITIONS.known(condition);
         Shared shared = condition == null || !Traced.isOn() ? null : SHARED.known(condition);
         if (shared != null) {
             shared.order();

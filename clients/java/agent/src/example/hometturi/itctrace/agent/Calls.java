@@ -33,6 +33,11 @@ final class Calls {
     private static final String LOCK = CONCURRENT + "locks/Lock";
     private static final String REENTRANT = CONCURRENT + "locks/ReentrantLock";
     private static final String CONDITION = CONCURRENT + "locks/Condition";
+    private static final String STAMPED = CONCURRENT + "locks/StampedLock";
+    /** Those whose calls are those of any lock. */
+    private static final Set<String> LOCKS =
+            Set.of(REENTRANT, CONCURRENT + "locks/ReentrantReadWriteLock$ReadLock", CONCURRENT + "locks/ReentrantReadWriteLock$WriteLock");
+    private static final String STAMPS = "example/hometturi/itctrace/Stamps";
 
     /** Calls in whose place stands another one, which takes the object first: by class, name and descriptor. */
     private static final Map<String, Set<String>> REPLACED =
@@ -52,6 +57,12 @@ final class Calls {
                             "await(JLjava/util/concurrent/TimeUnit;)Z",
                             "awaitNanos(J)J",
                             "awaitUntil(Ljava/util/Date;)Z"));
+
+    private static final Set<String> OF_STAMPS =
+            Set.of(
+                    "writeLock", "tryWriteLock", "writeLockInterruptibly", "readLock", "tryReadLock", "readLockInterruptibly",
+                    "tryOptimisticRead", "validate", "unlockWrite", "unlockRead", "unlock", "tryUnlockWrite", "tryUnlockRead",
+                    "tryConvertToWriteLock", "tryConvertToReadLock", "tryConvertToOptimisticRead");
 
     private static final Set<String> WAITS = Set.of("wait()V", "wait(J)V", "wait(JI)V");
     private static final Set<String> ATOMICS = new HashSet<>();
@@ -157,9 +168,12 @@ final class Calls {
             rewriteAtomic(call, owner);
         } else if (isOnObject && isConcurrent(owner)) {
             around(call, owner, line);
-            String kind = owner.equals(REENTRANT) ? LOCK : owner;
+            String kind = LOCKS.contains(owner) ? LOCK : owner;
             if (REPLACED.getOrDefault(kind, Set.of()).contains(named)) {
                 replace(call, call.name, "L" + kind + ";");
+            } else if (owner.equals(STAMPED) && OF_STAMPS.contains(call.name)) {
+                replace(call, call.name, "L" + STAMPED + ";");
+                call.owner = STAMPS;
             }
         } else if (call.getOpcode() == Opcodes.INVOKESPECIAL && owner.startsWith(CONCURRENT)) {
             pass(call, owner, call.name, line);

@@ -68,6 +68,10 @@ final class Holding {
         return holding == null ? null : holding.locks;
     }
 
+    static boolean isIn(Holding holding, String lock) {
+        return holding != null && (holding.isOf(lock) || isIn(holding.others, lock));
+    }
+
     /** The same without this lock. If it is lent for the time of a wait, no later one outlives it. */
     static Holding without(Holding holding, String lock, boolean isLent) {
         if (holding == null || holding.isOf(lock)) {

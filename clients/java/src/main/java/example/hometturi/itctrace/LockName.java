@@ -33,6 +33,11 @@ final class LockName {
         return name;
     }
 
+    /** Whether this thread holds it. */
+    boolean isHeldBy(Traced.Own own) {
+        return name != null && own.holds(name);
+    }
+
     /** Has its name be known. */
     void prepare() {
         name();

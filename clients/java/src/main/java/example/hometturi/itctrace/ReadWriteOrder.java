@@ -115,6 +115,31 @@ final class ReadWriteOrder {
         }
     }
 
+    /** This thread has read without holding it. Whoever writes next comes after that. */
+    void trusted() {
+        if (Traced.isOn()) {
+            if (!isNamed) {
+                nameIt();
+            }
+            release(Traced.own().task().here, false);
+        }
+    }
+
+    /** Does this as if this thread held it for reading. */
+    void held(Runnable body) {
+        if (!isNamed) {
+            nameIt();
+        }
+        Traced.Own own = Traced.own();
+        name.hold(own, Traced.site(), true, false);
+        body.run();
+        name.letGo(own, false);
+    }
+
+    boolean isHeld() {
+        return Traced.isOn() && name.isHeldBy(Traced.own());
+    }
+
     /** This thread is about to release it, or to lend it for the time of a wait. */
     void releasing(boolean isWriter, boolean isLent) {
         if (!Traced.isOn()) {

@@ -115,6 +115,13 @@ public final class Traced {
         /** What the agent keeps of what the thread has touched last. */
         Object recent;
 
+        /** What the agent keeps of what the thread reads on trust. Null if it does not. */
+        Object trusting;
+
+        boolean holds(String lock) {
+            return Holding.isIn(holding, lock);
+        }
+
         /** The classes that the task has come to after their initialization. */
         private final Set<Object> classes = Collections.newSetFromMap(new IdentityHashMap<>());
 
