@@ -334,11 +334,31 @@ def fields_of(one: Any) -> Any:
     return fields if type(fields) is dict else ()
 
 
+_NONE_THERE: Any = object()
+
+
+def _own_value(one: Any, name: str) -> Any:
+    """The value of the object's own attribute, if it has one.
+
+    It is found without the dictionary of the object, if that works: the interpreter would have to make one.
+    """
+    found = NotImplemented if quick is None else quick.own_value(one, name, _NONE_THERE)
+    if found is NotImplemented:
+        fields = fields_of(one)
+        found = fields[name] if name in fields else _NONE_THERE
+    return found
+
+
+def has_field(one: Any, name: str) -> bool:
+    """Whether the object itself has an attribute of this name."""
+    return _own_value(one, name) is not _NONE_THERE
+
+
 def value_of_field(one: Any, name: str) -> Any:
     """What stands in a field of the object, which may be a slot. None if nothing does."""
-    fields = fields_of(one)
-    if name in fields:
-        return fields[name]
+    found = _own_value(one, name)
+    if found is not _NONE_THERE:
+        return found
     owner = class_with(type(one), name)
     slot = None if owner is None else _vars_of(owner)[name]
     if type(slot) is not types.MemberDescriptorType:

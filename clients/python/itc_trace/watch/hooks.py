@@ -46,8 +46,8 @@ from .both_languages import (
 from .decisions import (
     AS_KEY, BY_ELEMENTS, BY_GETTER, COMPOSED, FIELD, FILES, OF_CLASS, OF_CLASS_ALONE, OF_LOCAL, OF_METHOD,
     OF_MODULE, OF_SUPER, OF_TYPE, OWN_FIELD, PLAIN, RESUMED, SKIP, STEPPED, VIEWS, WATCHED, class_with, decision,
-    family_of, field_inside, fields_of, forget_decisions, has_own_method, has_setter, has_watched_method, ids_of,
-    is_bound_by_code, is_made, is_of, is_of_library, is_other_container, is_watched_class, mro_of, name_of,
+    family_of, field_inside, fields_of, forget_decisions, has_field, has_own_method, has_setter, has_watched_method,
+    ids_of, is_bound_by_code, is_made, is_of, is_of_library, is_other_container, is_watched_class, mro_of, name_of,
     value_of_element, value_of_field, vars_of, without_own,
 )
 from .as_fields import FIELDS_OF, FieldsOf, keep_fields_of, object_of
@@ -242,7 +242,7 @@ def _touch_past_class(one: Any, name: str, kinds: str, site: int) -> None:
     kind = type(one)
     if id(kind) in PLAIN or issubclass(kind, (type, types.ModuleType)):
         _touch_field(one, site, Access("named", kinds, name, "", ""))
-    elif "w" in kinds or name in fields_of(one) or value_of_field(one, name) is not None:
+    elif "w" in kinds or has_field(one, name) or value_of_field(one, name) is not None:
         owner = class_with(kind, name)
         if owner is not None and WRITTEN_FIELD in kinds:
             _learn_stored(one, name, site)
@@ -290,12 +290,12 @@ def _touch_field(one: Any, site: int, access: Access | None = None) -> None:
             _touch_classes_of(one, access.name, mark, site)
     elif found == OF_CLASS_ALONE:
         _touch_classes_of(one, access.name, mark, site)
-    elif found == OF_CLASS and kinds == READ_ONLY and access.name not in fields_of(one):
+    elif found == OF_CLASS and kinds == READ_ONLY and not has_field(one, access.name):
         _touch_classes_of(one, access.name, mark, site)
         saw(owner_of(one, ""), mark, (field_late, mark, name_of(kind), access.name, READ_ONLY, site))
-    elif found != OWN_FIELD or access.name in fields_of(one):
+    elif found != OWN_FIELD or has_field(one, access.name):
         is_in_place = not is_named and kinds == "rw" and access.text != ""
-        if found == OF_CLASS and kinds == "rw" and access.name not in fields_of(one):
+        if found == OF_CLASS and kinds == "rw" and not has_field(one, access.name):
             _touch_default(class_with(kind, access.name), access.name, site)
         late = (field_late, mark, name_of(kind), access.name, kinds, site) if is_named else None
         saw(owner_of(one, ""), mark, late, found == FIELD and not is_in_place)

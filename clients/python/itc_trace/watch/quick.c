@@ -68,14 +68,17 @@ static inline void turn_to_followers(PyThreadState *thread, int was_followed)
         PyThreadState_LeaveTracing(thread);
 }
 
-static PyObject *text_note, *text_line, *text_leave, *text_constructor, *no_words;
+static PyObject *text_note, *text_line, *text_leave, *text_constructor, *text_dict, *no_words;
 
-/* What was seen of an owner in a stretch: a dictionary of marks. */
+/* What was seen of an owner in a stretch: a dictionary of marks. None of them is taken out. */
+
+#define FIELDS_KNOWN 8  /* A power of two. Two that come to the same slot displace each other. */
 
 typedef struct {
     PyDictObject marks;
     PyObject *stretch;
     uint64_t number;          /* No other one has it. */
+    uint32_t fields[FIELDS_KNOWN];  /* Some of the marks: places of fields, by their numbers from 1 on. */
 } Seen;
 
 static uint64_t number_of_seen;
@@ -756,9 +759,16 @@ typedef struct {
 
 static Decision decisions[MOST_DECISIONS];
 
-static inline size_t slot_of_decision(PyTypeObject *type, long site)
+/* The lowest digit of a number: all of it, for the number of a place. */
+#if PY_VERSION_HEX >= 0x030C0000
+#define LOWEST_DIGIT(number) (((PyLongObject *)(number))->long_value.ob_digit[0])
+#else
+#define LOWEST_DIGIT(number) (((PyLongObject *)(number))->ob_digit[0])
+#endif
+
+static inline size_t slot_of_decision(PyTypeObject *type, PyObject *site)
 {
-    uint64_t mixed = ((uintptr_t)type >> 4) * 0x9E3779B97F4A7C15u + (uint64_t)site * 0xC2B2AE3D27D4EB4Fu;
+    uint64_t mixed = ((uintptr_t)type >> 4) * 0x9E3779B97F4A7C15u + LOWEST_DIGIT(site) * 0xC2B2AE3D27D4EB4Fu;
     return (size_t)(mixed >> 40) & (MOST_DECISIONS - 1);
 }
 
@@ -811,11 +821,20 @@ static inline int is_same_number(PyObject *one, PyObject *other)
 
 static inline Decision *decision_of(PyTypeObject *type, PyObject *site, const char *hook)
 {
-    Decision *known = &decisions[slot_of_decision(type, PyLong_AsLong(site))];
+    Decision *known = &decisions[slot_of_decision(type, site)];
     if (known->type == type && known->version == type->tp_version_tag && known->version != 0
         && HAS_VERSION(type) && is_same_number(known->site, site))
         return known;
     return decide(type, site, known, hook);
+}
+
+/* Where it is kept that a field was touched at this place. The number of the place has one digit. */
+
+#define NUMBER_OF_FIELD(site) (LOWEST_DIGIT(site) + 1)
+
+static inline uint32_t *slot_of_field(Seen *seen, PyObject *site)
+{
+    return &seen->fields[LOWEST_DIGIT(site) & (FIELDS_KNOWN - 1)];
 }
 
 /* Whether the last touch of this place, by the same key, is this one once more. */
@@ -832,6 +851,8 @@ static inline int is_seen_at(Owner *owner, Decision *decision, PyObject *mark, P
     PyObject *site = decision->site;
     if (!is_seen(owner, mark))
         return 0;
+    if (mark == site && PyLong_CheckExact(site) && PyLong_AsLong(site) == (long)LOWEST_DIGIT(site))
+        *slot_of_field((Seen *)owner->seen, site) = NUMBER_OF_FIELD(site);
     if (decision->type == type && decision->site == site) {  /* Else a look at other marks has had it decided anew. */
         decision->seen = ((Seen *)owner->seen)->number;
         Py_XSETREF(decision->key, Py_XNewRef(key));
@@ -850,6 +871,27 @@ static int has_own(PyObject *one, PyObject *field)
     Py_XDECREF(found);
     PyErr_Clear();
     return is_own;
+}
+
+/* What an object itself has by a name, or something else if it has none. Whoever asks for the dictionary of an object
+   has the interpreter make one: from then on its attributes are found more slowly. What is not plain is left to
+   Python. */
+static PyObject *own_value(PyObject *self, PyObject *const *words, Py_ssize_t count)
+{
+    if (count != 3)
+        return PyErr_Format(PyExc_TypeError, "an object, a name and what stands for none are wanted");
+    PyObject *one = words[0], *name = words[1], *of_dictionary = _PyType_Lookup(Py_TYPE(one), text_dict);
+    PyObject *of_class = PyUnicode_CheckExact(name) ? _PyType_Lookup(Py_TYPE(one), name) : NULL;
+    if (!PyUnicode_CheckExact(name) || !PyType_HasFeature(Py_TYPE(one), Py_TPFLAGS_MANAGED_DICT)
+        || of_dictionary == NULL || Py_TYPE(of_dictionary) != &PyGetSetDescr_Type
+        || (of_class != NULL && Py_TYPE(of_class)->tp_descr_get != NULL))
+        Py_RETURN_NOTIMPLEMENTED;
+    PyObject *found = _PyObject_GenericGetAttrWithDict(one, name, NULL, 1);
+    if (found == NULL)
+        return PyErr_Occurred() ? NULL : Py_NewRef(words[2]);
+    if (found == of_class)
+        Py_SETREF(found, Py_NewRef(Py_NotImplemented));
+    return found;
 }
 
 /* Keeping touches. */
@@ -1211,6 +1253,62 @@ static PyObject *touch_keyed(PyObject *one, PyObject *key, PyObject *site, Py_ss
     return end_hook(back, result);
 }
 
+/* What most hooks come to: nothing is touched, or what was touched just now in this stretch. It is told without any
+   call, and if it is not plain, the rest of the hook finds out. */
+
+static inline int is_plain_value(PyObject *one)
+{
+    return PyLong_CheckExact(one) || PyFloat_CheckExact(one) || PyUnicode_CheckExact(one) || one == Py_None
+        || PyBool_Check(one);
+}
+
+static inline Decision *known_decision(PyTypeObject *type, PyObject *site)
+{
+    Decision *known = &decisions[slot_of_decision(type, site)];
+    return known->type == type && known->site == site && known->version == type->tp_version_tag && known->version != 0
+        && HAS_VERSION(type) ? known : NULL;
+}
+
+static inline int is_of_now(Seen *seen)
+{
+    return ((PyDictObject *)given.stretches)->ma_version_tag == now.version && seen->stretch == now.stretch
+        && PyThreadState_Get()->id == now.thread;
+}
+
+static inline int is_plain_field(PyObject *one, PyObject *site)
+{
+    Decision *known = known_decision(Py_TYPE(one), site);
+    if (known == NULL || known->what == NO_TOUCH)
+        return known != NULL;
+    Owner *owner = find_owner(one);
+    Seen *seen = owner == NULL || owner->reference == NULL ? NULL : (Seen *)owner->seen;
+    return seen != NULL && *slot_of_field(seen, site) == NUMBER_OF_FIELD(site) && is_of_now(seen);
+}
+
+static inline int is_plain_whole(PyObject *one, PyObject *site)
+{
+    if (is_plain_value(one))
+        return 1;
+    Decision *known = known_decision(Py_TYPE(one), site);
+    return known != NULL && known->what == NO_TOUCH;
+}
+
+static inline int is_plain_method(PyObject *one, PyObject *site)
+{
+    Decision *known = known_decision(Py_TYPE(one), site);
+    return known != NULL && known->what == NO_TOUCH;
+}
+
+static inline int is_plain_key(PyObject *one, PyObject *key, PyObject *site)
+{
+    Decision *known = known_decision(Py_TYPE(one), site);
+    if (known == NULL || known->what == NO_TOUCH)
+        return known != NULL;
+    Owner *owner = known->what == OF_DICT || known->what == OF_LIST ? find_owner(one) : NULL;
+    Seen *seen = owner == NULL || PyDict_GET_SIZE(given.fields_of) > 0 ? NULL : (Seen *)owner->seen;
+    return seen != NULL && seen->number == known->seen && known->seen != 0 && known->key == key && is_of_now(seen);
+}
+
 #define WORDS(wanted)                                                                  \
     if (count != (wanted)) {                                                           \
         PyErr_SetString(PyExc_TypeError, "a hook was given too many or too few words"); \
@@ -1227,10 +1325,15 @@ static PyObject *touch_keyed(PyObject *one, PyObject *key, PyObject *site, Py_ss
 #define GIVE_ROOM(thread, more) ((thread)->recursion_remaining += (more))
 #endif
 
-#define HOOK(name, wanted, result)                                                               \
+#define HOOK(name, wanted, result) HOOK_UNLESS(name, wanted, 0, Py_None, result)
+
+/* A hook that gives something back at once if that is plain. */
+#define HOOK_UNLESS(name, wanted, is_plain, at_once, result)                                     \
     static PyObject *hook_##name(PyObject *self, PyObject *const *words, Py_ssize_t count)        \
     {                                                                                             \
         WORDS(wanted)                                                                             \
+        if (is_plain)                                                                             \
+            return Py_NewRef(at_once);                                                            \
         PyThreadState *thread = PyThreadState_Get();                                              \
         int is_followed = turn_from_followers(thread);                                            \
         GIVE_ROOM(thread, ROOM);                                                                  \
@@ -1247,19 +1350,25 @@ static PyObject *touch_keyed(PyObject *one, PyObject *key, PyObject *site, Py_ss
         return result;                                                                            \
     }
 
-HOOK(before_attribute, 2, touch_field(words[0], words[1], ANYBODY, "before_attribute"))
-HOOK(before_attribute_local, 2, touch_field(words[0], words[1], OF_VARIABLE, "before_attribute"))
-HOOK(before_whole, 2, touch_whole(words[0], words[1], OF_TEMPORARY))
-HOOK(before_whole_local, 2, touch_whole(words[0], words[1], OF_VARIABLE))
-HOOK(before_method, 2, touch_method(words[0], words[1], OF_TEMPORARY))
-HOOK(before_method_local, 2, touch_method(words[0], words[1], OF_VARIABLE))
+#define HOOK_OF_TWO(name, kind, result) HOOK_UNLESS(name, 2, is_plain_##kind(words[0], words[1]), words[0], result)
+#define HOOK_OF_KEY(name, back, limit)                                    \
+    HOOK_UNLESS(                                                           \
+        name, 3, is_plain_key(words[0], words[1], words[2]), words[back], \
+        touch_keyed(words[0], words[1], words[2], limit, words[back]))
+
+HOOK_OF_TWO(before_attribute, field, touch_field(words[0], words[1], ANYBODY, "before_attribute"))
+HOOK_OF_TWO(before_attribute_local, field, touch_field(words[0], words[1], OF_VARIABLE, "before_attribute"))
+HOOK_OF_TWO(before_whole, whole, touch_whole(words[0], words[1], OF_TEMPORARY))
+HOOK_OF_TWO(before_whole_local, whole, touch_whole(words[0], words[1], OF_VARIABLE))
+HOOK_OF_TWO(before_method, method, touch_method(words[0], words[1], OF_TEMPORARY))
+HOOK_OF_TWO(before_method_local, method, touch_method(words[0], words[1], OF_VARIABLE))
 HOOK(before_loop, 2, touch_steps(words[0], words[1], OF_TEMPORARY))
 HOOK(before_loop_local, 2, touch_steps(words[0], words[1], OF_VARIABLE))
-HOOK(before_element, 3, touch_keyed(words[0], words[1], words[2], OF_TEMPORARY, words[0]))
-HOOK(before_element_local, 3, touch_keyed(words[0], words[1], words[2], OF_VARIABLE, words[0]))
-HOOK(before_key, 3, touch_keyed(words[0], words[1], words[2], ANYBODY, words[1]))
-HOOK(before_key_local, 3, touch_keyed(words[0], words[1], words[2], OF_VARIABLE_IN_USE, words[1]))
-HOOK(before_kept_key, 3, touch_keyed(words[0], words[1], words[2], OF_VARIABLE, words[1]))
+HOOK_OF_KEY(before_element, 0, OF_TEMPORARY)
+HOOK_OF_KEY(before_element_local, 0, OF_VARIABLE)
+HOOK_OF_KEY(before_key, 1, ANYBODY)
+HOOK_OF_KEY(before_key_local, 1, OF_VARIABLE_IN_USE)
+HOOK_OF_KEY(before_kept_key, 1, OF_VARIABLE)
 QUIET_HOOK(first, Py_MAX(count, 1), Py_NewRef(words[0]))
 QUIET_HOOK(second, Py_MAX(count, 2), Py_NewRef(words[1]))
 QUIET_HOOK(none, count, Py_NewRef(Py_None))
@@ -2532,7 +2641,8 @@ static PyMethodDef methods[] = {
     FAST("hook_at_constructor", hook_at_constructor),
     {"hook_after_letting_go", hook_after_letting_go, METH_NOARGS, NULL}, FAST("hook_after_binding", hook_first),
     FAST("first", hook_first), FAST("second", hook_second), FAST("nothing", hook_none), FAST("references", references),
-    FAST("owner_of", owner_of), FAST("name_at", name_at), FAST("call_of", call_of), FAST("chosen", chosen),
+    FAST("owner_of", owner_of), FAST("own_value", own_value), FAST("name_at", name_at), FAST("call_of", call_of),
+    FAST("chosen", chosen),
     FAST("as_statement", as_statement), {"copied", copied, METH_O, NULL},
     FAST("call_with_quick_nodes", call_with_quick_nodes),
     {"setup", (PyCFunction)(void (*)(void))setup, METH_VARARGS | METH_KEYWORDS, NULL},
@@ -2557,12 +2667,14 @@ static int fill_module(PyObject *made)
     text_line = PyUnicode_InternFromString("line");
     text_leave = PyUnicode_InternFromString("leave");
     text_constructor = PyUnicode_InternFromString("__init__");
+    text_dict = PyUnicode_InternFromString("__dict__");
     text_running = PyUnicode_InternFromString("running");
     text_task_of = PyUnicode_InternFromString("task_of");
     text_left_task = PyUnicode_InternFromString("left_task");
     text_itc_line = PyUnicode_InternFromString("_itc_line");
     no_words = PyTuple_New(0);
-    if (text_note == NULL || text_line == NULL || text_leave == NULL || text_constructor == NULL || no_words == NULL
+    if (text_note == NULL || text_line == NULL || text_leave == NULL || text_constructor == NULL || text_dict == NULL
+        || no_words == NULL
         || text_running == NULL || text_task_of == NULL || text_left_task == NULL || text_itc_line == NULL)
         return -1;
     if (set_forms() < 0)
