@@ -20,7 +20,8 @@ INTERNAL_MODULES = frozenset(
 TRACED_LIBRARIES = frozenset({"trio", "gevent", "twisted"})
 """Other libraries whose promises are traced as a whole. They may be watched, too."""
 
-_internal_names: dict[Any, bool] = {}
+INTERNAL_NAMES: dict[Any, bool] = {}
+"""Whether a module is one of these, of those that were asked for."""
 
 
 def frame_at(depth: int) -> FrameType | None:
@@ -39,9 +40,9 @@ def is_internal(frame: FrameType | None) -> bool:
     if frame is None:
         return False
     name = frame.f_globals.get("__name__")
-    known = _internal_names.get(name)
+    known = INTERNAL_NAMES.get(name)
     if known is None:
-        known = _internal_names[name] = isinstance(name, str) and (
+        known = INTERNAL_NAMES[name] = isinstance(name, str) and (
             name.partition(".")[0] in INTERNAL | TRACED_LIBRARIES or name in INTERNAL_MODULES
         )
     return known
@@ -50,7 +51,7 @@ def is_internal(frame: FrameType | None) -> bool:
 def place(frame: FrameType | None) -> tuple[CodeType | None, int]:
     """Where the program itself stands: the innermost frame that is not internal."""
     while frame is not None:
-        is_known = _internal_names.get(frame.f_globals.get("__name__"))
+        is_known = INTERNAL_NAMES.get(frame.f_globals.get("__name__"))
         if not (is_internal(frame) if is_known is None else is_known):
             return frame.f_code, frame.f_lasti
         frame = frame.f_back

@@ -56,11 +56,13 @@ class Items:
     a later one is before that one.
     """
 
-    __slots__ = ("_identity", "_known")
+    __slots__ = ("_identity", "_known", "free_in")
 
     def __init__(self, maker: FrameType | None) -> None:
         self._identity = LockIdentity(QUEUE, maker)
         self._known: set[tuple[object, ...]] = set()
+        self.free_in = 0
+        """The block of tracing in which somebody has put an item without a lock: nothing more is to be noted in it."""
 
     def _begin(self) -> None:
         if self._identity.block != state.block:
@@ -91,6 +93,7 @@ class Items:
         """No lock is needed for that the wait ends."""
         self._begin()
         self._identity.become_signal()
+        self.free_in = state.block
         self._known.clear()
         note_signal(self._identity)
 

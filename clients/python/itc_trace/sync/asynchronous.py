@@ -917,6 +917,8 @@ def _barrier_wait(original: Any) -> Any:
 
 def _put_queues(patches: Patches) -> None:
     queue = queues_module.Queue
+    patches.put(queue, "_itc_items", None)
+    patches.put(queue, "_itc_room", None)
     patches.wrap(queue, "put_nowait", _put_nowait)
     patches.wrap(queue, "get_nowait", _get_nowait)
     patches.wrap(queue, "task_done", _task_done)
@@ -945,7 +947,7 @@ def _get_nowait(original: Any) -> Any:
     def get_nowait(self: Any) -> Any:
         room = room_of(self, self.qsize()) if is_followed(self) and has_few_places(self) else None
         item = original(self)
-        items = self.__dict__.get("_itc_items")
+        items = self._itc_items
         if items is not None:
             take(items.remove(item))
         if room is not None:

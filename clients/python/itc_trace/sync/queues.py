@@ -12,10 +12,10 @@ from collections.abc import Callable, Iterable
 from types import FrameType, FunctionType
 from typing import Any
 
-from ..model.lines import DONE_ITEM, QUEUE, ROOM, Token, state
+from ..model.lines import DONE_ITEM, QUEUE, ROOM, Token, What, state
 from ..record.nesting import Items as ItemsUnderLocks
 from ..record.noting import mark, take
-from ..model.frames import frame_at, is_internal
+from ..model.frames import INTERNAL_NAMES, frame_at, is_internal
 from .base import Patches, name_as
 from .locks import TracedLock, are_quiet, gave, took, traced_lock
 
@@ -50,6 +50,8 @@ def put(patches: Patches) -> None:
     if hasattr(queue.Queue, "shutdown"):
         patches.wrap(queue.Queue, "shutdown", _shutdown)
     patches.replace(queue, "SimpleQueue", TracedSimpleQueue)
+    for name in ("_itc_items", "_itc_room", "_itc_waits"):
+        patches.put(queue.Queue, name, None)
 
 
 def _begin(original: Any) -> Any:
@@ -165,6 +167,8 @@ class Items:
     A thing that lies there several times has several.
     """
 
+    __slots__ = ("_tokens", "_is_stack")
+
     def __init__(self, is_stack: bool, there: Iterable[object]) -> None:
         """What lies there already was put while nothing was traced."""
         self._tokens: dict[int, Token | deque[Token | None] | None] = {}
@@ -189,12 +193,12 @@ class Items:
         """The token of an item that has been taken out. If one thing lies there twice, the queue's order decides."""
         number = id(item)
         with _guard:
-            tokens = self._tokens.pop(number, None)
+            tokens = self._tokens.get(number)
             if not isinstance(tokens, deque):
-                return tokens
+                return self._tokens.pop(number, None)  # type: ignore[return-value]
             token = tokens.pop() if self._is_stack or from_end else tokens.popleft()
-            if tokens:
-                self._tokens[number] = tokens
+            if not tokens:
+                del self._tokens[number]
             return token
 
     def last(self) -> list[Token | None]:
@@ -237,9 +241,9 @@ def add_stack(kind: type) -> None:
 
 
 def items_of(one: Any) -> Items:
-    items: Items | None = one.__dict__.get("_itc_items")
+    items: Items | None = one._itc_items
     if items is None:
-        items = one.__dict__.setdefault("_itc_items", Items(isinstance(one, _stacks), _lying_in(one)))
+        items = one._itc_items = Items(isinstance(one, _stacks), _lying_in(one))
     return items
 
 
@@ -251,7 +255,7 @@ def _lying_in(one: Any) -> list[object]:
 
 def is_followed(one: Any) -> bool:
     """Whether what goes through the queue is noted, or was: what comes and goes meanwhile is no item of then."""
-    return state.note is not None or "_itc_items" in one.__dict__ or "_itc_room" in one.__dict__
+    return state.note is not None or one._itc_items is not None or one._itc_room is not None
 
 
 class Room:
@@ -274,9 +278,9 @@ def has_few_places(one: Any) -> bool:
 
 def room_of(one: Any, size: int) -> Room:
     """The room of a bounded queue in which so many items lie."""
-    room: Room | None = one.__dict__.get("_itc_room")
+    room: Room | None = one._itc_room
     if room is None:
-        room = one.__dict__.setdefault("_itc_room", Room(max(0, math.ceil(one.maxsize) - size)))
+        room = one._itc_room = Room(max(0, math.ceil(one.maxsize) - size))
     return room
 
 
@@ -287,10 +291,10 @@ def _put_item(one: Any, item: Any, put: Any) -> None:
     """
     if 0 < one.maxsize <= MOST_PLACES:
         room_of(one, one._qsize()).use()
-    waits = one.__dict__.get("_itc_waits")
+    waits = one._itc_waits
     if waits is not None and state.note is not None:
         waits.put(frame_at(2))
-    items = one.__dict__.get("_itc_items") or items_of(one)
+    items = items_of(one)
     items.add(item, mark(QUEUE, 3))
     try:
         put(one, item)
@@ -299,22 +303,48 @@ def _put_item(one: Any, item: Any, put: Any) -> None:
         raise
 
 
-def _get_item(one: Any, get: Any) -> Any:
-    """The library takes an item out, while nobody else has the queue."""
-    room = room_of(one, one._qsize()) if 0 < one.maxsize <= MOST_PLACES else None
-    item = get(one)
-    items = one.__dict__.get("_itc_items")
+def _got_item(one: Any, item: Any) -> None:
+    """The library has taken the item out, and nobody else has the queue yet."""
+    room = room_of(one, one._qsize() + 1) if 0 < one.maxsize <= MOST_PLACES else None
+    items = one._itc_items
     token = None if items is None else items.remove(item)
     if token is not None:
         take(token, 3)
     if room is not None:
         room.make()
-    return item
+
+
+def _nothing_by_c(*_: Any) -> Any:
+    """Without the helper in C all is noted in Python."""
+    return None
+
+
+_note_put: Callable[[Any, Any], bool | None] = _nothing_by_c
+_note_got: Callable[[Any, Any], bool | Token | None] = _nothing_by_c
+"""They note what most items come to, and give whether that is done. Of one that was taken out they may give the token
+that is still to be taken."""
+_again: Callable[[What], Token | None] = _nothing_by_c
+"""The token of the same place, if the task has done nothing since."""
+_is_taken: Callable[[Token], bool | None] = _nothing_by_c
+"""Whether the current task comes after the token already."""
+
+
+def be_quick(quick: Any) -> None:
+    """From here on most items are noted in C."""
+    global _note_put, _note_got, _again, _is_taken
+    quick.know_queues(items=Items, what=QUEUE, own_steps=_own_steps, internal=INTERNAL_NAMES, most_places=MOST_PLACES)
+    _note_put, _note_got, _again, _is_taken = quick.note_put, quick.note_got, quick.again, quick.is_taken
 
 
 def _put_inside(original: Any) -> Any:
     def _put(self: Any, item: Any) -> None:
-        if type(self)._put not in _own_steps or not is_followed(self):
+        if _note_put(self, item):
+            try:
+                original(self, item)
+            except BaseException:
+                self._itc_items.remove(item, from_end=True)
+                raise
+        elif type(self)._put not in _own_steps or not is_followed(self):
             original(self, item)
         else:
             _put_item(self, item, original)
@@ -324,9 +354,15 @@ def _put_inside(original: Any) -> Any:
 
 def _get_inside(original: Any) -> Any:
     def _get(self: Any) -> Any:
-        if type(self)._get not in _own_steps or not is_followed(self):
-            return original(self)
-        return _get_item(self, original)
+        item = original(self)
+        noted = _note_got(self, item)
+        if noted is True:
+            return item
+        if noted:
+            take(noted)
+        elif type(self)._get in _own_steps and is_followed(self):
+            _got_item(self, item)
+        return item
 
     return _get
 
@@ -349,15 +385,13 @@ class _Seen:
         _put_item(self._itc_queue, item, _put_by_program)
 
     def _get(self) -> Any:
-        return _get_item(self._itc_queue, _get_by_program)
+        item = self._itc_queue._get()
+        _got_item(self._itc_queue, item)
+        return item
 
 
 def _put_by_program(one: Any, item: Any) -> None:
     one._put(item)
-
-
-def _get_by_program(one: Any) -> Any:
-    return one._get()
 
 
 def _put(original: Any) -> Any:
@@ -370,10 +404,9 @@ def _put(original: Any) -> Any:
 
 def _get(original: Any) -> Any:
     def get(self: Any, block: bool = True, timeout: float | None = None) -> Any:
-        if block and timeout is None and state.note is not None:
-            waits = self.__dict__.get("_itc_waits")
-            if waits is not None:
-                waits.wait(frame_at(1))
+        waits = self._itc_waits
+        if waits is not None and waits.free_in != state.block and block and timeout is None and state.note is not None:
+            waits.wait(frame_at(1))
         is_own = type(self)._get in _own_steps or not is_followed(self)
         return original(self if is_own else _Seen(self), block, timeout)
 
@@ -384,9 +417,8 @@ def _shutdown(original: Any) -> Any:
     """Whoever ends a queue ends all waits for its items."""
 
     def shutdown(self: Any, immediate: bool = False) -> Any:
-        waits = self.__dict__.get("_itc_waits")
-        if waits is not None:
-            waits.become_free()
+        if self._itc_waits is not None:
+            self._itc_waits.become_free()
         return original(self, immediate)
 
     return shutdown
@@ -462,15 +494,16 @@ class TracedSimpleQueue(_PlainSimpleQueue):  # type: ignore[misc]
     def _mark(self) -> Token | None:
         if state.note is None:
             return None
-        self._itc_waits.put(frame_at(2))
-        return mark(QUEUE, 3)
+        if self._itc_waits.free_in != state.block:
+            self._itc_waits.put(frame_at(2))
+        return _again(QUEUE) or mark(QUEUE, 3)
 
     def put(self, item: Any, block: bool = True, timeout: float | None = None) -> None:
         token = self._mark()
         _PlainSimpleQueue.put(self, item if token is None else _Box(item, token), block, timeout)
 
     def get(self, block: bool = True, timeout: float | None = None) -> Any:
-        if block and timeout is None and state.note is not None:
+        if self._itc_waits.free_in != state.block and block and timeout is None and state.note is not None:
             self._itc_waits.wait(frame_at(1))
         return _opened(_PlainSimpleQueue.get(self, block, timeout))
 
@@ -492,6 +525,7 @@ name_as(TracedSimpleQueue, "SimpleQueue", "queue")
 
 def _opened(item: Any) -> Any:
     if type(item) is _Box:
-        take(item.token, 3)
+        if not _is_taken(item.token):
+            take(item.token, 3)
         return item.item
     return item

@@ -2247,6 +2247,171 @@ static PyObject *with_words(PyObject *python, PyObject *self, PyObject *words, P
 LOCK_METHODS(lock, 1)
 LOCK_METHODS(rlock, Py_TYPE(self) == of_locks.rlock)  /* Another class may release it in its own way. */
 
+/* Queues of the library, as queues.py notes their items. What is done here is what most turns of a loop come to: a task
+   puts several items without anything in between, and one that has come after it once gets them. All else is left to
+   Python. */
+
+static struct {
+    PyTypeObject *items;      /* What is kept of the items that lie in a queue. */
+    PyObject *what;           /* What the token of an item stands for. */
+    PyObject *own_steps;      /* The methods by which the queues of the library put and get. */
+    PyObject *internal;       /* Whether a module is the library's own, by its name. */
+    long most_places;
+} of_queues;
+
+static Py_ssize_t tokens_of_items, line_of_token, code_of_token, instruction_of_token, taker_of_token, number_of_line;
+static PyObject *text_put_step, *text_get_step, *text_size, *text_items, *text_waits, *text_is_free, *text_name;
+
+/* Whether this is the frame where the program itself stands: 1 or 0, and -1 if that is not known. */
+static int is_of_program(PyFrameObject *frame)
+{
+    PyObject *globals = PyFrame_GetGlobals(frame), *name = PyDict_GetItemWithError(globals, text_name);
+    PyObject *internal = name == NULL || !PyUnicode_CheckExact(name)
+        ? NULL : PyDict_GetItemWithError(of_queues.internal, name);
+    Py_DECREF(globals);
+    PyErr_Clear();
+    return internal == NULL ? -1 : internal == Py_False;
+}
+
+/* Whether the program stands where the token was noted. */
+static int is_at_place_of(PyObject *token)
+{
+    PyFrameObject *frame = PyThreadState_GetFrame(PyThreadState_Get());
+    int is_found = 0;
+    while (frame != NULL && (is_found = is_of_program(frame)) == 0)
+        frame = back_of(frame);
+    if (frame == NULL)
+        return 0;
+    PyCodeObject *code = PyFrame_GetCode(frame);
+    int is_there = is_found > 0 && (PyObject *)code == FIELD(token, code_of_token)
+        && PyFrame_GetLasti(frame) == PyLong_AsLong(FIELD(token, instruction_of_token));
+    Py_DECREF(code);
+    Py_DECREF(frame);
+    return is_there;
+}
+
+/* The token of the same place, if the task has done nothing since: a new reference. Nothing if another one is due. */
+static PyObject *token_again(PyObject *what)
+{
+    PyObject *line, *found = NULL;
+    if (look_for_line(&line) < 0 || line == NULL)
+        return NULL;
+    PyObject *section = FIELD(line, section_of_line);
+    if (section != NULL && Py_TYPE(section) == of_locks.section) {
+        PyObject *token = FIELD(section, token_of_section);
+        if (Py_TYPE(token) == of_locks.token && FIELD(token, what_of_token) == what)
+            found = Py_NewRef(token);
+    }
+    if (found != NULL && !is_at_place_of(found))
+        Py_CLEAR(found);
+    Py_DECREF(line);
+    return found;
+}
+
+/* Whether whoever takes the token comes after its place already, as its own task, or as the last one that took it. */
+static int is_known(PyObject *token)
+{
+    PyObject *line, *of_token = FIELD(token, line_of_token);
+    if (FIELD(of_token, tracer_of_line) != FIELD(given.state, in_state.tracer))
+        return 1;
+    if (look_for_line(&line) < 0 || line == NULL)
+        return 0;
+    int result = line == of_token || is_same_number(FIELD(token, taker_of_token), FIELD(line, number_of_line));
+    Py_DECREF(line);
+    return result;
+}
+
+/* Whether it is a queue as the library has it, with this step, of which no places are counted. */
+static int is_plain_queue(PyObject *queue, PyObject *step)
+{
+    PyTypeObject *type = Py_TYPE(queue);
+    PyObject *own = _PyType_Lookup(type, step);
+    if (FIELD(given.state, in_state.note) == Py_None || own == NULL || !PyFunction_Check(own)
+        || PySet_Contains(of_queues.own_steps, own) <= 0 || type->tp_getattro != PyObject_GenericGetAttr
+        || _PyType_Lookup(type, text_size) != NULL)
+        return 0;
+    PyObject *size = PyObject_GetAttr(queue, text_size);
+    int is_plain = size != NULL && PyLong_CheckExact(size);
+    if (is_plain) {
+        long places = PyLong_AsLong(size);
+        is_plain = places <= 0 || places > of_queues.most_places;
+    }
+    Py_XDECREF(size);
+    return is_plain && !PyErr_Occurred();
+}
+
+/* The tokens of what lies in the queue, by the identity of the items. A new reference, or nothing. */
+static PyObject *tokens_in(PyObject *queue)
+{
+    PyObject *items = PyObject_GetAttr(queue, text_items), *tokens = NULL;
+    if (items != NULL && Py_TYPE(items) == of_queues.items) {
+        tokens = FIELD(items, tokens_of_items);
+        if (tokens != NULL)
+            tokens = PyDict_CheckExact(tokens) ? Py_NewRef(tokens) : NULL;
+    }
+    Py_XDECREF(items);
+    return tokens;
+}
+
+/* Whether nobody who waits for its items needs a lock that others hold who put some. */
+static int is_free_of_locks(PyObject *queue)
+{
+    PyObject *waits = PyObject_GetAttr(queue, text_waits);
+    PyObject *block = waits == NULL || waits == Py_None ? NULL : PyObject_GetAttr(waits, text_is_free);
+    int is_free = waits == Py_None || (block != NULL && is_same_number(block, FIELD(given.state, in_state.block)));
+    Py_XDECREF(block);
+    Py_XDECREF(waits);
+    return is_free;
+}
+
+static int add_token(PyObject *tokens, PyObject *item)
+{
+    PyObject *number = PyLong_FromVoidPtr(item), *token = NULL;
+    int is_added = number != NULL && PyDict_Contains(tokens, number) == 0
+        && (token = token_again(of_queues.what)) != NULL && PyDict_SetItem(tokens, number, token) == 0;
+    Py_XDECREF(number);
+    Py_XDECREF(token);
+    return is_added;
+}
+
+/* Notes an item that is about to be put. It gives whether that is done. */
+static PyObject *note_put(PyObject *self, PyObject *const *words, Py_ssize_t count)
+{
+    WORDS(2)
+    int is_plain = is_plain_queue(words[0], text_put_step) && is_free_of_locks(words[0]);
+    PyObject *tokens = is_plain ? tokens_in(words[0]) : NULL;
+    int is_noted = tokens != NULL && add_token(tokens, words[1]);
+    Py_XDECREF(tokens);
+    PyErr_Clear();  /* What is not done here is done in Python. */
+    return PyBool_FromLong(is_noted);
+}
+
+/* The token of an item, which is taken out. If the item lies there twice, the queue's order decides: that is not told
+   here, and nothing is given. */
+static PyObject *remove_token(PyObject *tokens, PyObject *item)
+{
+    PyObject *number = PyLong_FromVoidPtr(item);
+    PyObject *token = number == NULL ? NULL : PyDict_GetItemWithError(tokens, number);
+    token = token != NULL && Py_TYPE(token) == of_locks.token ? Py_NewRef(token) : NULL;
+    if (token != NULL && PyDict_DelItem(tokens, number) < 0)
+        Py_CLEAR(token);
+    Py_XDECREF(number);
+    return token;
+}
+
+/* Notes an item that was taken out. It gives whether that is done, or the token that is to be taken yet. */
+static PyObject *note_got(PyObject *self, PyObject *const *words, Py_ssize_t count)
+{
+    WORDS(2)
+    PyObject *tokens = is_plain_queue(words[0], text_get_step) ? tokens_in(words[0]) : NULL;
+    PyObject *token = tokens == NULL ? NULL : remove_token(tokens, words[1]);
+    Py_XDECREF(tokens);
+    if (token != NULL && is_known(token))
+        Py_SETREF(token, Py_NewRef(Py_True));
+    PyErr_Clear();
+    return token != NULL ? token : Py_NewRef(Py_False);
+}
+
 /* Where the fields of an object stand that has a slot for each. */
 typedef struct {
     PyTypeObject **type;
@@ -2254,7 +2419,25 @@ typedef struct {
     Py_ssize_t *place;
 } Slot;
 
-static int find_slots(void)
+static int find_slots(const Slot *slots_of_types, size_t count)
+{
+    for (size_t number = 0; number < count; number++) {
+        const Slot *slot = &slots_of_types[number];
+        PyObject *found = PyObject_GetAttrString((PyObject *)*slot->type, slot->name);
+        if (found == NULL)
+            return -1;
+        if (Py_TYPE(found) != &PyMemberDescr_Type || ((PyMemberDescrObject *)found)->d_member->type != T_OBJECT_EX) {
+            PyErr_Format(PyExc_TypeError, "%s has no slot", slot->name);
+            Py_DECREF(found);
+            return -1;
+        }
+        *slot->place = ((PyMemberDescrObject *)found)->d_member->offset;
+        Py_DECREF(found);
+    }
+    return 0;
+}
+
+static int find_slots_of_locks(void)
 {
     PyTypeObject *type_of_state = Py_TYPE(given.state);
     const Slot slots_of_locks[] = {
@@ -2274,20 +2457,7 @@ static int find_slots(void)
         {&type_of_state, "note", &in_state.note}, {&type_of_state, "tracer", &in_state.tracer},
         {&type_of_state, "block", &in_state.block},
     };
-    for (size_t number = 0; number < sizeof slots_of_locks / sizeof *slots_of_locks; number++) {
-        const Slot *slot = &slots_of_locks[number];
-        PyObject *found = PyObject_GetAttrString((PyObject *)*slot->type, slot->name);
-        if (found == NULL)
-            return -1;
-        if (Py_TYPE(found) != &PyMemberDescr_Type || ((PyMemberDescrObject *)found)->d_member->type != T_OBJECT_EX) {
-            PyErr_Format(PyExc_TypeError, "%s has no slot", slot->name);
-            Py_DECREF(found);
-            return -1;
-        }
-        *slot->place = ((PyMemberDescrObject *)found)->d_member->offset;
-        Py_DECREF(found);
-    }
-    return 0;
+    return find_slots(slots_of_locks, sizeof slots_of_locks / sizeof *slots_of_locks);
 }
 
 /* The methods of a kind of locks, by their names. Keeps those in Python. */
@@ -2319,7 +2489,7 @@ static PyObject *lock_methods(PyObject *self, PyObject *words, PyObject *named)
             &of_locks.line, &of_locks.section, &of_locks.identity, &of_locks.stretch, &of_locks.plain_lock,
             &of_locks.release, &of_locks.acquire_rlock, &of_locks.release_rlock, &of_locks.owned_rlock,
             &of_locks.most_of_stretch)
-        || find_slots() < 0)
+        || find_slots_of_locks() < 0)
         return NULL;
     if (of_locks.plain_lock->tp_basicsize != sizeof(PlainLock))
         return PyErr_Format(PyExc_TypeError, "a lock of this Python is another one");
@@ -2331,6 +2501,48 @@ static PyObject *lock_methods(PyObject *self, PyObject *words, PyObject *named)
         return NULL;
     }
     return Py_BuildValue("NN", locks, rlocks);
+}
+
+/* The token of the place where the program stands, if the task has noted it for the same and has done nothing since. */
+static PyObject *again(PyObject *self, PyObject *what)
+{
+    PyObject *token = FIELD(given.state, in_state.note) == Py_None ? NULL : token_again(what);
+    PyErr_Clear();
+    return token != NULL ? token : Py_NewRef(Py_None);
+}
+
+/* Whether a token need not be taken. */
+static PyObject *is_taken(PyObject *self, PyObject *token)
+{
+    int is_known_now = Py_TYPE(token) == of_locks.token && is_known(token);
+    PyErr_Clear();
+    return PyBool_FromLong(is_known_now);
+}
+
+/* From here on items of queues are noted by what is handed over, which is kept for as long as the process lives. */
+static PyObject *know_queues(PyObject *self, PyObject *words, PyObject *named)
+{
+    static char *names[] = {"items", "what", "own_steps", "internal", "most_places", NULL};
+    if (!PyArg_ParseTupleAndKeywords(
+            words, named, "OOOOl", names, &of_queues.items, &of_queues.what, &of_queues.own_steps, &of_queues.internal,
+            &of_queues.most_places))
+        return NULL;
+    Py_INCREF(named);
+    const Slot slots_of_queues[] = {
+        {&of_queues.items, "_tokens", &tokens_of_items}, {&of_locks.token, "line", &line_of_token},
+        {&of_locks.token, "code", &code_of_token}, {&of_locks.token, "instruction", &instruction_of_token},
+        {&of_locks.token, "last_taker", &taker_of_token}, {&of_locks.line, "number", &number_of_line},
+    };
+    const struct { PyObject **text; const char *name; } texts[] = {
+        {&text_put_step, "_put"}, {&text_get_step, "_get"}, {&text_size, "maxsize"}, {&text_items, "_itc_items"},
+        {&text_waits, "_itc_waits"}, {&text_is_free, "free_in"}, {&text_name, "__name__"},
+    };
+    for (size_t number = 0; number < sizeof texts / sizeof *texts; number++)
+        if ((*texts[number].text = PyUnicode_InternFromString(texts[number].name)) == NULL)
+            return NULL;
+    if (find_slots(slots_of_queues, sizeof slots_of_queues / sizeof *slots_of_queues) < 0)
+        return NULL;
+    Py_RETURN_NONE;
 }
 
 /* Nodes of a syntax tree that are made for hooks: nodes.py has the same in Python, and says of each what it is. There
@@ -2648,6 +2860,9 @@ static PyMethodDef methods[] = {
     {"setup", (PyCFunction)(void (*)(void))setup, METH_VARARGS | METH_KEYWORDS, NULL},
     {"forget", forget, METH_NOARGS, NULL}, {"left_in_the_middle", left_in_the_middle, METH_O, NULL},
     {"lock_methods", (PyCFunction)(void (*)(void))lock_methods, METH_VARARGS | METH_KEYWORDS, NULL},
+    {"know_queues", (PyCFunction)(void (*)(void))know_queues, METH_VARARGS | METH_KEYWORDS, NULL},
+    FAST("note_put", note_put), FAST("note_got", note_got), {"again", again, METH_O, NULL},
+    {"is_taken", is_taken, METH_O, NULL},
     {NULL},
 };
 
