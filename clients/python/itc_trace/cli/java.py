@@ -122,7 +122,7 @@ class JavaProgram:
         return f"{self._said.process} runs, "
 
     def lines(self) -> list[str]:
-        """The lines of its journal, and the sources. It has several journals if it starts further JVMs by the same words."""
+        """The lines of its journal, and the sources. It has several if it starts further JVMs by the same words."""
         lines: list[str] = []
         found = glob.glob(glob.escape(os.path.join(self._folder, "journal")) + "*")
         written = [path for path in sorted(found, key=lambda path: (len(path), path)) if os.path.getsize(path) > 0]
