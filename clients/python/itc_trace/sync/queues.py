@@ -195,7 +195,8 @@ class Items:
         with _guard:
             tokens = self._tokens.get(number)
             if not isinstance(tokens, deque):
-                return self._tokens.pop(number, None)  # type: ignore[return-value]
+                self._tokens.pop(number, None)
+                return tokens
             token = tokens.pop() if self._is_stack or from_end else tokens.popleft()
             if not tokens:
                 del self._tokens[number]
