@@ -210,4 +210,9 @@ export async function words(tab) {
     page.choose(5, { asOther: true });
   });
   assert.deepEqual(await lanes(), [4, "Nothing is hidden."], "a task of the tool that starts others has a lane");
+  for (const nursery of ["shop_itc_nursery", "shop_itc_nursery_12", "longshopc12_itc_nurser_2"]) {
+    const started = [`spawn root ${nursery}`, `spawn ${nursery} a`, "local a", "local root"];
+    await opened(tab, pictureOf("process.html", exportOf(started), ["--labels", file("process.journal", rows([{ ...lock, event: 3, task: "a", kind: "local" }]))]));
+    assert.deepEqual(await tab.run(() => [page.isOwn(1), document.querySelector("#open summary").textContent]), [true, "Tasks that did not end: 2"], nursery);
+  }
 }

@@ -19,6 +19,11 @@ function objectIn(line) {
 const GOES_ON = "goes on";
 const OWN_LABELS = new Set(["run loop", "run in loop", "run until loop stops", "loop has stopped", GOES_ON, "border"]);
 const OWN_TASKS = new Set(["ended_threads", "ended_tasks", "keeper", "itc_nursery", "itc_border"]);
+// Behind the first letters of a process, which may leave no room for all of it.
+const NURSERY_OF_PROCESS = /_itc_nurs(e(ry?)?)?$/;
+
+/** Whether the tool itself calls a task so. */
+const isOwnName = (name) => OWN_TASKS.has(stemOf(name)) || NURSERY_OF_PROCESS.test(stemOf(name));
 // Labels that say nothing of the program, and those of touches that a person would say in other words.
 const BARE_LABELS = new Set(["touch", "send to another process", "receive from another process"]);
 const OTHER_WORDS = [["making ", "make "], ["lookup ", "look up in "], ["replacement ", "replace an entry of "]];

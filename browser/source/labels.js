@@ -32,7 +32,7 @@ const WithLabels = (Base) => class extends Base {
   /** Finds the events of the tool itself, and those by which tasks of its own begin and end. */
   findOwn() {
     const { trace, labels } = this, own = this.own = new Uint8Array(trace.events + 1);
-    const isTool = ({ name, started }) => OWN_TASKS.has(stemOf(name)) && started > 0, isOwnTask = (name) => isTool(trace.tasks[trace.taskPlaces.get(name)]);
+    const isTool = ({ name, started }) => isOwnName(name) && started > 0, isOwnTask = (name) => isTool(trace.tasks[trace.taskPlaces.get(name)]);
     const ends = this.deadEnds();
     this.ownTasks = new Set(trace.tasks.flatMap((task, place) => isTool(task) && ends.has(place) ? [place] : []));
     for (let event = 1; event <= trace.events; event++) {

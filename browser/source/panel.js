@@ -254,7 +254,7 @@ const Panel = (Base) => class extends Base {
     for (const [standing, words] of STANDINGS) marks.append(element("li", {}, standingIcon(standing), words));
     const alone = [...trace.messages.values()].filter(({ sent, receipts }) => sent > 0 && receipts.length === 0 && !this.isOwn(sent));
     const isLock = ({ sent }) => this.isRelease(sent), unread = alone.filter((message) => !isLock(message)), free = alone.filter(isLock);
-    const isOfTool = ({ name, started }) => this.own !== null && started > 0 && OWN_TASKS.has(stemOf(name));
+    const isOfTool = ({ name, started }) => this.own !== null && started > 0 && isOwnName(name);
     const open = this.tasks().filter((task) => task.ended === 0 && !this.processes.haveEnded(task.name) && !isOfTool(task));
     const sent = (message) => this.eventButton(message.sent);
     const last = (task) => this.eventButton(task.last || task.started, `${task.name}, last event`);
