@@ -2,15 +2,19 @@
 
 from __future__ import annotations
 
+import json
 import random
+import tempfile
 import unittest
 from collections import deque
 from collections.abc import Callable
+from pathlib import Path
 from typing import Any
 from unittest import mock
 
 from itc_trace.analyse.parts import collected
 from itc_trace.model.lines import END, FINISH, GONE, JOIN, MARK, QUEUE, SPAWN, TAKE, TAKE_END, Line, Note, Token
+from itc_trace.processes.relay_parts import RelayParts
 from itc_trace.record import dividing, nurseries
 from itc_trace.record.dividing import Divider, Report
 from itc_trace.record.names import Names
@@ -245,8 +249,8 @@ class WrongRules(unittest.TestCase):
 class Borders(unittest.TestCase):
     """What a part begins with is spawned by nurseries, too, if it is much."""
 
-    def border(self, tasks: int, has_nurseries: bool = True) -> list[Report]:
-        divider = Divider(has_nurseries)
+    def border(self, tasks: int) -> list[Report]:
+        divider = Divider()
         for number in range(tasks):
             divider.report(Report("spawn", "root", f"t{number}"))
         divider.divide(lambda _: False, lambda _: False)
@@ -259,12 +263,23 @@ class Borders(unittest.TestCase):
         self.assertLessEqual(max(len([one for one in spawns if one.task == report.task]) for report in spawns), dividing.WIDE)
         self.assertEqual(len([report for report in reports if report.kind == "local"]), 201)
 
-    def test_a_narrow_one_and_that_of_a_relay_have_none(self) -> None:
-        for reports in (self.border(dividing.WIDE), self.border(200, has_nurseries=False)):
-            self.assertFalse([report for report in reports if dividing.NURSERY in report.request])
+    def test_a_narrow_one_has_none(self) -> None:
+        self.assertFalse([report for report in self.border(dividing.WIDE) if dividing.NURSERY in report.request])
+
+    def test_a_wide_border_of_a_relay_has_them_too(self) -> None:
+        with tempfile.TemporaryDirectory() as folder:
+            parts = RelayParts(lambda: 1, f"{folder}/journal")
+            for number in range(1, 201):
+                parts.answered(f"spawn root t{number}".encode(), b"201 %d" % number)
+            _, lines = parts.divide()
+            rows = [json.loads(row) for row in Path(folder, "journal").read_text().splitlines()]
+        spawns = [line.decode().split()[1] for line in lines if line.startswith(b"spawn ")]
+        self.assertLessEqual(max(map(spawns.count, spawns)), dividing.WIDE)
+        self.assertEqual([row["event"] for row in rows if row.get("kind") == "spawn"], [
+            number for number, line in enumerate(lines, 1) if line.startswith(b"spawn ")])
 
     def test_no_nursery_takes_the_name_of_a_task(self) -> None:
-        divider = Divider(has_nurseries=True)
+        divider = Divider()
         for number in range(100):
             divider.report(Report("spawn", "root", f"{dividing.NURSERY}_{number}"))
         spawned = [report.name for report in divider.divide(lambda _: False, lambda _: False).reports if report.kind == "spawn"]

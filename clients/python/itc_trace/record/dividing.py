@@ -76,8 +76,7 @@ class _Sent(NamedTuple):
 class Divider:
     """Keeps what a new part has to begin with."""
 
-    def __init__(self, has_nurseries: bool = False) -> None:
-        self._has_nurseries = has_nurseries
+    def __init__(self) -> None:
         self._begin_part()
 
     def _begin_part(self) -> None:
@@ -140,7 +139,7 @@ class Divider:
 
     def _spawn(self, border: Border, tasks: list[str]) -> None:
         """Has the root spawn the tasks. Many are spawned by others that it spawns before, and that do nothing else."""
-        if not self._has_nurseries or len(tasks) <= WIDE:
+        if len(tasks) <= WIDE:
             for task in tasks:
                 self._begin(border, Report("spawn", ROOT, task))
             return

@@ -52,7 +52,7 @@ class Parts:
         self.is_shared = False
         """Whether other processes report to this part too. Then there is no further one."""
         self.number = 1
-        self.divider = Divider(has_nurseries=True)
+        self.divider = Divider()
         self._asked_for = self._limits = limits
         self._lines: dict[str, Line] = {}
         self._messages: dict[str, _Message] = {}
