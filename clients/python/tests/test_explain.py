@@ -189,6 +189,18 @@ class InParts(unittest.TestCase):
         self.assertEqual([[(one.part, one.event) for one in side] for side in (*story.before, *story.after)], [[], [(2, 7)], [(1, 5), (1, 6)], [(3, 3)]])
         self.assertIn("a join: root joins early at shop.py:12, and before slow touches it would be early enough", story.orders)
 
+    def test_a_message_to_a_nursery_is_no_order_that_is_meant(self) -> None:
+        rows = [
+            Row(3, "root", "stock", "write", "shop.py", 4, "write stock"), Row(4, "root", None, "send", "shop.py", 5, "start seller", of="place_1"),
+            Row(5, "itc_nursery_1", None, "recv", None, 0, "start seller", of="place_1"),
+            Row(6, "itc_nursery_1", None, "spawn", "shop.py", 5, "start seller", of="seller"),
+            Row(7, "other", "stock", "write", "shop.py", 9, "write stock"),
+        ]
+        race: Any = SimpleNamespace(example=(rows[0], rows[4]), story=None)
+        add_stories([race], rows, Sources())
+        orders = cast(Story, race.story).orders
+        self.assertEqual(orders[-1], "a queue or an event: root sends nothing behind its touch")
+
     def test_an_event_of_another_part_is_told_with_it(self) -> None:
         sides = tuple(FoundSide("write", "shop.py", line, task=task, part=part) for line, task, part in ((4, "early", 1), (9, "slow", 2)))
         told = explained(Finding(RACE, "stock", sides, "nothing orders them", story=self.story()), Report(Verdict.RACES, ""))

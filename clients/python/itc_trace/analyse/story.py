@@ -15,6 +15,7 @@ from .races import Race
 STEPS = 3
 """So many events of a task are told before and after its touch."""
 MOST_TOUCHES = 2
+START = "start "
 
 
 def add_stories(races: Iterable[Race], rows: Iterable[Row], sources: Sources) -> None:
@@ -99,8 +100,8 @@ class _Rows:
 
     def _message(self, first: Row, second: Row) -> str:
         one, other = self._called(first.task), self._called(second.task)
-        sent = next((row for row in self._after(first) if row.kind == "send" and not row.lock), None)
-        taken = next((row for row in self._before(second) if row.kind == "recv" and not row.lock), None)
+        sent = next((row for row in self._after(first) if row.kind == "send" and _is_meant(row)), None)
+        taken = next((row for row in self._before(second) if row.kind == "recv" and _is_meant(row)), None)
         if sent is None and taken is None:
             return f"a queue or an event: {one} sends nothing behind its touch"
         gives = f"behind its touch {self._does(sent)}" if sent else f"{one} sends nothing behind its touch"
@@ -135,6 +136,11 @@ def _is_own(row: Row) -> bool:
     several of an end."""
     is_of_ends = (row.kind, row.label) in (("join", RESULT.taking), ("send", END.giving))
     return not row.file and (row.label == GOES_ON or is_of_ends)
+
+
+def _is_meant(row: Row) -> bool:
+    """Whether the message is of no lock, and of no task that is started by a nursery."""
+    return not row.lock and not row.label.startswith(START)
 
 
 def _place(row: Row) -> tuple[int, int]:
