@@ -5,12 +5,13 @@ import (
 	"sync/atomic"
 )
 
-// A task that starts a task halves what is left of its identity in the clock. So the last ones of many have long identities, and long
-// stamps. From some number of children on a task has nurseries: tasks of which each starts some for it, and does nothing else.
-// docs/long-runs.md has the proof that this orders nothing else.
+// A task that starts a task halves what is left of its identity in the clock. So the last ones of many have long
+// identities, and long stamps. From some number of children on a task has nurseries: tasks of which each starts some
+// for it, and does nothing else. docs/long-runs.md has the proof that this orders nothing else.
 
 const (
-	// fewChildren is how many tasks that nobody has joined yet a task has started itself, and manyPlaces how many a nursery starts.
+	// fewChildren is how many tasks that nobody has joined yet a task has started itself, and manyPlaces how many a
+	// nursery starts.
 	fewChildren, manyPlaces = 32, 32
 	nurseryHint             = "itc_nursery"
 	// placeHint is what a message to a nursery is called.
@@ -23,7 +24,7 @@ type width struct {
 	places   int
 }
 
-// offspring is what a task or a nursery knows of the tasks that it has started itself: how many of them nobody has joined yet.
+// offspring is what a task or a nursery knows of the tasks that it has started itself: how many nobody has joined yet.
 type offspring struct {
 	unjoined atomic.Int64
 }
@@ -81,8 +82,8 @@ func (t *tracer) nurseryOf(parent *task) *nursery {
 	return parent.nursery
 }
 
-// tellNursery has the nursery come after all that the parent has done before it starts a task. It knows that if the parent has done
-// nothing since it was told last.
+// tellNursery has the nursery come after all that the parent has done before it starts a task. It knows that if the
+// parent has done nothing since it was told last.
 func (t *tracer) tellNursery(parent *task, told *nursery, start *report) {
 	parent.leave()
 	if told.told == parent.events {
@@ -125,7 +126,7 @@ func (t *tracer) tellNurseryLeft(left *nursery) {
 	}
 }
 
-// joined has the task join the nursery too of a task that it has joined, if that was the last one of its own nursery. Its mutex is held.
+// joined has the task join its own nursery, if it has joined the last task that this has started. Its mutex is held.
 func (t *tracer) joined(by *task, from starter) {
 	if from.of == nil {
 		return
