@@ -1,8 +1,8 @@
 //! Starts tasks for those that have many.
 //!
-//! A task that starts a task halves what is left of its identity in the clock. So the last ones of many have long identities, and long
-//! stamps. From some number of children on a task has nurseries: tasks of which each starts some for it, and does nothing else.
-//! `docs/long-runs.md` has the proof that this orders nothing else.
+//! A task that starts a task halves what is left of its identity in the clock. So the last ones of many have long
+//! identities, and long stamps. From some number of children on a task has nurseries: tasks of which each starts some
+//! for it, and does nothing else. `docs/long-runs.md` has the proof that this orders nothing else.
 
 use super::{Refusable, State, Task};
 use crate::journal::{Row, Site};
@@ -87,11 +87,12 @@ impl State {
         let made = self.lines.add(name.clone(), Known::default());
         self.lines[parent].children += 1;
         self.lines[parent].nursery = Some(made);
-        self.nurseries.insert(made, Nursery { name, parent, started: 0, told: 0, unjoined: 0, awaited: 0, is_over: false });
+        let nursery = Nursery { name, parent, started: 0, told: 0, unjoined: 0, awaited: 0, is_over: false };
+        self.nurseries.insert(made, nursery);
         made
     }
 
-    /// Has the nursery come after all that the parent has done. It knows that if the parent has done nothing since it was told last.
+    /// Has the nursery come after all that the parent has done. Nothing is told if it was told since.
     fn tell_nursery(&mut self, parent: Task, starter: Task, site: Site, label: &str) {
         if self.nurseries[&starter].told == self.lines[parent].events {
             return;

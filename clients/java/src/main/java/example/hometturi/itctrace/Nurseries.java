@@ -5,9 +5,10 @@ import java.io.IOException;
 import java.util.function.Supplier;
 
 /**
- * Starts tasks for those that have many. A task that starts a task halves what is left of its identity in the clock. So the last ones of
- * many have long identities, and long stamps. From some number of children on a task has nurseries: tasks of which each starts some for
- * it, and does nothing else. {@code docs/long-runs.md} has the proof that this orders nothing else. All is done with the tracer's lock held.
+ * Starts tasks for those that have many. A task that starts a task halves what is left of its identity in the clock.
+ * So the last ones of many have long identities, and long stamps. From some number of children on a task has nurseries:
+ * tasks of which each starts some for it, and does nothing else. {@code docs/long-runs.md} has the proof that this
+ * orders nothing else. All is done with the tracer's lock held.
  */
 final class Nurseries {
     private static final String HINT = "itc_nursery";
@@ -24,7 +25,8 @@ final class Nurseries {
                 return OWN;
             }
             if (!text.matches("[0-9]{1,9} [1-9][0-9]{0,8}")) {
-                throw new IOException(Environment.NURSERIES + " is " + text + ", which is not two numbers: set it to two as in \"32 32\"");
+                String fault = " is " + text + ", which is not two numbers: set it to two as in \"32 32\"";
+                throw new IOException(Environment.NURSERIES + fault);
             }
             String[] words = text.split(" ");
             return new Width(Integer.parseInt(words[0]), Integer.parseInt(words[1]));
@@ -110,7 +112,7 @@ final class Nurseries {
         return parent.offspring.nursery;
     }
 
-    /** Has the nursery come after all that the parent has done. It knows that if the parent has done nothing since it was told last. */
+    /** Has the nursery come after all that the parent has done. Nothing is told if it was told since. */
     private void tell(Task parent, Nursery nursery, Site site, String label, Supplier<String> freshMessage) {
         if (nursery.told == parent.events) {
             return;
