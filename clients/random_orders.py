@@ -15,21 +15,32 @@ import random
 import sys
 import tempfile
 from pathlib import Path
+from typing import NamedTuple
 
 from wrappers import INCOMPLETE, Check, Programs, Wrong, run_all, run_system
 
-STEPS = 300
-MOST_TASKS = 6
 LOCKS, READ_LOCKS, QUEUES = 2, 2, 2
+
+
+class Shape(NamedTuple):
+    """How many steps a program has, how many tasks live at most, and how much likelier than others a step starts one."""
+
+    steps: int
+    most_tasks: int
+    spawns: int
+
+
+NARROW = Shape(300, 6, 1)
 
 
 class Due:
     """A random list of steps, and what each touch comes after."""
 
-    def __init__(self, seed: int, is_joined_once: bool) -> None:
+    def __init__(self, seed: int, is_joined_once: bool, shape: Shape = NARROW) -> None:
         """A thread may be joined by several, but for a language that takes it away from the first one."""
         self._random = random.Random(seed)
         self._is_joined_once = is_joined_once
+        self._shape = shape
         self.steps: list[str] = []
         self.before: list[int] = []
         """Of each touch the earlier ones that come before it, as bits."""
@@ -42,7 +53,7 @@ class Due:
         self._released = [0] * LOCKS
         self._by_writer, self._by_readers = [0] * READ_LOCKS, [0] * READ_LOCKS
         self._items: list[list[int]] = [[] for _ in range(QUEUES)]
-        while len(self.steps) < STEPS:
+        while len(self.steps) < shape.steps:
             self._step()
         for task in [task for task in self._known if task != "main"]:
             for one in list(self._held[task]):
@@ -52,7 +63,7 @@ class Due:
     def _step(self) -> None:
         task = self._random.choice(list(self._known))
         choices = [self._touch, self._touch, self._lock, self._read_lock, self._unlock, self._put, self._take, self._spawn, self._join]
-        self._random.choice(choices)(task)
+        self._random.choice(choices + [self._spawn] * (self._shape.spawns - 1))(task)
 
     def _do(self, task: str, operation: str, word: object) -> None:
         self.steps.append(f"{task} {operation} {word}")
@@ -116,7 +127,7 @@ class Due:
             self._known[task] |= self._items[place].pop(0)
 
     def _spawn(self, task: str) -> None:
-        if len(self._known) < MOST_TASKS:
+        if len(self._known) < self._shape.most_tasks:
             self._started += 1
             child = f"c{self._started}"
             self._do(task, "spawn", child)
@@ -153,14 +164,19 @@ def told(export: Path) -> tuple[dict[int, int], dict[str, int]]:
 
 
 def check(programs: Programs, seed: int) -> None:
-    due = Due(seed, is_joined_once=programs.language == "rust")
-    with tempfile.TemporaryDirectory() as name:
-        folder = Path(name)
-        (folder / "steps").write_text("".join(f"{step}\n" for step in due.steps))
-        ran = run_system(folder, ["--export", str(folder / "export")], one=programs.words("steps", str(folder / "steps")))
-        if ran.returncode == INCOMPLETE or "one | done" not in ran.stdout:
-            raise Wrong(f"seed {seed}: {ran.stdout}{ran.stderr}")
-        before, events = told(folder / "export")
+    with tempfile.TemporaryDirectory() as folder:
+        check_orders(programs, seed, NARROW, Path(folder))
+
+
+def check_orders(programs: Programs, seed: int, shape: Shape, folder: Path, variables: dict[str, str] | None = None) -> None:
+    """Runs the program of this seed, with these variables in its environment. The folder has the export of the run then."""
+    due = Due(seed, programs.language == "rust", shape)
+    (folder / "steps").write_text("".join(f"{step}\n" for step in due.steps))
+    words = programs.words("steps", str(folder / "steps"))
+    ran = run_system(folder, ["--export", str(folder / "export")], variables=variables, one=words)
+    if ran.returncode == INCOMPLETE or "one | done" not in ran.stdout:
+        raise Wrong(f"seed {seed}: {ran.stdout}{ran.stderr}")
+    before, events = told(folder / "export")
     for second in range(len(due.before)):
         for first in range(second):
             if due.tasks[first] != due.tasks[second]:

@@ -163,12 +163,13 @@ class Programs:
 
 
 def run_system(
-    folder: Path, options: list[str] | None = None, *, seconds: float = MOST_SECONDS, **processes: list[str],
+    folder: Path, options: list[str] | None = None, *, seconds: float = MOST_SECONDS, variables: dict[str, str] | None = None,
+    **processes: list[str],
 ) -> "subprocess.CompletedProcess[str]":
-    """Runs these processes as a system, with these options, for so many seconds at most."""
+    """Runs these processes as a system, with these options, for so many seconds at most, and with these variables in their environment."""
     file = folder / SYSTEM
     file.write_text("".join(f"[process.{name}]\ncommand = {json.dumps(words)}\n" for name, words in processes.items()))
-    environment = {**os.environ, "PYTHONPATH": str(CLIENTS / "python")}
+    environment = {**os.environ, **(variables or {}), "PYTHONPATH": str(CLIENTS / "python")}
     return subprocess.run(
         [sys.executable, "-m", "itc_trace", "system", "--all", *(options or []), str(file)], env=environment, capture_output=True, text=True,
         timeout=seconds)
