@@ -438,9 +438,70 @@ def first(): d["x"] = 2
 def second(): d["y"], s.y
 """
 
+STREAMS = """
+## a digest gets two pieces
+import hashlib
+one = hashlib.sha256()
+def first(): one.update(b"a")  # race
+def second(): one.update(b"b")  # race
+## a digest is asked for
+import hashlib
+one, other = hashlib.md5(), hashlib.blake2b()
+def first():
+    one.update(b"a")  # race
+    other.update(b"a")  # race
+def second():
+    one.hexdigest()  # race
+    other.copy()  # race
+## a digest is only asked for
+import hashlib
+one = hashlib.md5(b"a")
+def first(): one.hexdigest()
+def second(): one.digest(), one.name
+## a code of a message gets a piece
+import hmac
+one = hmac.new(b"k", b"", "sha256")
+def first(): one.update(b"a")  # race
+def second(): one.digest()  # race
+## pieces are compressed
+import zlib, bz2
+one, other = zlib.compressobj(), bz2.BZ2Compressor()
+def first():
+    one.compress(b"a")  # race
+    other.compress(b"a")  # race
+def second():
+    one.flush()  # race
+    other.flush()  # race
+## a decoder goes on
+import codecs
+one = codecs.getincrementaldecoder("utf-8")()
+def first(): one.decode(b"\\xc3")  # race
+def second(): one.reset()  # race
+## two texts are compared
+import difflib
+one = difflib.SequenceMatcher(None, "abc", "abd")
+def first(): one.set_seq1("xyz")  # race
+def second(): one.ratio()  # race
+## each has a digest of its own
+import hashlib
+def first(): one = hashlib.md5(); one.update(b"a"); one.hexdigest()
+def second(): one = hashlib.md5(); one.update(b"b"); one.hexdigest()
+## a class of the program is a decoder
+import codecs
+class Own(codecs.IncrementalDecoder):
+    count = 0
+    def decode(self, data, final=False):
+        self.count += 1  # race
+        return ""
+one = Own()
+def first(): one.decode(b"a")
+def second(): one.count  # race
+"""
+
 CHAPTERS = {
     "functions in C that classes have, and that steps call": GETTERS,
     "attributes of classes below those of the language": BELOW,
     "texts and code that run": TEXTS,
     "dictionaries of fields": DICTIONARIES,
+    "what takes one piece after another": STREAMS,
 }

@@ -6,6 +6,7 @@ from __future__ import annotations
 import collections
 import importlib
 import unittest
+import zlib
 from typing import Any
 
 from itc_trace.model.conflicts import CONFLICTING
@@ -27,6 +28,19 @@ def function_of(module: str, name: str) -> Any:
     return getattr(owner, name, None)
 
 
+def type_of(names: tuple[str, str]) -> Any:
+    """The type that is known by the names of its module and its own."""
+    module, name = names
+    found = getattr(importlib.import_module(module), name, None)
+    return MADE[names]() if found is None else found if isinstance(found, type) else type(found())
+
+
+MADE: dict[tuple[str, str], Any] = {
+    ("zlib", "Compress"): lambda: type(zlib.compressobj()), ("zlib", "Decompress"): lambda: type(zlib.decompressobj()),
+}
+"""How to come by types that their module does not name."""
+
+
 class Tables(unittest.TestCase):
     def test_no_method_of_a_kind_stands_in_two_rows(self) -> None:
         rows = collections.Counter(
@@ -41,6 +55,7 @@ class Tables(unittest.TestCase):
 
     def test_the_library_has_each_method(self) -> None:
         types = [kind for row in kinds.TYPES.values() for kind in row] + [kind for kind, _ in kinds.WITH_ONE_INSIDE]
+        types += [kind for kind in map(type_of, kinds.TYPES_BY_NAME) if kind is not None]
         names = {name for row in kinds._METHODS if row.kinds for name in row.names.split()}
         self.assertEqual({name for name in names if not any(hasattr(kind, name) for kind in types)}, set())
 
@@ -80,6 +95,11 @@ class Tables(unittest.TestCase):
     def test_each_type_is_of_its_kind(self) -> None:
         self.assertEqual([kind for number, row in kinds.TYPES.items() for kind in row if family_of(kind) != number], [])
         self.assertEqual([kind for kind, field in kinds.WITH_ONE_INSIDE if field_inside(kind) != field], [])
+
+    def test_each_type_that_is_known_by_its_name_is_of_its_kind(self) -> None:
+        types = {names: type_of(names) for names in kinds.TYPES_BY_NAME}
+        self.assertEqual({names for names, kind in types.items() if kind is None}, set())
+        self.assertEqual([names for names, kind in types.items() if family_of(kind) != kinds.TYPES_BY_NAME[names]], [])
 
     def test_the_source_in_c_is_given_all_numbers(self) -> None:
         lines = header().splitlines()

@@ -24,10 +24,10 @@ from .conflicts import ADDITION, CHANGING, ITERATION, KEYS, LENGTH, LOOKUP, REMO
 
 # Kinds of containers
 
-LIST, DICT, SET, DEQUE, BUFFER, CHANCE = range(6)
+LIST, DICT, SET, DEQUE, BUFFER, CHANCE, STREAM = range(7)
 TYPES: dict[int, tuple[type, ...]] = {
     DICT: (dict, defaultdict, OrderedDict, Counter), LIST: (list, bytearray, array), SET: (set,), DEQUE: (deque,),
-    BUFFER: (io.StringIO, io.BytesIO), CHANCE: (random.Random,),
+    BUFFER: (io.StringIO, io.BytesIO), CHANCE: (random.Random,), STREAM: (),
 }
 """The types of each kind. A class below one of these is of the same kind.
 
@@ -35,7 +35,18 @@ A buffer is a text or bytes in memory. What is written stands at its end mostly,
 come by a writer of `csv`. A generator of chance has no elements. Whoever draws looks at it: draws may come in any
 order.
 """
-WITHOUT_ELEMENTS = frozenset((BUFFER, CHANCE))
+TYPES_BY_NAME: dict[tuple[str, str], int] = dict.fromkeys((
+    ("_hashlib", "HASH"), ("_hashlib", "HASHXOF"), ("_blake2", "blake2b"), ("_blake2", "blake2s"), ("_md5", "md5"),
+    ("hmac", "HMAC"), ("_hashlib", "HMAC"), ("zlib", "Compress"), ("zlib", "Decompress"), ("_bz2", "BZ2Compressor"),
+    ("_bz2", "BZ2Decompressor"), ("_lzma", "LZMACompressor"), ("_lzma", "LZMADecompressor"),
+    ("codecs", "IncrementalDecoder"), ("_io", "IncrementalNewlineDecoder"),
+    ("_multibytecodec", "MultibyteIncrementalDecoder"), ("difflib", "SequenceMatcher"),
+), STREAM)
+"""Types of modules that few programs import, by the names of their modules and their own.
+
+A stream takes one piece after another, and what it gives depends on all of them.
+"""
+WITHOUT_ELEMENTS = frozenset((BUFFER, CHANCE, STREAM))
 """Kinds of which a test for truth, a text and a comparison look at nothing."""
 
 MAPS, VARIABLES, WRITER, REFERRED, WRITTEN_TO = "maps", "_data", "writer", "referred", "written to"
@@ -162,6 +173,11 @@ _METHODS = (
 
     Methods((CHANCE,), "seed setstate", ITSELF, REWRITE),
     Methods((CHANCE,), _DRAWING, ITSELF, LOOKUP),
+
+    Methods((STREAM,), "update compress decompress flush decode reset", ITSELF, REWRITE),
+    Methods((STREAM,), "setstate set_seq1 set_seq2 set_seqs", ITSELF, REWRITE),
+    Methods((STREAM,), "digest hexdigest copy getstate ratio quick_ratio get_opcodes", ITSELF, ITERATION),
+    Methods((STREAM,), "get_matching_blocks find_longest_match", ITSELF, ITERATION),
 
     Methods((BUFFER,), "write writelines writerow writerows writeheader", ITSELF, ADDITION),
     Methods((BUFFER,), "getvalue getbuffer", ITSELF, ITERATION),

@@ -25,7 +25,7 @@ from collections.abc import Iterable
 from typing import Any
 
 from .helper import quick
-from ..model.kinds import DICT, REFERRED, TYPES, WITH_ONE_INSIDE
+from ..model.kinds import DICT, REFERRED, STREAM, TYPES, TYPES_BY_NAME, WITH_ONE_INSIDE
 from ..sync.handed_on import HANDED, is_of_container
 from .learned import OF_CLASSES, STORED_FIELDS
 from .places import DELETED, SKIPPED, Access
@@ -189,7 +189,10 @@ def family_of(kind: type) -> int | None:
     family = _families.get(id(kind))
     if family is None:
         _remember(kind)
-        family = next((found for base, found in _BASES if issubclass(kind, base)), NO_FAMILY)
+        family = next((found for base, found in _BASES if issubclass(kind, base)), None)
+        if family is None:
+            names = [(_module_of(one), name_of(one)) for one in _mro_of(kind)]
+            family = next((TYPES_BY_NAME[one] for one in names if one in TYPES_BY_NAME), NO_FAMILY)
         if family != NO_FAMILY and is_of_the_package(kind):
             family = NO_FAMILY
         _families[id(kind)] = family
@@ -214,7 +217,8 @@ def has_own_method(kind: type, name: str) -> bool:
     if name not in known:
         _remember(kind)
         owner = class_with(kind, name)
-        known[name] = owner is not None and id(owner) not in _EXACT and _is_function(owner, name)
+        is_own = owner is not None and id(owner) not in _EXACT and _is_function(owner, name)
+        known[name] = is_own and (is_watched_class(owner) or family_of(kind) != STREAM)
     return known[name]
 
 
