@@ -498,10 +498,57 @@ def first(): one.decode(b"a")
 def second(): one.count  # race
 """
 
+GIVEN = """
+## a command is run with words
+import subprocess
+words = ["true"]
+def first(): words.append("a")  # race
+def second(): subprocess.run(words)  # race
+## bytes are written
+import os
+r, w = os.pipe()
+data = bytearray(b"12")
+def first(): data[0] = 51  # race
+def second(): os.write(w, data)  # race
+## bytes are sent
+import socket
+one, two = socket.socketpair()
+data = bytearray(b"12")
+def first(): data[0] = 51  # race
+def second(): one.sendall(data)  # race
+## a statement has parameters
+import sqlite3
+base = sqlite3.connect(":memory:", check_same_thread=False)
+words, rows = [1], [(1,)]
+base.execute("create table t (a)")
+def first():
+    words[0] = 2  # race
+    rows.append((2,))  # race
+def second():
+    base.execute("select ?", words)  # race
+    base.executemany("insert into t values (?)", rows)  # race
+## what is waited for is a list
+import select
+doors = []
+def first(): doors.append(0)  # race
+def second(): select.select(doors, [], [], 0)  # race
+## each runs its own words
+import subprocess
+def first(): words = ["true"]; words.append("a"); subprocess.run(words)
+def second(): words = ["true"]; subprocess.run(words)
+## a method of this name of the program is given a list
+class Base:
+    def execute(self, words): return 1
+base, words = Base(), []
+def first(): words.append(1)
+def second(): base.execute(words)
+"""
+
 CHAPTERS = {
     "functions in C that classes have, and that steps call": GETTERS,
     "attributes of classes below those of the language": BELOW,
     "texts and code that run": TEXTS,
     "dictionaries of fields": DICTIONARIES,
     "what takes one piece after another": STREAMS,
+    "what the library is given": GIVEN,
 }
