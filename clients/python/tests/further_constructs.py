@@ -114,6 +114,17 @@ rows = [Row()]
 def first(): rows[0].left = 3  # race
 def second():
     for one in itertools.takewhile(operator.attrgetter("left"), rows): pass  # race
+## the language calls methods of a container by other names
+class Table(dict):
+    __call__ = dict.get  # star get as it is handed on
+    __getattr__ = dict.__getitem__
+class Rows(list):
+    __lshift__ = list.append  # star append as it is handed on
+    add = list.append
+    __repr__ = list.__repr__
+table, rows = Table(a=1), Rows()
+def first(): table["a"], rows << 1
+def second(): table("a"), len(rows)
 ## lists are added to the first one
 import itertools, operator
 rows = [[1], [2]]

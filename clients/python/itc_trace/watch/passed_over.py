@@ -7,7 +7,7 @@ import os
 import sys
 from collections.abc import Callable
 
-from ..model.kinds import CHANGING_OF_TYPES
+from ..model.kinds import CHANGING_OF_TYPES, METHODS
 from ..model.stretches import SITES
 from ..model.verdict import PassedOver
 from ..record import noting
@@ -162,6 +162,20 @@ def look_at_kept(node: ast.Assign, learned: Learned, is_foreign: Callable[[ast.e
     for one in node.targets:
         if is_changing(node.value) and isinstance(one, ast.Attribute) and is_foreign(one.value):
             learned.passed_over.append((handed_on(node.value.attr), node.lineno))  # type: ignore[attr-defined]
+
+
+def look_at_special(node: ast.Assign, learned: Learned, is_container_class: Callable[[ast.expr], bool]) -> None:
+    """Keeps a method of a container under a name by which the language calls it, as `__call__ = dict.get` in a class."""
+    one, value = node.targets[0], node.value
+    if not isinstance(one, ast.Name) or not isinstance(value, ast.Attribute) or not one.id.startswith("__"):
+        return
+    is_another = one.id != value.attr and one.id.endswith("__") and one.id not in _OF_ATTRIBUTES
+    if is_another and value.attr in METHODS and is_container_class(value.value):
+        learned.passed_over.append((handed_on(value.attr), node.lineno))
+
+
+_OF_ATTRIBUTES = frozenset(("__getattr__", "__setattr__", "__delattr__"))
+"""Methods by which attributes may be keys, which is seen."""
 
 
 def is_changing(node: ast.expr) -> bool:

@@ -489,6 +489,8 @@ class Rewriter:
             return node
         value: Any = node.value
         passed_over.look_at_kept(node, self._learned, self._is_of_foreign_module)
+        if self._scope.kind is CLASS:
+            passed_over.look_at_special(node, self._learned, self._is_container_class)
         is_put = len(node.targets) == 1 and type(node.targets[0]) is ast.Subscript and not _is_slice(node.targets[0])
         places = self._places_of_put(node.value) if is_put else None
         node.value = self._made(node.value, node.targets[0])
