@@ -125,6 +125,11 @@ class Rows(list):
 table, rows = Table(a=1), Rows()
 def first(): table["a"], rows << 1
 def second(): table("a"), len(rows)
+## a context calls a method of a list
+import contextvars
+items, context = [], contextvars.copy_context()
+def first(): context.run(items.append, 1)  # race
+def second(): len(items)  # race
 ## lists are added to the first one
 import itertools, operator
 rows = [[1], [2]]

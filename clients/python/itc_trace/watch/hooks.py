@@ -25,6 +25,7 @@ from _thread import get_ident
 from abc import ABCMeta
 from collections import defaultdict, deque
 from collections.abc import Callable, Iterable, Iterator
+from contextvars import Context
 from functools import partial
 from operator import itemgetter
 from sys import _getframe, getrefcount
@@ -444,10 +445,13 @@ _KEEPING = ids_of((types.SimpleNamespace, types.FunctionType))
 def hook_before_handed(value: Any, one: Any, site: int) -> Any:
     """A method of a container that is handed to a method of an object, or stored in a field of it.
 
-    One of the library calls it without a word.
+    One of the library calls it without a word. A context calls it at once.
     """
     try:
         kind = type(one)
+        if kind is Context and type(value) in HANDED and is_of_container(value):
+            frame = _getframe(1)
+            return _calling(value, (frame.f_code, frame.f_lasti))
         is_kept = id(kind) in _KEEPING or family_of(kind) is not None or is_watched_class(kind)
         is_kept = is_kept or issubclass(kind, types.ModuleType)
         if type(value) in HANDED and is_of_container(value) and not is_kept and not _is_class_of_program(one):
