@@ -560,6 +560,122 @@ def first(): words.append(1)
 def second(): base.execute(words)
 """
 
+OTHER_NAMES = """
+## the fields of an object are found by getattr
+class S: pass
+s = S()
+s.x = 1
+def first(): getattr(s, "__dict__")["x"] = 2  # race
+def second(): s.x  # race
+## the fields of an object are found past its class
+class S: pass
+s = S()
+s.x = 1
+def first(): object.__getattribute__(s, "__dict__")["x"] = 2  # race
+def second(): s.x  # race
+## the fields of an object are found by attrgetter
+import operator
+class S: pass
+s = S()
+s.x = 1
+def first(): operator.attrgetter("__dict__")(s)["x"] = 2  # race
+def second(): s.x  # race
+## the fields of an object are found by vars that is handed on
+class S: pass
+s = S()
+s.x = 1
+def first(): next(map(vars, [s]))["x"] = 2  # race
+def second(): s.x  # race
+## the fields of an object are found by another name of vars
+class S: pass
+s = S()
+s.x = 1
+v = vars
+def first(): v(s)["x"] = 2  # race
+def second(): s.x  # race
+## the fields of an object are found by what gives them
+class S: pass
+s = S()
+s.x = 1
+def first(): S.__dict__["__dict__"].__get__(s)["x"] = 2  # star __dict__
+def second(): s.x
+## the variables of a module are found by another name
+variables = globals  # star globals
+x = 1
+def first(): variables()["x"] = 2
+def second(): x
+## the variables of a module are its locals
+x = 1
+here = locals()
+def first(): here["x"] = 2  # race
+def second(): x  # race
+## the variables of a module are given by vars
+x = 1
+here = vars()
+def first(): here["x"] = 2  # race
+def second(): x  # race
+## the variables of a module are found among the modules
+import sys
+x = 1
+here = sys.modules[__name__].__dict__
+def first(): here["x"] = 2  # race
+def second(): x  # race
+## the variables of the body of a class are another dictionary
+class A:
+    level = 1
+    space = locals()
+def first(): A.space["level"] = 2
+def second(): A.level
+## a field is stored by another name of setattr
+class S: pass
+s = S()
+s.x = 1
+put = setattr
+def first(): put(s, "x", 2)  # race
+def second(): s.x  # race
+## a field is stored by a name of a method of object
+class S: pass
+s = S()
+s.x = 1
+put = object.__setattr__
+def first(): put(s, "x", 2)  # race
+def second(): s.x  # race
+## a field is found by a part of getattr
+import functools
+class S: pass
+s = S()
+s.x = 1
+get = functools.partial(getattr, s)
+def first(): s.x = 2  # race
+def second(): get("x")  # race
+## a list is added to by a name of its method
+items = []
+add = list.append
+def first(): add(items, 1)  # race
+def second(): len(items)  # race
+## a list is sorted by another name
+items = []
+order = sorted
+def first(): items.append(1)  # race
+def second(): order(items)  # race
+## a method of a list has a computed name
+items = []
+def first(): getattr(items, "app" + "end")(1)  # race
+def second(): len(items)  # race
+## a method of a list is found in its class
+items = [1]
+def first(): items.__class__.__setitem__(items, 0, 2)  # race
+def second(): items[0]  # race
+## what a class is made of has a name
+class Table(dict):
+    def put(self, key, value):
+        base = super()
+        base.__setitem__(key, value)  # race
+table = Table()
+def first(): table.put("a", 1)
+def second(): table.get("a")  # race
+"""
+
 CHAPTERS = {
     "functions in C that classes have, and that steps call": GETTERS,
     "attributes of classes below those of the language": BELOW,
@@ -567,4 +683,5 @@ CHAPTERS = {
     "dictionaries of fields": DICTIONARIES,
     "what takes one piece after another": STREAMS,
     "what the library is given": GIVEN,
+    "what has another name": OTHER_NAMES,
 }

@@ -14,10 +14,11 @@ from .decisions import value_of_field
 from .finder import FILES
 from ..model.kinds import CHANGED_ARGUMENT, KEYED, METHODS, READERS, SHOWING, STEPPERS, depth_of, known_function
 from .places import NAMES_OF_HANDED, Access, new_site
-from .rewrite import OF_ATTRIBUTES
+from .rewrite import OF_ATTRIBUTES, OF_OBJECT
 
 _OF_BUILTINS = "builtins."
-_FIELDS = {**{f"{_OF_BUILTINS}{name}": kinds for name, kinds in OF_ATTRIBUTES.items()}, ATTRGETTER: "r"}
+_FIELDS = {**{f"{_OF_BUILTINS}{name}": kinds for name, kinds in OF_ATTRIBUTES.items()}, ATTRGETTER: "r", **OF_OBJECT}
+_ALL_FIELDS = f"{_OF_BUILTINS}vars"
 _WHOLE = {f"{_OF_BUILTINS}{name}": kinds for name, kinds in READERS.items() if name not in STEPPERS}
 
 _sites: dict[tuple[int, int, str], tuple[int, object]] = {}
@@ -34,6 +35,8 @@ def _touch(method: Method, place: Place) -> None:
     known = known_function(name) if "." in name else None
     if known is not None:
         hooks.hook_before_whole(method.container, _site_of(place, name, "whole", known, depth_of(name)))
+    elif name == _ALL_FIELDS:
+        hooks.hook_before_fields(method.container)
     elif name in _FIELDS:
         _touch_field(method, _site_of(place, name, "field", _FIELDS[name]))
     elif name in _WHOLE:
@@ -82,4 +85,5 @@ def _arguments(name: str) -> slice | None:
 
 def begin() -> None:
     """From here on what the program hands on is looked into."""
-    watch_with(Watcher(_touch, FILES, METHODS | frozenset(_FIELDS) | frozenset(_WHOLE), _arguments))
+    names = METHODS | {_ALL_FIELDS, *_FIELDS, *_WHOLE}
+    watch_with(Watcher(_touch, FILES, names, _arguments))

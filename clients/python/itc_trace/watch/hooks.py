@@ -194,6 +194,9 @@ def hook_before_named_attribute(one: Any, name: Any, site: int) -> Any:
     if type(name) is str:
         access = ACCESSES[site]
         try:
+            if name == OF_FIELDS and access.kinds == READ_ONLY:
+                keep_fields_of(_of_super(one) if type(one) is super else one)
+                return one
             if access.words == OF_BASE:
                 _touch_past_class(one, name, access.kinds, site)
                 return one
@@ -203,6 +206,10 @@ def hook_before_named_attribute(one: Any, name: Any, site: int) -> Any:
         except Exception as fault:
             lost(fault)
     return one
+
+
+OF_FIELDS = "__dict__"
+"""The attribute that gives all fields of an object."""
 
 
 def _learn_stored(one: Any, name: str, site: int) -> None:

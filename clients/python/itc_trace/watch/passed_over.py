@@ -16,6 +16,8 @@ from .learned import Learned
 
 TEXTS = frozenset(("exec", "eval"))
 """Functions of the language that run a text. Whoever has one by another name may call it."""
+NAMED = TEXTS | {"globals"}
+"""Those, and what gives the variables of the module. By another name it is not known to do so."""
 BUILT_IN = TEXTS | {"memoryview"}
 _MODULE_OF_BUILTINS = "builtins"
 _MAKING_FUNCTIONS = frozenset(("types.FunctionType", "types.LambdaType"))
@@ -165,7 +167,7 @@ def look_at_kept(node: ast.Assign, learned: Learned, is_foreign: Callable[[ast.e
 
 
 def look_at_special(node: ast.Assign, learned: Learned, is_container_class: Callable[[ast.expr], bool]) -> None:
-    """Keeps a method of a container under a name by which the language calls it, as `__call__ = dict.get` in a class."""
+    """Keeps a method of a container which the language calls by another name, as `__call__ = dict.get` in a class."""
     one, value = node.targets[0], node.value
     if not isinstance(one, ast.Name) or not isinstance(value, ast.Attribute) or not one.id.startswith("__"):
         return

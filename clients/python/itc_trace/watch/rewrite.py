@@ -27,7 +27,7 @@ from .places import DELETED, LOOPS, MADE_HERE, OF_BASE, OF_OTHERS, STATE_OF_PROC
 from .placing import placed
 from .process_state import CHANGED_STATE, LEVEL, LEVELS, PRINTED, kept_in, touched_by
 from .scopes import (
-    CLASS, COMPREHENSION, DELEGATING, FIELDS, FUNCTION, LATE, MODULE, OF_EXCEPTIONS, SCOPED, Scope, Scopes,
+    CLASS, COMPREHENSION, DELEGATING, FIELDS, FUNCTION, LATE, MODULE, OF_EXCEPTIONS, OF_SCOPES, SCOPED, Scope, Scopes,
     arguments_of, is_kept,
 )
 from .templates import field_paths
@@ -82,7 +82,7 @@ OPERATORS = {
 }
 """Functions that do what a method of their first argument does."""
 CALLED_BY_OTHERS = frozenset((
-    *OF_ATTRIBUTES, *"len sum min max any all next iter sorted list tuple set frozenset dict str repr".split(),
+    *OF_ATTRIBUTES, *"vars len sum min max any all next iter sorted list tuple set frozenset dict str repr".split(),
 ))
 """Functions of the language that are handed on, as `map(len, rows)` does, and look at what they are called with."""
 LETTING_GO = frozenset("next setattr delattr".split())
@@ -1066,7 +1066,7 @@ class Rewriter:
             node.func = copied(node.func)
             return self._call_method(node, node.func)
         if type(node.func) is ast.Name and self._is_builtin(node.func.id):
-            if node.func.id == "globals" and not node.args:
+            if not node.args and self._gives_variables(node.func.id):
                 return self._hook("after_variables", node, node)
             self._arguments_of_builtin(node, node.func.id)
         else:
@@ -1076,6 +1076,10 @@ class Rewriter:
             is_print = self._is_print(node)
             node.keywords = [self._keyword(one, is_print) for one in node.keywords]
         return node
+
+    def _gives_variables(self, name: str) -> bool:
+        """Whether a function of this name gives the variables of the module."""
+        return name == "globals" or name in OF_SCOPES and self._scope.kind is MODULE
 
     def _call_imported(self, node: ast.Call, name: str) -> ast.expr | None:
         """A call of a function of the library whose name tells what it does to its arguments.
@@ -1151,7 +1155,7 @@ class Rewriter:
             is_known = node.id in owner.defined or node.id in owner.imported
             is_handed = node.id in CALLED_BY_OTHERS if self._is_builtin(node.id) else not is_known
         elif type(node) is ast.Attribute:
-            is_handed = node.attr in METHODS or self._learned.is_field(node.attr)
+            is_handed = node.attr in METHODS or node.attr in OF_OBJECT or self._learned.is_field(node.attr)
         else:
             is_handed = type(node) in GIVEN
         return self._operand(node, "before_call") if is_handed else self._child(node)
@@ -1294,6 +1298,8 @@ class Rewriter:
             self._call_of_base(node, func)
         elif name in METHODS and has_first and self._is_container_class(owner):
             node.args = self._given_first(node, name)
+        elif name in METHODS and has_first and self._is_class_of(owner):
+            node.args = self._given_first(node, name, "method")
         elif self._is_of_logger(name) and not self._is_foreign(owner):
             func.value = self._operand(owner, "before_level", self._site(node, "field", LEVELS[name], LEVEL))
             node.args = [self._argument(one, func, owner) for one in node.args]
@@ -1458,13 +1464,19 @@ class Rewriter:
         else:
             func.value = self._hook("after_value", func.value, func.value, me, site)
 
-    def _given_first(self, node: ast.Call, name: str) -> list[ast.expr]:
+    def _is_class_of(self, node: Any) -> bool:
+        """Whether it is the class of an object, as `type(items)` is."""
+        if type(node) is ast.Attribute:
+            return node.attr == "__class__"
+        return _function_of(node) == "type" and len(node.args) == 1 and self._is_builtin("type")
+
+    def _given_first(self, node: ast.Call, name: str, what: str = "base") -> list[ast.expr]:
         """The arguments of a function that does what a method of this name of its first argument does.
 
         So `list.append(items, one)` does.
         """
         owner: Any = node.args[0]
-        site = self._site(node, "base", "", name, self._text(owner))
+        site = self._site(node, what, "", name, self._text(owner))
         given: list[Any] = node.args
         is_keyed = name in KEYED and len(given) > 1 and type(given[1]) is not ast.Starred
         rest = [self._child(one) for one in given[2 if is_keyed else 1:]]

@@ -41,7 +41,8 @@ WITHOUT_NODES = frozenset(
 )
 """Fields of nodes that have no other nodes, or none with a place in the source."""
 
-DELEGATING = frozenset(("__getattr__", "__getattribute__"))
+BY_ANOTHER = "__getattr__"
+DELEGATING = frozenset((BY_ANOTHER, "__getattribute__"))
 """Methods by which an object may give what another one has.
 
 Where a source defines one, it is among the fields that are stored.
@@ -280,7 +281,7 @@ class Scopes:
         scope = self._scope
         if type(node.ctx) is ast.Load:
             scope.used.add(node.id)
-            if node.id in passed_over.TEXTS:
+            if node.id in passed_over.NAMED:
                 self._texts.append((scope, node.id, node.id, node.lineno))
         elif scope.kind == COMPREHENSION and self._is_target:
             scope.add_bindings(node.id, FIRST_BINDING)
@@ -295,6 +296,8 @@ class Scopes:
     def _visit_Assign(self, node: ast.Assign) -> int:
         """What is bound to the value of a call is bound behind it."""
         _mark_kept(node.value)
+        if isinstance(node.value, ast.Call) and isinstance(node.value.func, ast.Name) and node.value.func.id == "super":
+            self.learned.add_field(BY_ANOTHER)  # Methods of an object are found by way of another one.
         return self._walk(node.value) | self._walk_all(node.targets)
 
     def _visit_AnnAssign(self, node: ast.AnnAssign) -> int:
@@ -397,6 +400,8 @@ class Scopes:
     def _visit_Subscript(self, node: ast.Subscript) -> int:
         """A field that is stored by way of the dictionary that has it, with its name written there."""
         owner = _owner_of_fields(node.value)
+        if isinstance(node.slice, ast.Constant) and node.slice.value == "__dict__":
+            passed_over.look_at_text("__dict__", node.lineno, self.learned)  # It may be what gives the fields.
         if type(node.ctx) is not ast.Load and owner is not None and isinstance(node.slice, ast.Constant):
             if type(node.slice.value) is str:
                 self._note_stored(node.slice.value, owner)
@@ -433,7 +438,7 @@ class Scopes:
             self._note_call(function)
             for thing in changed_by(name):
                 self.learned.add_field(CHANGED_STATE + thing)
-        if isinstance(function, ast.Name) and function.id == "globals":
+        if isinstance(function, ast.Name) and (function.id == "globals" or self._gives_module(node, function.id)):
             self.module.is_open = True
         for keyword in node.keywords:
             if keyword.arg is not None and isinstance(keyword.value, ast.Attribute) and keyword.value.attr in METHODS:
@@ -453,6 +458,10 @@ class Scopes:
         for keyword in node.keywords:
             _mark_kept(keyword.value)
         return self._walk_all(node.args) | self._walk_all(node.keywords)
+
+    def _gives_module(self, node: ast.Call, name: str) -> bool:
+        """Whether it gives the variables of the module, as `locals()` does outside of functions and classes."""
+        return name in OF_SCOPES and not node.args and self._scope.kind is MODULE
 
     def _note_call(self, function: ast.Name | ast.Attribute) -> None:
         """Another task may be there once this was called: by its name, or as it is of another module of the program."""
@@ -606,7 +615,9 @@ def mark(node: Any) -> int:
     return inside
 
 
-OF_VARIABLES = frozenset(("vars", "globals"))
+OF_SCOPES = frozenset(("vars", "locals"))
+"""Functions that give the variables of the scope which they are called in."""
+OF_VARIABLES = OF_SCOPES | {"globals"}
 """Functions that give the dictionary of what has fields, or variables."""
 
 
