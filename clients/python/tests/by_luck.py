@@ -344,7 +344,7 @@ def second():
 """
 """Each pair is told in both orders."""
 
-POLLS = """
+ASKED = """
 ## an event that is asked for
 done = threading.Event()
 def first():
@@ -353,6 +353,98 @@ def first():
 def second():
     told = "done" if done.is_set() else "at work"
     LOOK
+## an event that is asked for, and left alone
+done = threading.Event()
+def first():
+    CHANGE
+    done.set()
+def second():
+    if done.is_set(): print(end="")
+    LOOK
+## an event that is asked for by a function, which nobody asks
+done = threading.Event()
+def ready(): return done.is_set()
+def first():
+    CHANGE
+    done.set()
+def second():
+    ready()
+    LOOK
+## an event that is asked for beside something else
+done = threading.Event()
+def first():
+    CHANGE
+    done.set()
+def second():
+    if done.is_set() or shop is not None:
+        LOOK
+## an event that is asked for by a loop that may be left before
+done = threading.Event()
+def first():
+    CHANGE
+    done.set()
+def second():
+    for _ in range(3):
+        if done.is_set(): break
+    LOOK
+## an event that is asked for in a block that passes over a fault
+done = threading.Event()
+def first():
+    CHANGE
+    done.set()
+def second():
+    with contextlib.suppress(LookupError):
+        if not done.is_set(): raise LookupError
+    LOOK
+## an event that is asked for at last
+done = threading.Event()
+def first():
+    CHANGE
+    done.set()
+def second():
+    try:
+        if not done.is_set(): return
+    finally:
+        LOOK
+## an event that is asked for, and a thread that is started in any case
+done = threading.Event()
+def look():
+    LOOK
+def first():
+    CHANGE
+    done.set()
+def second():
+    print("done" if done.is_set() else "", end="")
+    looker = threading.Thread(target=look)
+    looker.start()
+    looker.join()
+## who is told no waits for something else
+done, other = threading.Event(), threading.Event()
+def first():
+    CHANGE
+    other.set()
+    done.set()
+def second():
+    if not done.is_set(): other.is_set()
+    LOOK
+## who is told no waits for so long
+done = threading.Event()
+def first():
+    CHANGE
+    done.set()
+def second():
+    if not done.is_set(): done.wait(0.001)
+    LOOK
+## an answer that is kept, and changed
+done = threading.Event()
+def first():
+    CHANGE
+    done.set()
+def second():
+    is_done = done.is_set()
+    is_done = True
+    if is_done:
+        LOOK
 ## an event that is waited for only so long
 done = threading.Event()
 def first():
@@ -371,6 +463,16 @@ def first():
 def second():
     if worker.ident: worker.join(0.001)
     LOOK
+## threads of which those are counted that are over
+def change():
+    CHANGE
+worker = threading.Thread(target=change)
+def first():
+    worker.start()
+    worker.join()
+def second():
+    len([one for one in [worker] if one.ident and not one.is_alive()])
+    LOOK
 ## a future that is asked for
 from concurrent.futures import Future
 done = Future()
@@ -379,6 +481,15 @@ def first():
     done.set_result(1)
 def second():
     told = "done" if done.done() else "at work"
+    LOOK
+## a future that was cancelled
+from concurrent.futures import Future
+done = Future()
+def first():
+    CHANGE
+    done.cancel()
+def second():
+    told = "gone" if done.cancelled() else "at work"
     LOOK
 ## a future that is waited for only so long
 from concurrent.futures import Future, wait
@@ -389,6 +500,35 @@ def first():
 def second():
     wait([done], timeout=0.001)
     LOOK
+## a result that is waited for only so long
+from concurrent.futures import Future
+done = Future()
+def first():
+    CHANGE
+    done.set_result(1)
+def second():
+    with contextlib.suppress(TimeoutError): done.result(0.001)
+    LOOK
+## a timer that is asked for
+timer = threading.Timer(0, print, kwargs={"end": ""})
+def first():
+    CHANGE
+    timer.cancel()
+def second():
+    told = timer.finished.is_set()
+    LOOK
+## a predicate that asks for an event, and is waited for only so long
+done, ready = threading.Event(), threading.Condition()
+def first():
+    CHANGE
+    done.set()
+def second():
+    with ready: ready.wait_for(lambda: done.is_set(), timeout=0.001)
+    LOOK
+"""
+"""Each pair is told in both orders: whoever asks goes on in any case."""
+
+POLLS = """
 ## a queue that may be empty
 jobs = queue.Queue()
 def first():
@@ -415,14 +555,6 @@ def first():
 def second():
     jobs.join()
     LOOK
-## a timer that is asked for
-timer = threading.Timer(0, print, kwargs={"end": ""})
-def first():
-    CHANGE
-    timer.cancel()
-def second():
-    told = timer.finished.is_set()
-    LOOK
 ## a value that whoever comes first computes
 class Table:
     @functools.cached_property
@@ -444,7 +576,197 @@ def second():
     import colorsys
     LOOK
 """
-"""A pair is told if nothing was handed over. What was asked for, and came, gives an order that is taken for meant."""
+"""A pair is told if nothing was handed over. What was taken, and was there, gives an order that is taken for meant."""
+
+ANSWERED = """
+## only a yes leads there
+done = threading.Event()
+def first():
+    shop.left -= 1
+    done.set()
+def second():
+    if done.is_set(): shop.left
+## a no leaves before
+done = threading.Event()
+def first():
+    shop.left -= 1
+    done.set()
+def second():
+    if not done.is_set(): return
+    shop.left
+## a loop goes on as long as the answer is no
+done = threading.Event()
+def first():
+    shop.left -= 1
+    done.set()
+def second():
+    while not done.is_set(): time.sleep(0.001)
+    shop.left
+## a loop is left by a yes alone
+done = threading.Event()
+def first():
+    shop.left -= 1
+    done.set()
+def second():
+    while True:
+        if done.is_set(): break
+        time.sleep(0.001)
+    shop.left
+## the answer is kept in a variable
+done = threading.Event()
+def first():
+    shop.left -= 1
+    done.set()
+def second():
+    is_done = done.is_set()
+    print(end="")
+    if is_done: shop.left
+## a function gives the answer back
+done = threading.Event()
+def is_busy(): return not done.is_set()
+def first():
+    shop.left -= 1
+    done.set()
+def second():
+    if is_busy(): return
+    shop.left
+## a property gives the answer back
+class Job:
+    def __init__(self): self.event = threading.Event()
+    @property
+    def done(self): return self.event.is_set()
+job = Job()
+def first():
+    shop.left -= 1
+    job.event.set()
+def second():
+    if job.done: shop.left
+## a function comes back behind a yes alone
+done = threading.Event()
+def until_done():
+    while not done.is_set(): time.sleep(0.001)
+def first():
+    shop.left -= 1
+    done.set()
+def second():
+    until_done()
+    shop.left
+## a function is called behind a yes
+done = threading.Event()
+def look(): deeper()
+def deeper(): shop.left
+def first():
+    shop.left -= 1
+    done.set()
+def second():
+    if done.is_set(): look()
+## a thread is started behind a yes
+done = threading.Event()
+def look(): shop.left
+def first():
+    shop.left -= 1
+    done.set()
+def second():
+    if done.is_set():
+        looker = threading.Thread(target=look)
+        looker.start()
+        looker.join()
+## who waits for so long looks at the answer
+done = threading.Event()
+def first():
+    shop.left -= 1
+    done.set()
+def second():
+    assert done.wait(timeout=1)
+    shop.left
+## a thread is joined for so long, and asked then
+def change(): shop.left -= 1
+worker = threading.Thread(target=change)
+def first():
+    worker.start()
+    worker.join()
+def second():
+    worker.join(1)
+    if worker.is_alive(): raise TimeoutError
+    shop.left
+## all of several threads are over
+def change(): shop.left -= 1
+workers = [threading.Thread(target=change)]
+def first():
+    for worker in workers: worker.start()
+    for worker in workers: worker.join()
+def second():
+    while any(worker.is_alive() for worker in workers): time.sleep(0.001)
+    shop.left
+## each of several futures is done
+from concurrent.futures import Future
+jobs = [Future()]
+def first():
+    shop.left -= 1
+    jobs[0].set_result(1)
+def second():
+    for job in jobs:
+        while not job.done(): time.sleep(0.001)
+    shop.left
+## the result is taken once it is there
+from concurrent.futures import Future
+done = Future()
+def first():
+    shop.left -= 1
+    done.set_result(1)
+def second():
+    try: done.result(timeout=1)
+    except TimeoutError: return
+    shop.left
+## who is told no waits
+done = threading.Event()
+def first():
+    shop.left -= 1
+    done.set()
+def second():
+    if not done.is_set(): done.wait()
+    shop.left
+## who is told no joins
+def change(): shop.left -= 1
+worker = threading.Thread(target=change)
+def first():
+    worker.start()
+    worker.join()
+def is_over(): return not worker.is_alive()
+def second():
+    if not is_over(): worker.join()
+    shop.left
+## what was asked for is waited for in the end
+done = threading.Event()
+def first():
+    shop.left -= 1
+    done.set()
+def second():
+    done.is_set()
+    done.wait()
+    shop.left
+## a thread that was asked for is joined in the end
+def change(): shop.left -= 1
+worker = threading.Thread(target=change)
+def first():
+    worker.start()
+    worker.join()
+def second():
+    worker.is_alive(), worker.is_alive()
+    worker.join()
+    shop.left
+## a future that was asked for is taken in the end
+from concurrent.futures import Future, wait
+done = Future()
+def first():
+    shop.left -= 1
+    done.set_result(1)
+def second():
+    wait([done], timeout=1)
+    done.result()
+    shop.left
+"""
+"""Nothing is told or counted: what looks is behind a yes."""
 
 MEANT = """
 ## whoever comes later has waited for the flag
@@ -564,9 +886,10 @@ def _lines(number: int, races: Races | list[Race]) -> set[int]:
 
 def answers() -> dict[str, dict[str, Found]]:
     """What is told of each table, in each order."""
-    tables = {"locks": programs(LOCKS), "polls": programs(POLLS)}
+    tables = {"locks": programs(LOCKS), "asked": programs(ASKED), "polls": programs(POLLS)}
     found = {name: {order: found_in(chosen, order) for order in ORDERS} for name, chosen in tables.items()}
-    return {**found, "meant": {"as hidden": found_in(programs(MEANT), "as hidden")}}
+    in_order = {"answered": ANSWERED, "meant": MEANT}
+    return {**found, **{name: {"as hidden": found_in(programs(text), "as hidden")} for name, text in in_order.items()}}
 
 
 if __name__ == "__main__":

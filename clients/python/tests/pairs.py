@@ -6,6 +6,7 @@ A group has what it is about, what one thread does, and many ways in which anoth
 from __future__ import annotations
 
 import json
+import linecache
 import os
 import re
 import sys
@@ -1800,7 +1801,9 @@ def _load(pair: Pair, name: str, lock: str) -> ModuleType:
     vars(module)["lock"] = threading.Lock()
     WATCHED.add(name)
     FILES.add(module.__file__)
-    exec(rewritten(pair.text(lock), module.__file__, name, lambda name: False), vars(module))
+    text = pair.text(lock)
+    linecache.cache[module.__file__] = len(text), None, text.splitlines(True), module.__file__
+    exec(rewritten(text, module.__file__, name, lambda name: False), vars(module))
     return module
 
 

@@ -11,7 +11,7 @@ from typing import Any
 
 from itc_trace.watch import helper
 
-from .by_luck import LOCKS, MEANT, POLLS, programs
+from .by_luck import ANSWERED, ASKED, LOCKS, MEANT, POLLS, programs
 from .support import PACKAGE, WAIT
 
 
@@ -26,7 +26,8 @@ class ByLuck(unittest.TestCase):
             for order, told in orders.items():
                 with self.subTest(table=name, order=order):
                     self.assertEqual((told["faults"], told["further"] if name != "meant" else []), ({}, []))
-        self.assertEqual([told["untold"] for told in found["locks"].values()], [[], []])
+        for name in ("locks", "asked"):
+            self.assertEqual([told["untold"] for told in found[name].values()], [[], []])
         self.assertEqual(found["polls"]["the other way"]["untold"], [])
         self.assertEqual(found["meant"]["as hidden"]["races"], [])
 
@@ -38,8 +39,8 @@ class ByLuck(unittest.TestCase):
         self.check("1")
 
     def test_there_are_forty_with_what_each_table_has(self) -> None:
-        self.assertGreaterEqual(len(programs(LOCKS)) + len(programs(POLLS)), 40)
-        texts = [one.source for table in (LOCKS, POLLS, MEANT) for one in programs(table)]
+        self.assertGreaterEqual(sum(len(programs(table)) for table in (LOCKS, ASKED, POLLS)), 40)
+        texts = [one.source for table in (LOCKS, ASKED, POLLS, ANSWERED, MEANT) for one in programs(table)]
         self.assertEqual(len(set(texts)), len(texts))
 
 

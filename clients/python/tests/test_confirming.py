@@ -11,7 +11,7 @@ import unittest
 from pathlib import Path
 
 from itc_trace import Verdict
-from itc_trace.analyse.hand_overs import hand_overs_of
+from itc_trace.analyse.hand_overs import hand_overs_of, polls_of
 from itc_trace.analyse.races import Races, Side
 from itc_trace.analyse.races import Race as FoundRace
 from itc_trace.cli.trying import plan_of
@@ -27,7 +27,7 @@ from .hidden_races import CLEAN, HIDDEN, THREADS, TOUCHES, Ran, confirmed, progr
 from .support import ProgramCase, run_traced
 
 QUICK = ("lock_field", "first_holds_element", "own_queue_length", "lock_of_condition_keys", "permits_both_count", "poll_set")
-QUICK_CLEAN = ("polled_to_the_end_length", "turns_both_count")
+QUICK_CLEAN = ("condition_length", "turns_both_count")
 UNTOLD = program(HIDDEN["lock_of_condition"], TOUCHES["field"])
 """No possible race is told of it, since somebody may wait at the condition."""
 
@@ -149,9 +149,10 @@ class FurtherRuns(unittest.TestCase):
         rows = [
             row(1, "a", thing=None, lock="#1 lock guard"), row(2, "a", thing=None, guard="#2 lock ready"),
             row(3, "a", thing=None, label="acquire semaphore"), row(4, "a", thing=None, kind="join", label="join b"),
-            row(5, "a", thing=None, kind="join", label="see the end of b"), row(6, "a", thing=None, label="set event"),
+            row(5, "a", thing=None, kind="join", label="see the end of b", asked="is_alive"),
+            row(6, "a", thing=None, label="set event"),
         ]
-        self.assertEqual(sorted(hand_overs_of(rows)), [1, 2, 3, 5])
+        self.assertEqual((sorted(hand_overs_of(rows)), sorted(polls_of(rows))), ([1, 2, 3], [5]))
 
 
 class Meetings(unittest.TestCase):

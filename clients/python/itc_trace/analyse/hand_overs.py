@@ -1,22 +1,23 @@
 """What puts touches in order by nothing but a hand-over: of a lock, also that of a condition, of a permit, or of a
-request of the process to itself. To ask by `is_alive` whether a thread is over is one, too.
+request of the process to itself. To ask whether something is over is one, too, but for what only a yes leads to.
 
 Who comes first there is luck, or was meant: a trace does not say. So such pairs are for a further run to try.
 """
 
 from __future__ import annotations
 
-from collections.abc import Iterable
+from bisect import bisect_left
+from collections import defaultdict
+from collections.abc import Iterable, Mapping
 
-from ..model.lines import POLLED, SEMAPHORE
+from ..model.answers import Behind
+from ..model.lines import SEMAPHORE
 from ..model.lock_identity import POLL
 from ..record.journal import Row
 from .trace import Events, Trace, lock_events
 
-NO_LOCKS = ("a permit", POLL)
+NO_LOCK = "# "
 """So begin the names of what is handed over and is no lock."""
-SEEN_ENDS = ("join", "recv")
-"""So the events are called by which a task sees that another one is over: the first that sees it joins."""
 _OF_PERMITS = frozenset((SEMAPHORE.giving, SEMAPHORE.taking))
 
 
@@ -36,26 +37,82 @@ def is_poll_of_library(name: str) -> bool:
 
 
 def _without_lock(row: Row) -> str | None:
-    if row.label in _OF_PERMITS:
-        return "# a permit"
-    is_poll = row.kind in SEEN_ENDS and row.label.startswith(POLLED)
-    return f"# {POLL}{row.place}" if is_poll else None
+    return f"{NO_LOCK}a permit" if row.label in _OF_PERMITS else None
 
 
-def events_without_order(trace: Trace, hand_overs: Iterable[int]) -> set[int]:
-    """The messages by which something is handed over, and the polls."""
-    numbers = set(hand_overs)
-    return lock_events(trace, numbers) | {number for number in numbers if trace[number].kind in SEEN_ENDS}
+def polls_of(rows: Iterable[Row]) -> dict[int, Row]:
+    """The events by which a task has asked whether something is over, and was told so."""
+    return {row.event: row for row in rows if row.asked}
 
 
-def known_without(trace: Trace, without: set[int]) -> list[Events]:
-    """Of each event those before it, if these give no order."""
-    known = [0]
-    for event in trace.events:
-        source = trace.source(event) if event.number in without else None
-        own = 0
-        for one in event.follows:
-            if source is None or one != source.number:
-                own |= known[one] | 1 << one
-        known.append(own)
-    return known
+def name_of_poll(row: Row) -> str:
+    return f"{NO_LOCK}{row.asked} at {row.place}"
+
+
+class Known:
+    """What comes before each touch if hand-overs give no order, and polls one of what only a yes leads to."""
+
+    def __init__(self, trace: Trace, hand_overs: Iterable[int], polls: Mapping[int, Row], rows: Iterable[Row]) -> None:
+        self._before: list[Events] = [0]
+        self._polls: dict[str, dict[Behind, _Seen]] = defaultdict(lambda: defaultdict(_Seen))
+        """Of each task what it has seen by polls."""
+        told: list[Events] = [0]
+        """What others know who come after the event."""
+        without = lock_events(trace, hand_overs)
+        places = {row.event: row for row in rows if row.thing is None} if polls else {}
+        again = _taken_in_again(trace, places.values())
+        for event in trace.events:
+            is_left_out = event.number in without or event.number in polls
+            source = trace.source(event) if is_left_out else None
+            left_out = 0 if source is None else source.number
+            known = 0
+            for one in event.follows:
+                if one != left_out:
+                    known |= (self._before if trace[one].task == event.task else told)[one] | 1 << one
+            number = again.get(event.number, left_out)
+            by_source = told[number] | 1 << number if number else 0
+            poll = polls.get(event.number)
+            if poll is not None:
+                self._polls[event.task][poll.behind].add(event.number, by_source)
+            elif event.number in again:
+                known |= by_source
+            self._before.append(known)
+            place = places.get(event.number)
+            told.append(known if place is None else self.before(place))
+
+    def has_polled(self, tasks: Iterable[str]) -> bool:
+        return any(task in self._polls for task in tasks)
+
+    def before(self, row: Row) -> Events:
+        """What comes before the touch of a row, or before what else a task does there."""
+        known = self._before[row.event]
+        for behind, seen in self._polls[row.task].items() if row.task in self._polls else ():
+            if behind.leads_to(row.file, row.line, row.function):
+                known |= seen.before(row.event)
+        return known
+
+
+def _taken_in_again(trace: Trace, rows: Iterable[Row]) -> dict[int, int]:
+    """The events at which a task takes in what it has taken in before by a poll, each with where that was given."""
+    again = {row.event: row.again for row in rows if row.again}
+    wanted = set(again.values())
+    given = {
+        name: event.number for event in trace.events if event.kind in ("send", "end")
+        if (name := f"{event.kind} {event.name if event.kind == 'send' else event.task}") in wanted
+    }
+    return {event: given[name] for event, name in again.items() if given.get(name, event) < event}
+
+
+class _Seen:
+    """What a task knows by the polls that lead to the same lines."""
+
+    def __init__(self) -> None:
+        self._events: list[int] = []
+        self._known: list[Events] = [0]
+
+    def add(self, event: int, known: Events) -> None:
+        self._events.append(event)
+        self._known.append(self._known[-1] | known)
+
+    def before(self, event: int) -> Events:
+        return self._known[bisect_left(self._events, event)]

@@ -19,7 +19,7 @@ from ..model.conflicts import CONFLICTING, INNER_READ, INNER_WRITE, MAKING, WRIT
 from ..model.finding import POSSIBLE_RACE, RACE, Finding, FoundSide, Story, runs_in_words
 from .deadlocks import Deadlock, TooMany, deadlocks_told, find_deadlocks, has_cycle
 from .fast_track import deciding_pairs
-from .hand_overs import NO_LOCKS, events_without_order, hand_overs_of, known_without
+from .hand_overs import NO_LOCK, Known, hand_overs_of, name_of_poll, polls_of
 from .looks import looks_of
 from ..record.journal import Journal, Row, read_whole
 from .kept_sources import sources_of
@@ -36,6 +36,8 @@ from .without_locks import WithoutLocks
 
 NOTHING = "nothing orders them"
 DOUBTFUL = f"{NOTHING}; whether the change goes back to a look of an earlier turn was not seen"
+MOST_APART = 4096
+"""So many touches of a thing are told apart by what only a yes leads to."""
 MOST_ORDERS = 32768
 """So many pairs of touches that decide are asked for, each by itself.
 
@@ -68,6 +70,8 @@ class Race:
     """Whether it was kept in order in this run, by luck alone."""
     is_confirmed: bool = False
     """Whether a further run, in which tasks were to meet here, had it."""
+    is_by_poll: bool = False
+    """Whether it was kept in order by no more than what the program asked for."""
     is_of_further_run: bool = False
     """Whether the run that is told of had it not, and its events are those of another one."""
     story: Story = Story()
@@ -227,7 +231,7 @@ class Races:
             len(self.deadlocks), len(self.possible_deadlocks)) + (
             f"; {len(self.meant)} silenced" if self.meant else "") + (
             f"; {len(self.known)} in the baseline" if self.known else "") + told_hidden(
-            len(self.hidden), self.tries) + listed(self.passed_over)
+            self.hidden, self.tries) + listed(self.passed_over)
 
     def summary(self) -> str:
         return (
@@ -245,12 +249,14 @@ def told_races(count: int, is_beside_known: bool) -> str:
     return f"no {word}" if count == 0 else _counted(count, word)
 
 
-def told_hidden(count: int, tries: int = 0) -> str:
+def told_hidden(hidden: Collection[Race], tries: int = 0) -> str:
     """How many pairs of lines are not told as possible races, in the last line."""
+    count = len(hidden)
     if not count:
         return ""
     what = f"tried in {runs_in_words(tries)}" if tries else "run --confirm"
-    return f"; {count} more {'pair is' if count == 1 else 'pairs are'} in order by locks alone: {what}"
+    by = " or ".join(sorted({"polls" if race.is_by_poll else "locks" for race in hidden}))
+    return f"; {count} more {'pair is' if count == 1 else 'pairs are'} in order by {by} alone: {what}"
 
 
 def told_deadlocks(count: int, possible: int) -> str:
@@ -459,29 +465,24 @@ class _Finder:
 
     def _find_hidden(self, things: list[_Thing]) -> None:
         """What hand-overs alone put in order, and is not told as possible."""
-        hand_overs = hand_overs_of(self._rows) if things else {}
-        if not hand_overs:
+        hand_overs, polls = (hand_overs_of(self._rows), polls_of(self._rows)) if things else ({}, {})
+        if not hand_overs and not polls:
             return
-        trace, events = self._trace, events_without_order(self._trace, hand_overs)
-        known = known_without(trace, events)
+        trace = self._trace
+        known = Known(trace, hand_overs, polls, self._rows)
         told = {race.key for race in (*self._found.races, *self._found.possible)}
         listed: dict[object, Race] = {}
-
-        def untold(touch: int) -> Events:
-            return ~known[touch] & ((1 << touch) - 2)
-
-        def by_hand_overs(touch: int) -> Events:
-            return trace.before[touch] & untold(touch)
-
         for thing in things:
-            for pair in racing_pairs(thing.touches, by_hand_overs, untold, True, self._is_strict, is_doubtful=None):
+            for pair in _hidden_pairs(thing.touches, trace, known, self._is_strict):
                 if _key(pair[:2]) not in told and not 0 < pair[0].loop == pair[1].loop:
                     list_pair(pair, listed)
+        names = {**hand_overs, **{event: name_of_poll(row) for event, row in polls.items()}}
+        events = lock_events(trace, hand_overs) | polls.keys()
         for race in listed.values():
-            race.is_possible = True
             first, second = race.example
             receipt = lock_that_tells(trace, events, first.event, second.event)
-            race.why = self._reason(receipt, first, second, hand_overs)
+            race.is_possible, race.is_by_poll = True, receipt in polls
+            race.why = self._reason(receipt, first, second, names)
         self._found.hidden = [race for race in in_order(listed) if race.may_meet]
 
     def _reason(self, receipt: int | None, first: Row, second: Row, names: dict[int, str] | None = None) -> str:
@@ -489,11 +490,35 @@ class _Finder:
         if lock is None:
             return "ordered in this run only by locks"
         name = lock.partition(" ")[2]
-        if name.startswith((REQUEST, *NO_LOCKS)):
+        if lock.startswith(NO_LOCK) or name.startswith((REQUEST, POLL)):
             return f"ordered in this run only by {name}"
         lacks = [lock not in touch.held for touch in (first, second)]
         who = "neither holds" if all(lacks) else "the first does not hold" if lacks[0] else "the second does not hold"
         return f"ordered in this run only by {name}, which {who}"
+
+
+def _hidden_pairs(touches: list[Row], trace: Trace, known: Known, is_strict: bool) -> Iterator[Pair]:
+    """The pairs of a thing that nothing else puts in order than what `known` leaves out.
+
+    If a task has polled, two touches of one event may know different things. So each stands for an event of its own.
+    """
+    if len(touches) <= MOST_APART and known.has_polled({row.task for row in touches}):
+        rows = [row._replace(event=number) for number, row in enumerate(touches, 1)]
+    else:
+        rows, touches = touches, []
+
+    def by_luck(touch: int) -> Events:
+        row = touches[touch - 1] if touches else next_of[touch]
+        met = trace.before[row.event] & ~known.before(row)
+        if not touches:
+            return met
+        return sum(1 << number for number, other in enumerate(touches[:touch - 1], 1) if met >> other.event & 1)
+
+    next_of = {row.event: row for row in rows}
+    for first, second, times in racing_pairs(rows, by_luck, by_luck, True, is_strict, is_doubtful=None):
+        if touches:
+            first, second = touches[first.event - 1], touches[second.event - 1]
+        yield first, second, times
 
 
 def events_of_lock(locks: dict[int, str], start: str) -> set[int]:

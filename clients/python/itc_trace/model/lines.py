@@ -12,7 +12,7 @@ from itertools import islice
 from types import CodeType
 from typing import Any, NamedTuple, Protocol
 
-from .lock_identity import LockIdentity, LockOrAsking, Signal
+from .lock_identity import LockIdentity, LockOrAsking, Poll, Signal
 from .verdict import Unseen
 
 MARK, TAKE, TAKE_END, SPAWN, FINISH, JOIN, TOUCH, LATE, GONE, SEND, RECV, STOP, CHILD, LEAVE_LOOP = range(14)
@@ -163,7 +163,7 @@ class Line:
         self.most_pending = MOST_PENDING
         """With so many of them, it looks which ones nobody can take any more."""
         self.known: dict[Line, int] = {}
-        self.known_by_locks: dict[tuple[Line, LockOrAsking], int] = {}
+        self.known_by_locks: dict[tuple[Line, LockOrAsking | Poll], int] = {}
         self.parent: Line | None = None
         self.parent_count = 0
         self.touches: TouchEvent | None = None
@@ -224,7 +224,9 @@ class Token:
     `What` or a `Signal` of any other order. Its `lock` says which of them only luck puts in order.
     """
 
-    __slots__ = ("line", "what", "code", "instruction", "last_taker", "count", "message", "time", "__weakref__")
+    __slots__ = (
+        "line", "what", "code", "instruction", "last_taker", "last_asked", "count", "message", "time", "__weakref__",
+    )
 
     def __init__(self, line: Line, what: What | LockOrAsking | Signal, code: CodeType | None, instruction: int) -> None:
         self.line = line
@@ -233,6 +235,8 @@ class Token:
         self.instruction = instruction
         self.last_taker = 0
         """The number of the line that has taken it last."""
+        self.last_asked: tuple[int, Poll] | None = None
+        """The number of the line that has seen by a poll last what it stands for, and the poll."""
         self.count = 0
         self.message: str | None = None
         self.time = 0.0

@@ -6,6 +6,7 @@ import dis
 import itertools
 from types import CodeType, FrameType
 
+from .answers import Behind
 from .file_names import name_of_file
 from .frames import is_internal, line_of
 
@@ -184,6 +185,20 @@ class Asking:
     def poll(place: str) -> Asking:
         """Code of the library asks whether a thread is over, to forget it then."""
         return Asking(f"{POLL}{place}", "end", "end", "see the end")
+
+
+class Poll:
+    """A question of the program, at one place, whether something is over. A yes gives an order.
+
+    What only a yes leads to is in this order in each run. What the task does else is so by luck.
+    """
+
+    __slots__ = ("name", "behind")
+
+    def __init__(self, name: str, behind: Behind) -> None:
+        self.name = name
+        """As `is_set`."""
+        self.behind = behind
 
 
 LockOrAsking = LockIdentity | Asking

@@ -12,6 +12,7 @@ from dataclasses import dataclass, field
 from types import CodeType
 from typing import Any, NamedTuple
 
+from ..model.answers import Behind
 from ..model.conflicts import CHANGING
 from .dividing import Border
 from ..model.file_names import name_of_file
@@ -77,6 +78,12 @@ class Row(NamedTuple):
     """The queue that the task was about to put into at this line, while it held locks."""
     undoes: str = ""
     """How the change goes with an earlier one of its task, by the source of its function."""
+    asked: str = ""
+    """The method by which the task has asked whether something is over."""
+    behind: Behind = Behind()
+    """What only a yes to that leads to."""
+    again: str = ""
+    """What the task has taken in before by such a question: `send` with a message, or `end` with a task."""
 
     @property
     def is_touch(self) -> bool:
@@ -530,10 +537,18 @@ def _row_of(read: dict[str, Any]) -> Row:
         known["shared"] = tuple(map(int, known["shared"]))
     if "at" in known:
         known["at"] = tuple((file, int(line), str(function)) for file, line, function in known["at"])
+    if "behind" in known:
+        known["behind"] = _behind_of(*known["behind"])
     row = Row(**known)
     if not isinstance(row.event, int) or not isinstance(row.task, str):
         raise TypeError("an event has a number and a task")
     return row
+
+
+def _behind_of(file: Any, first: Any, last: Any, lines: Any, names: Any) -> Behind:
+    return Behind(
+        str(file), int(first), int(last), tuple((int(one), int(other)) for one, other in lines), tuple(map(str, names)),
+    )
 
 
 def border_row(number: int, border: Border) -> str:

@@ -13,6 +13,7 @@ from typing import Any, NamedTuple
 from ..model.conflicts import MAKING, READ, WRITE
 from ..model.frames import frame_at, place, place_of
 from ..model.lines import MARK, RESULT, SPAWN, TAKE, TOUCH, Line, Note, Section, Stretch, Token, Touched, What, state
+from ..model.lock_identity import Poll
 from ..model.loop_runs import number_of_loop, take_step
 from ..model.verdict import Cause, Unseen
 from ..model.stretches import STRETCHES, TURNS, Across, leave
@@ -314,6 +315,19 @@ def take_at(token: Token | None, frame: FrameType | None) -> None:
     """The same, at the place of this frame."""
     if token is not None and (line := _taker(token)) is not None:
         _note_take(line, token, frame)
+
+
+def take_asked(token: Token | None, poll: Poll | None, depth: int = 2) -> None:
+    """The same for whoever has asked. With a poll only what a yes leads to comes after the place in each run."""
+    if poll is None:
+        take(token, depth + 1)
+    elif token is not None and (line := _taker(token)) is not None and token.last_asked != (line.number, poll):
+        note = state.note
+        if note is not None:
+            leave()
+            line.section = None
+            token.last_asked = line.number, poll
+            note((TAKE, line, token, *place(frame_at(depth)), poll))
 
 
 def _taker(token: Token) -> Line | None:

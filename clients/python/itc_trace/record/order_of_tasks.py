@@ -11,7 +11,7 @@ from types import CodeType
 from ..model.lines import (
     END, END_OF_PROCESS, GONE, JOIN, MOST_PENDING, POLLED, RESULT, TAKE, TAKE_END, Line, Note, Reporter, Token,
 )
-from ..model.lock_identity import Asking, LockIdentity, LockOrAsking
+from ..model.lock_identity import Asking, LockIdentity, LockOrAsking, Poll
 from ..model.loop_runs import STOPS, LoopRun
 from ..model.verdict import Cause, Unseen
 from .awaited import await_at_exit, take_awaited
@@ -61,6 +61,15 @@ def _is_thread_to_end(line: Line) -> bool:
     return line.end_token is not None and line.end_token.what is END and not line.has_ended
 
 
+SOURCES = {"recv": "send ", "join": "end "}
+"""What a task takes in, by how it does so: a message that was sent, or the end of another task."""
+
+
+def _lock_of(poll: Asking | Poll | None) -> Asking | None:
+    """What a poll of the library is told of as."""
+    return poll if isinstance(poll, Asking) else None
+
+
 class OrderOfTasks:
     """Reports what orders tasks. A release becomes a message once somebody may still take it and its task goes on."""
 
@@ -83,6 +92,8 @@ class OrderOfTasks:
         self._keeper: Line | None = None
         self._polled: set[tuple[Line, Line]] = set()
         """Which tasks have seen by a poll of the library that another one is over, by the message of its end."""
+        self._received: set[tuple[Line, str]] = set()
+        """Which messages and ends tasks have received by polls of the program. None is received twice."""
         self.nurseries = Nurseries(reporter, reports, names, self._message_numbers.__next__)
 
     def look_ahead(self, batch: deque[tuple[float, Note]]) -> None:
@@ -113,6 +124,7 @@ class OrderOfTasks:
         """At a border: what has ended is finished for good."""
         self._finished = [line for line in self._finished if not line.has_ended]
         self._polled.clear()
+        self._received.clear()
 
     def _is_waited_for(self, line: Line) -> None:
         """One of those who wait for it is being looked after."""
@@ -158,12 +170,33 @@ class OrderOfTasks:
             self._send(line, token)
         line.pending.clear()
 
-    def _receive(self, line: Line, token: Token, code: CodeType | None, instruction: int) -> None:
+    def _receive(
+        self, line: Line, token: Token, code: CodeType | None, instruction: int, poll: Poll | None = None,
+    ) -> None:
         self.leave(line)
         assert token.message is not None
         lock = token.what.lock
-        self._reports.report(line, "recv", token.message, code, instruction, token.what.taking, lock)
-        self._learns(line, token.line, token.count, lock)
+        self._take_in(line, "recv", token.message, code, instruction, token.what.taking, lock, poll)
+        self._learns(line, token.line, token.count, poll or lock)
+
+    def _take_in(
+        self, line: Line, kind: str, name: str, code: CodeType | None, instruction: int, label: str,
+        lock: LockOrAsking | None, poll: Asking | Poll | None,
+    ) -> Outstanding:
+        """The line receives a message, or joins a task.
+
+        Once it has done so by a poll, it knows more by a local event.
+        """
+        source = f"{SOURCES[kind]}{name}"
+        is_again = (line, source) in self._received
+        if is_again:
+            kind, name = "local", ""
+        report = self._reports.report(line, kind, name, code, instruction, label, lock)
+        report.again = source if is_again else ""
+        if isinstance(poll, Poll):
+            report.poll = poll
+            self._received.add((line, source))
+        return report
 
     def mark(self, token: Token) -> None:
         line = token.line
@@ -177,28 +210,32 @@ class OrderOfTasks:
             if len(line.pending) >= line.most_pending:
                 _forget_lost(line)
 
-    def take(self, line: Line, token: Token, code: CodeType | None, instruction: int) -> None:
+    def take(
+        self, line: Line, token: Token, code: CodeType | None, instruction: int, poll: Poll | None = None,
+    ) -> None:
         self._is_waited_for(token.line)
-        self._come_after(line, token, code, instruction)
+        self._come_after(line, token, code, instruction, poll)
 
-    def _come_after(self, line: Line, token: Token, code: CodeType | None, instruction: int) -> None:
+    def _come_after(
+        self, line: Line, token: Token, code: CodeType | None, instruction: int, poll: Poll | None = None,
+    ) -> None:
         source = token.line
-        if source is line or self._knows(line, source, token.count) or self._knows_by_lock(line, token):
+        if source is line or self._knows(line, source, token.count) or self._knows_by_lock(line, token, poll):
             return
         if token is source.end_token and _is_thread_to_end(source):
-            self._end_thread_for(line, source)
+            self._end_thread_for(line, source, poll)
         elif token.message is None and not source.has_ended and self._is_last_taker(source, token):
             self.leave(source)
             self.end(source, token.what.giving)
         is_to_join = token is source.end_token and source.joined_by is None
         if source.has_ended and (token.message is None or is_to_join):
-            self._take_ended(line, source, code, instruction, token.what.taking)
+            self._take_ended(line, source, code, instruction, token.what.taking, poll)
             return
         if token.message is None:
             self._send(source, token)
         if source.first_taker is None and token is source.end_token:
             source.first_taker = line
-        self._receive(line, token, code, instruction)
+        self._receive(line, token, code, instruction, poll)
 
     def _knows(self, line: Line, source: Line, count: int) -> bool:
         """Whether it is plain that the line comes after so many events of the other. Others are asked for."""
@@ -209,11 +246,11 @@ class OrderOfTasks:
             return source.parent_count == 0
         return parent is line or line.known.get(parent, 0) >= source.parent_count
 
-    def _knows_by_lock(self, line: Line, token: Token) -> bool:
-        """Whether the line has taken the lock from the other one since."""
-        return self._knows_by_luck(line, token.line, token.what.lock, token.count)
+    def _knows_by_lock(self, line: Line, token: Token, poll: Poll | None) -> bool:
+        """Whether the line has taken the lock from the other one since, or has asked the same."""
+        return self._knows_by_luck(line, token.line, poll or token.what.lock, token.count)
 
-    def _knows_by_luck(self, line: Line, source: Line, lock: LockOrAsking | None, count: int) -> bool:
+    def _knows_by_luck(self, line: Line, source: Line, lock: LockOrAsking | Poll | None, count: int) -> bool:
         return lock is not None and line.known_by_locks.get((source, lock), -1) >= count
 
     def _is_last_taker(self, source: Line, token: Token) -> bool:
@@ -221,14 +258,16 @@ class OrderOfTasks:
         is_at_end = source.is_finished and token is source.end_token and token.count == source.count
         return is_at_end and not self.may_be_asked_for(source) and not _is_for_pool(source)
 
-    def take_end(self, line: Line, source: Line, code: CodeType | None, instruction: int) -> None:
+    def take_end(
+        self, line: Line, source: Line, code: CodeType | None, instruction: int, poll: Poll | None = None,
+    ) -> None:
         """The line has seen that the other one is done."""
         self._is_waited_for(source)
         self._is_done(source)
         if source.end_token is None:
             source.end_token = Token(source, RESULT, code, instruction)
             self.mark(source.end_token)
-        self._come_after(line, source.end_token, code, instruction)
+        self._come_after(line, source.end_token, code, instruction, poll)
 
     def _is_done(self, line: Line) -> None:
         if not line.is_finished:
@@ -265,12 +304,13 @@ class OrderOfTasks:
             if _is_thread_to_end(line):
                 self._end_thread(line, self.may_be_asked_for(line))
 
-    def _end_thread_for(self, line: Line, child: Line) -> None:
+    def _end_thread_for(self, line: Line, child: Line, poll: Asking | Poll | None = None) -> None:
         """The line has seen that the thread is over. If others may see that too, they come after a message.
 
-        If no other task goes on, this one starts all that are to come, and they know what it knows.
+        If no other task goes on, this one starts all that are to come, and they know what it knows. If it knows that by
+        a poll, it may see it once more in another way.
         """
-        child.is_known_to_all = self._going_on == 1
+        child.is_known_to_all = self._going_on == 1 and poll is None
         is_for_main = child.is_awaited and not self._is_awaited(line)
         self._end_thread(child, not child.is_known_to_all and (is_for_main or self.may_be_asked_for(child)))
 
@@ -292,26 +332,27 @@ class OrderOfTasks:
             line.pending.clear()
 
     def join(
-        self, line: Line, child: Line, code: CodeType | None, instruction: int, poll: Asking | bool = False,
+        self, line: Line, child: Line, code: CodeType | None, instruction: int, poll: Asking | Poll | bool = False,
     ) -> None:
         """The line has joined the other one, or has seen by a poll that it is over."""
         self._is_waited_for(child)
         if child.is_process:
             child.has_ended, child.count = True, 1
-        count, luck = max(child.count, 1), poll if isinstance(poll, Asking) else None
+        count, luck = max(child.count, 1), None if isinstance(poll, bool) else poll
         if child is line or self._knows(line, child, count) or self._knows_by_luck(line, child, luck, count):
             return
         if _is_thread_to_end(child):
-            self._end_thread_for(line, child)
+            self._end_thread_for(line, child, luck)
         if child.has_ended:
             label = f"{POLLED if poll else 'join '}{child.name}"
             self._take_ended(line, child, code, instruction, label, luck)
 
     def _join_now(
-        self, line: Line, child: Line, code: CodeType | None, instruction: int, label: str, poll: Asking | None = None,
+        self, line: Line, child: Line, code: CodeType | None, instruction: int, label: str,
+        poll: Asking | Poll | None = None,
     ) -> None:
         self.leave(line)
-        report = self._reports.report(line, "join", child.name, code, instruction, label, poll)
+        report = self._take_in(line, "join", child.name, code, instruction, label, _lock_of(poll), poll)
         report.may_be_refused = child.is_process
         child.joined_by = line
         self.nurseries.joined(line, child)
@@ -319,7 +360,7 @@ class OrderOfTasks:
             child.loop_run.lines.discard(child)
         self._learns(line, child, child.count, poll)
 
-    def _learns(self, line: Line, child: Line, count: int, lock: LockOrAsking | None) -> None:
+    def _learns(self, line: Line, child: Line, count: int, lock: LockOrAsking | Poll | None) -> None:
         """The line comes after so many events of the other one: by luck, if that was by a lock or by a poll."""
         if lock is None:
             line.known[child] = count
@@ -327,7 +368,8 @@ class OrderOfTasks:
             line.known_by_locks[child, lock] = count
 
     def _take_ended(
-        self, line: Line, child: Line, code: CodeType | None, instruction: int, label: str, poll: Asking | None = None,
+        self, line: Line, child: Line, code: CodeType | None, instruction: int, label: str,
+        poll: Asking | Poll | None = None,
     ) -> None:
         token = child.end_token
         if child.is_forgotten:
@@ -349,15 +391,15 @@ class OrderOfTasks:
 
     def _receive_end(
         self, line: Line, child: Line, end: Token, code: CodeType | None, instruction: int, label: str,
-        poll: Asking | None,
+        poll: Asking | Poll | None,
     ) -> None:
         """Another task has joined the child: the line comes after the message of its end."""
         assert end.message is not None
         self.leave(line)
-        report = self._reports.report(line, "recv", end.message, code, instruction, label, poll)
+        report = self._take_in(line, "recv", end.message, code, instruction, label, _lock_of(poll), poll)
         report.may_be_refused = child.is_process
         self._learns(line, child, end.count, poll)
-        if poll is not None:
+        if isinstance(poll, Asking):
             self._polled.add((line, child))
 
     def gone(self, line: Line) -> None:

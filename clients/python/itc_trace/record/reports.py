@@ -7,7 +7,7 @@ from collections import deque
 from types import CodeType
 
 from ..model.lines import Line, TouchEvent
-from ..model.lock_identity import LockIdentity, LockOrAsking
+from ..model.lock_identity import LockIdentity, LockOrAsking, Poll
 from .connection import Connection
 from .dividing import Report, request
 from .touch_journal import TouchJournal
@@ -20,7 +20,7 @@ class Outstanding:
 
     __slots__ = (
         "text", "task", "kind", "name", "code", "instruction", "label", "lock", "time", "touches", "waiter",
-        "may_be_refused", "guard",
+        "may_be_refused", "guard", "poll", "again",
     )
 
     def __init__(self, text: str, task: str, kind: str, name: str, code: CodeType | None, instruction: int, label: str,
@@ -39,6 +39,10 @@ class Outstanding:
         self.may_be_refused = False
         self.guard: LockIdentity | None = None
         """The lock that a message between processes hands over."""
+        self.poll: Poll | None = None
+        """By what the program has asked for it."""
+        self.again = ""
+        """The message or the end that its task has taken in before, by a poll."""
 
 
 class Reports:

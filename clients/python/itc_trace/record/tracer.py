@@ -5,6 +5,7 @@ from __future__ import annotations
 import contextlib
 import errno
 import itertools
+import json
 import sys
 import threading
 import time
@@ -306,6 +307,13 @@ class Tracer:
 
         If others wait at its condition, or are processes, that is not told as luck.
         """
+        again = f',"again":"{report.again}"' if report.again else ""
+        if report.poll is not None:
+            file, first, last, lines, names = report.poll.behind
+            behind = json.dumps([file, first, last, lines, names], separators=(",", ":"))
+            return f',"asked":"{report.poll.name}","behind":{behind}{again}'
+        if again:
+            return again
         if report.guard is not None:
             return f',"guard":{self._texts.lock(report.guard)}'
         if report.lock is None:

@@ -158,6 +158,7 @@ class Merged:
         deadlocks = told_deadlocks(len(self._deadlocks), len(self._only_possible_deadlocks))
         silenced = f"; {len(self._meant)} silenced" if self._meant else ""
         known = f"; {len(self._known)} in the baseline" if self._known else ""
-        hidden = told_hidden(len(self._only_hidden), self.tries)
+        examples = [often.example for often in self._only_hidden.values()]
+        hidden = told_hidden([one for one in examples if isinstance(one, Race)], self.tries)
         told = f"{possible}{deadlocks}{silenced}{known}{hidden}{listed(self.passed_over)}"
         return f"{found} in {seen}{runs_in_words(self.runs)}{told}"

@@ -16,12 +16,15 @@ from typing import Any
 
 from .handed_on import called, handed_at, watched_place
 from ..model.lines import CALLBACK, FINISH, RESULT, SPAWN, SUBMIT, TAKE_END, WORKER, LateJob, Line, Token, state
-from ..record.noting import current, enter, joining, local, mark, starting, take, without_own_frame
+from ..model.answers import NOTHING, YES
+from ..record.noting import current, enter, joining, local, mark, starting, take, take_asked, without_own_frame
 from ..model.frames import frame_at, is_internal, place
+from ..model.lock_identity import Poll
 from ..record.messages import incoming_at
 from .base import Patches, like, named_like
 from .jobs_of_pools import JobsOfPool, jobs_of
 from .left_behind import Outcome, begun, taken
+from .polls import poll_at
 from ..record.awaited import await_at_exit
 
 _DONE = {base.CANCELLED, base.CANCELLED_AND_NOTIFIED, base.FINISHED}
@@ -52,13 +55,13 @@ def put(patches: Patches) -> None:
 # Results
 
 
-def take_result(future: Any, depth: int = 2) -> None:
-    """From now on the current task comes after whatever gave the future its result."""
+def take_result(future: Any, depth: int = 2, poll: Poll | None = None) -> None:
+    """From now on the current task comes after whatever gave the future its result, or has seen that by a poll."""
     taken(future)
     if getattr(future, "_itc_message", None) is not None:  # It is no future of asyncio.
         incoming_at(future._itc_message, frame_at(depth))
     elif future._itc_token is not None:
-        take(future._itc_token, depth + 1)
+        take_asked(future._itc_token, poll, depth + 1)
     else:
         for source in future._itc_sources:
             take_any(source, depth + 1)
@@ -154,7 +157,7 @@ def _result(original: Any) -> Any:
             without_own_frame(error)
             self = None  # The future's exception refers to this frame.
             raise
-        take_result(self)
+        take_result(self, poll=None if timeout is None else poll_at(frame_at(1), original.__name__, None))
         return told
 
     return result
@@ -166,7 +169,7 @@ def _seeing(original: Any) -> Any:
     def see(self: Any) -> bool:
         is_so = bool(original(self))
         if is_so and not is_internal(frame_at(1)):
-            take_result(self)
+            take_result(self, poll=poll_at(frame_at(1), original.__name__, YES))
         return is_so
 
     return see
@@ -198,8 +201,9 @@ def _called_back(callback: Any, token: Token | None) -> Any:
 def _wait(original: Any) -> Any:
     def wait(fs: Any, timeout: float | None = None, return_when: str = base.ALL_COMPLETED) -> Any:
         told = original(fs, timeout, return_when)
+        poll = None if timeout is None else poll_at(frame_at(1), "wait", NOTHING)
         for future in told.done:
-            take_result(future)
+            take_result(future, poll=poll)
         return told
 
     return wait

@@ -11,15 +11,19 @@ from typing import Any
 
 from .handed_on import called, handed_at
 from ..model.lines import BARRIER, EVENT, FINISH, JOIN, NOTIFY, SEMAPHORE, SPAWN, Line, state
-from ..record.noting import are_in_place, are_replaced, enter, joining, local, mark, starting, take, thread_name
+from ..model.answers import NO, NOTHING, YES
+from ..record.noting import (
+    are_in_place, are_replaced, enter, joining, local, mark, starting, take, take_asked, thread_name,
+)
 from ..model.frames import frame_at, is_internal, line_of, place
-from ..model.lock_identity import Asking
+from ..model.lock_identity import Asking, Poll
 from .base import Patches, like
 from .left_behind import ended, started
 from ..record.awaited import await_at_exit
 from .locks import (
     IS_CALLED, QUIET, OnePermit, TracedLock, TracedRLock, allocate_lock, gave, is_of_condition, took,
 )
+from .polls import poll_at
 from .python_rlocks import known_lock, new_rlock, rlock_of_condition
 from .waiters import Waiters
 
@@ -179,7 +183,7 @@ def _join(original: Any) -> Any:
         if line is None or self is threading.main_thread():
             take(self.__dict__.get("_itc_end"))  # That is the main thread's.
         elif state.note is not None and _has_seen_end(self):
-            _note_join(self, line)
+            _note_join(self, line, timeout is not None and poll_at(frame_at(1), "join", NOTHING) or False)
         return None
 
     return join
@@ -212,20 +216,20 @@ _polls: dict[str, Asking] = {}
 """Of each place of the library that asks whether threads are over."""
 
 
-def _poll_of(frame: FrameType | None) -> Asking | bool:
+def _poll_of(frame: FrameType | None) -> Asking | Poll | bool:
     """What a poll is known by that the library makes for itself. `socketserver` forgets threads that are over.
 
-    One of the program is no more than a poll.
+    One of the program is no more than a poll, or is meant if it does nothing more but behind a yes.
     """
     module = "" if frame is None else str(frame.f_globals.get("__name__", "")).partition(".")[0]
     if frame is None or module not in sys.stdlib_module_names:
-        return True
+        return poll_at(frame, "is_alive", NO) or True
     code, instruction = place(frame)
     where = f"{module}.py:{line_of(code, instruction)}" if code is not None else module
     return _polls.setdefault(where, Asking.poll(where))
 
 
-def _note_join(thread: threading.Thread, line: Line, poll: Asking | bool = False) -> None:
+def _note_join(thread: threading.Thread, line: Line, poll: Asking | Poll | bool = False) -> None:
     note = state.note
     if note is None or line.tracer is not state.tracer:
         return
@@ -402,7 +406,7 @@ def _event_wait(original: Any) -> Any:
                 finally:
                     token = self._cond._waiters.woken()
         if is_on:
-            take(token)
+            take_asked(token, None if timeout is None else poll_at(frame_at(1), "wait", YES))
         return is_on
 
     return wait
@@ -416,7 +420,7 @@ def _event_is_set(original: Any) -> Any:
         while token is not self._itc_token:
             token, is_on = self._itc_token, bool(original(self))
         if is_on and token is not None and not is_internal(frame_at(1)):
-            take(token)
+            take_asked(token, poll_at(frame_at(1), "is_set", YES))
         return is_on
 
     return is_set
