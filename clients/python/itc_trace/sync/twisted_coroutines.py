@@ -68,7 +68,7 @@ class _Step:
         self._is_first, self._has_waited_once = flow.steps == 0, flow.steps == 1
         flow.steps += 1
         call = Call(flow, origin, hands_on=False)
-        call.status, call.is_at_once = status, self._is_first or self._has_waited_once
+        call.status = status
         call.begin()
         self._call = call
         line_of_now()

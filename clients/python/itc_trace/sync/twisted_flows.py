@@ -107,7 +107,7 @@ class Call:
     """A call by the reactor, by a Deferred or of a coroutine: its flow, if it has one, and what it comes after."""
 
     __slots__ = (
-        "flow", "origin", "hands_on", "has_asked", "status", "woken", "is_wake", "is_at_once", "chain", "_outer",
+        "flow", "origin", "hands_on", "has_asked", "status", "woken", "is_wake", "chain", "_outer",
         "_line", "_turn", "_task", "_chain_before",
     )
 
@@ -125,8 +125,6 @@ class Call:
         self.woken: tuple[Flow, Places] | None = None
         """The coroutine that was woken by this call in its first wait, and where it waits again."""
         self.is_wake = False
-        self.is_at_once = False
-        """Whether whoever calls goes on behind it, by that it is called at once. Its turn has a number below 0."""
         self.chain = chain
         self._outer: Call | None = None
         self._line: Line | None = None
@@ -145,8 +143,7 @@ class Call:
         here.call = self
         leave()
         local.line = None
-        number = next(TURN_NUMBERS)
-        TURNS[thread] = -number if self.is_at_once else number
+        TURNS[thread] = next(TURN_NUMBERS)
         if self.chain is not None:
             self._chain_before = chains.begin(self.chain)
 

@@ -53,7 +53,6 @@ def _repeat(original: Any) -> Any:
         woken = gives(WAKE) if known.has_own_timer else ()
         call = Call(known.flow, merged(known.origin, woken), hands_on=False)
         known.origin = ()
-        call.is_at_once = not known.last
         call.begin()
         try:
             return original(self)
