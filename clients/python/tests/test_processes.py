@@ -148,6 +148,21 @@ for _ in range(2):
 early.join()
 write()
 """
+TOLD_ANOTHER = """import multiprocessing, os, threading, time
+context = multiprocessing.get_context("fork")
+total = context.RawValue("i", 0)
+def work():
+    total.value = 1
+    time.sleep(0)  # as long as nobody waits
+if __name__ == "__main__":
+    child = context.Process(target=work)
+    child.start()
+    reaper = threading.Thread(target=os.waitpid, args=(child.pid, 0), daemon=True)
+    reaper.start()
+    time.sleep(0.2)
+    child.join(5)
+    print(total.value)
+"""
 
 
 @unittest.skipUnless(hasattr(os, "fork"), "there is no fork here")
@@ -182,6 +197,10 @@ class Starts(ProgramCase):
                 told = self.assert_verdict(Verdict.RACES, TWO_JOIN, method)
                 self.assertRegex(told, "race on behind\n")
                 self.assertEqual(told.count("race on"), 1, told)
+
+    def test_who_joins_for_so_long_comes_after_a_child_whose_end_another_thread_was_told(self) -> None:
+        self.assert_verdict(Verdict.NO_RACE, TOLD_ANOTHER)
+        self.assert_verdict(Verdict.RACES, TOLD_ANOTHER.replace("child.join(5)", "child.join(0.01)").replace("sleep(0)", "sleep(2)"))
 
     def test_a_parent_that_does_not_wait_races_with_its_child(self) -> None:
         told = self.assert_verdict(Verdict.RACES, STARTS_AND_JOINS.replace("JOINING", "pass"), "fork", "later")

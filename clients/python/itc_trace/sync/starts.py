@@ -4,6 +4,7 @@ from __future__ import annotations
 
 import os
 import threading
+from time import monotonic
 from types import ModuleType
 from typing import Any
 
@@ -150,9 +151,12 @@ def _line_of(process: Any) -> Line | None:
 
 def _join(original: Any) -> Any:
     def join(self: Any, timeout: float | None = None) -> None:
+        begun = monotonic()
         original(self, timeout)
-        # Another thread may have been told the end, and has not noted it yet.
-        is_over = timeout is None or self._popen is not None and self._popen.returncode is not None
+        # Another thread may have been told the end, and nobody else is told it. Who comes back before the time is over
+        # has seen it.
+        is_told = self._popen is not None and self._popen.returncode is not None
+        is_over = timeout is None or is_told or monotonic() - begun < timeout
         if _line_of(self) is not None and is_over:
             following.has_ended(_line_of(self))
 
