@@ -11,6 +11,7 @@ import json
 import sys
 from typing import NamedTuple
 
+from .as_written import AS_WRITTEN
 from .constructs import Construct, lines_told
 from .pairs import Pair, races_of
 from .queues_looked_into import QUEUES_LOOKED_INTO
@@ -1438,7 +1439,7 @@ def run():
 with self.ready: return min => return min
 """
 
-TABLES = (QUEUES, LOCKS, STARTS, FUTURES, LOOPS, LIBRARY, QUEUES_LOOKED_INTO)
+TABLES = (QUEUES, LOCKS, STARTS, FUTURES, LOOPS, LIBRARY, QUEUES_LOOKED_INTO, AS_WRITTEN)
 RACE, POSSIBLE = "race", "possible"
 
 
