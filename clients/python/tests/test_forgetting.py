@@ -25,6 +25,7 @@ from itc_trace.record.order_of_tasks import OrderOfTasks
 from itc_trace.record.own_threads import start_thread
 from itc_trace.record.touch_journal import TouchJournal
 from itc_trace.record.touch_rows import BITS, MOST_BY_ONE, MOST_KEPT, MOST_OF_EVENT, MOST_READ
+from itc_trace.watch.helper import quick
 from itc_trace.watch.things import number_of
 
 from .support import ProgramCase, run_traced, wait_until
@@ -392,7 +393,32 @@ print(len(things.MADE) < 400, len(kept), all(kept))
 """
 
 
+CIRCLES = """
+import gc, sys, threading
+sys.setswitchinterval(1e-6)
+most = [0]
+class Node:
+    def __init__(self):
+        self.own = self
+def make():
+    for _ in range(8000):
+        Node()
+        made = gc.get_count()[0]
+        if made > most[0]:
+            most[0] = made
+threads = [threading.Thread(target=make) for _ in range(2)]
+for thread in threads: thread.start()
+for thread in threads: thread.join()
+print(most[0] < 2 * gc.get_threshold()[0] + 100, most[0])
+"""
+
+
 class Made(ProgramCase):
+    @unittest.skipIf(quick is None, "the hooks here are those in Python, which others may interrupt")
+    def test_no_other_thread_makes_garbage_while_some_is_collected(self) -> None:
+        ran = run_traced("--quiet", self.program(CIRCLES))
+        self.assertEqual(ran.stdout.split()[:1], ["True"], ran.stdout + ran.stderr)
+
     def test_where_an_object_was_made_is_forgotten_with_it_but_for_its_finalizer(self) -> None:
         for pure in ("", "1"):
             with self.subTest(hooks="Python" if pure else "C"):

@@ -10,6 +10,8 @@ What is LEFT is left to Python, whoever refers to it.
 
 MOST_HELD = 20_000
 LOOKED_THROUGH = 2
+OLDEST = 2
+"""The last generation of the collector of garbage."""
 LOOKED_THROUGH_AT_ONCE = 64
 SHORTENED_AT = 64
 """So many more stretches have touched an owner when it is tried to keep them in short."""

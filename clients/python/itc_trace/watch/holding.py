@@ -16,10 +16,8 @@ from threading import get_ident
 from time import monotonic, sleep
 from typing import Any
 
-from .both_languages import LOOKED_THROUGH, MOST_HELD
+from .both_languages import LOOKED_THROUGH, MOST_HELD, OLDEST
 
-OLDEST = 2
-"""The last generation of the collector of garbage."""
 FIRST_LOOKED_AT = 1
 """Rings are let go of by collections of this generation and of older ones."""
 HAS_COLLECTION = 1 << 14

@@ -562,6 +562,28 @@ static void let_go_of_all(void)
         Py_DECREF(take_held());
 }
 
+/* The thread that collects garbage now, and 0 if none does. */
+static unsigned long collecting_thread;
+
+/* Is called before and behind each collection of garbage. No other thread goes on meanwhile, unless an owner is left that
+   has things: what another one makes during a collection is looked at by none before the next one. */
+static PyObject *collecting(PyObject *self, PyObject *const *words, Py_ssize_t count)
+{
+    if (count != 2 || !PyUnicode_Check(words[0]) || !PyDict_Check(words[1]))
+        return PyErr_Format(PyExc_TypeError, "a phase and what was found are wanted");
+    int is_start = PyUnicode_CompareWithASCIIString(words[0], "start") == 0;
+    collecting_thread = is_start ? PyThread_get_thread_ident() : 0;
+    PyObject *generation = is_start ? PyDict_GetItemString(words[1], "generation") : NULL;
+    if (generation != NULL && let_go_of_some(PyLong_AsLong(generation) == OLDEST ? MOST_HELD : LOOKED_THROUGH) < 0)
+        return NULL;
+    Py_RETURN_NONE;
+}
+
+static PyObject *is_collecting(PyObject *self, PyObject *ignored)
+{
+    return PyBool_FromLong(collecting_thread == PyThread_get_thread_ident());
+}
+
 static PyObject *owners_let_go(PyObject *self, PyObject *most)
 {
     size_t count = PyLong_AsSize_t(most);
@@ -2861,6 +2883,7 @@ static PyMethodDef methods[] = {
     {"forget", forget, METH_NOARGS, NULL}, {"left_in_the_middle", left_in_the_middle, METH_O, NULL},
     {"lock_methods", (PyCFunction)(void (*)(void))lock_methods, METH_VARARGS | METH_KEYWORDS, NULL},
     {"know_queues", (PyCFunction)(void (*)(void))know_queues, METH_VARARGS | METH_KEYWORDS, NULL},
+    FAST("collecting", collecting), {"is_collecting", is_collecting, METH_NOARGS, NULL},
     FAST("note_put", note_put), FAST("note_got", note_got), {"again", again, METH_O, NULL},
     {"is_taken", is_taken, METH_O, NULL},
     {NULL},

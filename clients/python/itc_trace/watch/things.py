@@ -25,10 +25,10 @@ from ..model.frames import line_of
 from ..model.lines import Line, Touched, state
 from ..record.noting import line_of_now
 from ..model.stretches import SITES
-from .both_languages import LOOKED_THROUGH, MOST_HELD, MOST_MADE
+from .both_languages import LOOKED_THROUGH, MOST_MADE
 from .decisions import class_with, fields_of, is_of, name_of
 from .helper import quick
-from .holding import OLDEST, REFERENCES_OF_HELD, Held
+from .holding import REFERENCES_OF_HELD, Held
 from .keys import UNKNOWN
 from .places import ACCESSES
 from .seen import NEVER
@@ -271,16 +271,23 @@ _collecting: set[int] = set()
 """The threads that collect garbage now."""
 
 
-def collecting(phase: str, found: dict[str, int]) -> None:
+def _collect(phase: str, found: dict[str, int]) -> None:
     """What nobody else holds goes when the garbage is collected, and all of it if all garbage is."""
     if phase == "stop":
         _collecting.discard(get_ident())
     else:
         _collecting.add(get_ident())
-    if quick is None:
-        HELD.collecting(phase, found["generation"])
-    elif phase == "start":
-        quick.OWNERS.let_go_of_some(MOST_HELD if found["generation"] == OLDEST else LOOKED_THROUGH)
+    HELD.collecting(phase, found["generation"])
+
+
+def _is_collecting() -> bool:
+    return get_ident() in _collecting
+
+
+collecting: Callable[[str, dict[str, int]], None] = _collect if quick is None else quick.collecting
+"""Is called before and behind each collection. That in C lets no other thread go on, which would make more garbage."""
+is_collecting: Callable[[], bool] = _is_collecting if quick is None else quick.is_collecting
+"""Whether this thread collects garbage now."""
 
 
 _finalized: list[int] = []
@@ -305,7 +312,7 @@ def let_go_of(one: Any, references: int) -> None:
     if not _finalized:
         _finalized.append(references)
         return
-    if references > _finalized[0] and get_ident() not in _collecting:
+    if references > _finalized[0] and not is_collecting():
         return
     _forget(id(one))
     fields = fields_of(one)
