@@ -7,6 +7,8 @@ NO_TOUCH, OF_FIELD, OF_SHAPE, OF_DICT, OF_LIST, OTHER, IF_OWN, OWN_OR_OF_CLASS, 
 
 What is LEFT is left to Python, whoever refers to it.
 """
+FIELD_IN_PLACE, DICT_IN_PLACE, LIST_IN_PLACE = range(11, 14)
+"""The same of an assignment as `+=`, which may change a container in place that stands there."""
 
 MOST_HELD = 20_000
 LOOKED_THROUGH = 2

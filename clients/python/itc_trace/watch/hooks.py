@@ -41,8 +41,8 @@ from ..record.noting import begin_stretch, lost, touched_all
 from ..model.stretches import STRETCHES
 from . import begun_loops
 from .both_languages import (
-    DEEP, IF_OWN, LEFT, LOOKED_THROUGH_AT_ONCE, MOST_BEGUN, NO_TOUCH, OF_DICT, OF_FIELD, OF_LIST, OF_SHAPE, OF_STEPS,
-    OTHER, OWN_OR_OF_CLASS,
+    DEEP, DICT_IN_PLACE, FIELD_IN_PLACE, IF_OWN, LEFT, LIST_IN_PLACE, LOOKED_THROUGH_AT_ONCE, MOST_BEGUN, NO_TOUCH,
+    OF_DICT, OF_FIELD, OF_LIST, OF_SHAPE, OF_STEPS, OTHER, OWN_OR_OF_CLASS,
 )
 from .decisions import (
     AS_KEY, BY_ELEMENTS, BY_GETTER, COMPOSED, FIELD, FILES, OF_CLASS, OF_CLASS_ALONE, OF_LOCAL, OF_METHOD,
@@ -1615,7 +1615,7 @@ def _what_of_object(kind: type, access: Access, site: int) -> What:
 def _what_of_field(kind: type, access: Access, site: int) -> What:
     found = decision(kind, access, site)
     if access.kinds == "rw" and (access.text or found == OF_CLASS) and found != SKIP:
-        return OTHER, None, "", ""
+        return FIELD_IN_PLACE if found == FIELD and access.what == "field" else OTHER, None, "", access.name
     what = {SKIP: NO_TOUCH, FIELD: OF_FIELD, OWN_FIELD: IF_OWN, OF_CLASS: OWN_OR_OF_CLASS}.get(found, OTHER)
     return what, None, "", access.name
 
@@ -1665,14 +1665,14 @@ def _what_of_key(kind: type, family: int, access: Access) -> What:
     kinds = KEYED.get(access.name, {}).get(family, "") if is_method else without_own(kind, access.kinds)
     if not is_method and not kinds:
         return NOT_TOUCHED
-    if not is_method and access.words:
-        return OTHER, None, access.text, ""
+    is_in_place = not is_method and bool(access.words)
     if kind is dict and kinds:
         kinds, if_there = (ADDED, FOUND) if access.name == SETDEFAULT and is_method else (kinds, kinds)
         change = ADDITION if kinds == "d" else REPLACEMENT
-        return OF_DICT, (key_late, kinds, change, if_there, ADDITION), access.text, ""
+        what = DICT_IN_PLACE if is_in_place else OF_DICT
+        return what, (key_late, kinds, change, if_there, ADDITION), access.text, ""
     if kind is list and kinds in ("r", "w", "rw"):
-        return OF_LIST, (index_late, kinds), access.text, ""
+        return LIST_IN_PLACE if is_in_place else OF_LIST, (index_late, kinds), access.text, ""
     return OTHER, None, access.text, ""
 
 

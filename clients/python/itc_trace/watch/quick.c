@@ -565,8 +565,8 @@ static void let_go_of_all(void)
 /* The thread that collects garbage now, and 0 if none does. */
 static unsigned long collecting_thread;
 
-/* Is called before and behind each collection of garbage. No other thread goes on meanwhile, unless an owner is left that
-   has things: what another one makes during a collection is looked at by none before the next one. */
+/* Is called before and behind each collection of garbage. No other thread goes on meanwhile, unless an owner is left
+   that has things: what another one makes during a collection is looked at by none before the next one. */
 static PyObject *collecting(PyObject *self, PyObject *const *words, Py_ssize_t count)
 {
     if (count != 2 || !PyUnicode_Check(words[0]) || !PyDict_Check(words[1]))
@@ -895,25 +895,53 @@ static int has_own(PyObject *one, PyObject *field)
     return is_own;
 }
 
-/* What an object itself has by a name, or something else if it has none. Whoever asks for the dictionary of an object
-   has the interpreter make one: from then on its attributes are found more slowly. What is not plain is left to
-   Python. */
+/* What an object itself has by a name: a new reference, or nothing if it has none, or if that is not plain. Whoever
+   asks for the dictionary of an object has the interpreter make one: from then on its attributes are found more
+   slowly. */
+static PyObject *find_own(PyObject *one, PyObject *name, int *is_plain)
+{
+    PyTypeObject *type = Py_TYPE(one);
+    PyObject *of_dictionary = _PyType_Lookup(type, text_dict);
+    PyObject *of_class = PyUnicode_CheckExact(name) ? _PyType_Lookup(type, name) : NULL;
+    *is_plain = PyUnicode_CheckExact(name) && PyType_HasFeature(type, Py_TPFLAGS_MANAGED_DICT)
+        && of_dictionary != NULL && Py_TYPE(of_dictionary) == &PyGetSetDescr_Type
+        && (of_class == NULL || Py_TYPE(of_class)->tp_descr_get == NULL);
+    PyObject *found = *is_plain ? _PyObject_GenericGetAttrWithDict(one, name, NULL, 1) : NULL;
+    if (found != NULL && found == of_class) {
+        *is_plain = 0;
+        Py_CLEAR(found);
+    }
+    return found;
+}
+
+/* The same for the Python part. It gives something else if there is none, and finds out itself what is not plain. */
 static PyObject *own_value(PyObject *self, PyObject *const *words, Py_ssize_t count)
 {
+    int is_plain;
     if (count != 3)
         return PyErr_Format(PyExc_TypeError, "an object, a name and what stands for none are wanted");
-    PyObject *one = words[0], *name = words[1], *of_dictionary = _PyType_Lookup(Py_TYPE(one), text_dict);
-    PyObject *of_class = PyUnicode_CheckExact(name) ? _PyType_Lookup(Py_TYPE(one), name) : NULL;
-    if (!PyUnicode_CheckExact(name) || !PyType_HasFeature(Py_TYPE(one), Py_TPFLAGS_MANAGED_DICT)
-        || of_dictionary == NULL || Py_TYPE(of_dictionary) != &PyGetSetDescr_Type
-        || (of_class != NULL && Py_TYPE(of_class)->tp_descr_get != NULL))
-        Py_RETURN_NOTIMPLEMENTED;
-    PyObject *found = _PyObject_GenericGetAttrWithDict(one, name, NULL, 1);
-    if (found == NULL)
-        return PyErr_Occurred() ? NULL : Py_NewRef(words[2]);
-    if (found == of_class)
-        Py_SETREF(found, Py_NewRef(Py_NotImplemented));
-    return found;
+    PyObject *found = find_own(words[0], words[1], &is_plain);
+    if (found != NULL || PyErr_Occurred())
+        return found;
+    return Py_NewRef(is_plain ? words[2] : Py_NotImplemented);
+}
+
+/* What cannot change is no thing that tasks share. */
+static inline int is_plain_value(PyObject *one)
+{
+    return PyLong_CheckExact(one) || PyFloat_CheckExact(one) || PyUnicode_CheckExact(one) || one == Py_None
+        || PyBool_Check(one);
+}
+
+/* Whether an assignment as `+=` puts another value there, since none stands there that could be changed in place. */
+static int is_put_anew(PyObject *one, PyObject *name)
+{
+    int is_plain;
+    PyObject *found = find_own(one, name, &is_plain);
+    is_plain = found != NULL && is_plain_value(found);
+    Py_XDECREF(found);
+    PyErr_Clear();
+    return is_plain;
 }
 
 /* Keeping touches. */
@@ -1098,7 +1126,11 @@ static PyObject *touch_field(PyObject *one, PyObject *site, Py_ssize_t limit, co
     if (owner == NULL ? Py_REFCNT(one) <= limit
         : is_seen_last(owner, decision, NULL) || is_seen_at(owner, decision, site, NULL))
         return Py_NewRef(one);
-    if (what == IF_OWN || what == OWN_OR_OF_CLASS) {
+    if (what == FIELD_IN_PLACE) {
+        PyObject *field = Py_NewRef(decision->field);
+        what = is_put_anew(one, field) ? OF_FIELD : OTHER;
+        Py_DECREF(field);
+    } else if (what == IF_OWN || what == OWN_OR_OF_CLASS) {
         /* A look into an object's own fields may have it decided anew. */
         PyObject *field = Py_NewRef(decision->field);
         int is_own = has_own(one, field);
@@ -1221,12 +1253,28 @@ static PyObject *late_of_index(PyObject *key, PyObject *site, PyObject *made)
     return PyTuple_Pack(5, PyTuple_GET_ITEM(made, 0), key, key, PyTuple_GET_ITEM(made, 1), site);
 }
 
+/* What a place that touches an element is, if the key is plain. */
+static int what_of_key(PyObject *one, PyObject *key, int what)
+{
+    if (what != DICT_IN_PLACE && what != LIST_IN_PLACE)
+        return what;
+    PyObject *value = NULL;
+    if (what == DICT_IN_PLACE)
+        value = PyDict_GetItemWithError(one, key);
+    else if (PyLong_CheckExact(key)) {
+        Py_ssize_t place = PyLong_AsSsize_t(key);
+        value = place >= 0 && place < PyList_GET_SIZE(one) ? PyList_GET_ITEM(one, place) : NULL;
+    }
+    PyErr_Clear();
+    return value == NULL || !is_plain_value(value) ? OTHER : what == DICT_IN_PLACE ? OF_DICT : OF_LIST;
+}
+
 /* A key that is looked up without any code of the program. */
-static int saw_key(PyObject *one, PyObject *key, PyObject *site, PyObject *mark, Decision *decision)
+static int saw_key(PyObject *one, PyObject *key, PyObject *site, PyObject *mark, Decision *decision, int what)
 {
     int is_repeated = 1;
     PyObject *made = Py_NewRef(decision->late), *name = Py_NewRef(decision->name);
-    PyObject *late = decision->what == OF_DICT
+    PyObject *late = what == OF_DICT
         ? late_of_key(one, key, site, made, &is_repeated) : late_of_index(key, site, made);
     int result = late == NULL ? -1 : see_as(one, mark, late, name, is_repeated);
     Py_XDECREF(late);
@@ -1255,7 +1303,7 @@ static PyObject *touch_keyed(PyObject *one, PyObject *key, PyObject *site, Py_ss
         return Py_NewRef(back);
     int result = -1;
     PyObject *mark = NULL;
-    if (is_simple(key) && (what != OF_LIST || PyLong_CheckExact(key))) {
+    if (is_simple(key) && ((what != OF_LIST && what != LIST_IN_PLACE) || PyLong_CheckExact(key))) {
         if ((mark = PyTuple_Pack(2, site, key)) == NULL)
             return end_hook(back, -1);
         /* What was made just now may have had it decided anew. */
@@ -1264,8 +1312,9 @@ static PyObject *touch_keyed(PyObject *one, PyObject *key, PyObject *site, Py_ss
             result = -1;
         else if (owner != NULL && (owner = find_owner(one)) != NULL && is_seen_at(owner, decision, mark, key))
             result = 0;
-        else if (decision->what == OF_DICT || (decision->what == OF_LIST && _PyLong_Sign(key) >= 0))
-            result = saw_key(one, key, site, mark, decision);
+        else if ((what = what_of_key(one, key, decision->what)) == OF_DICT
+                 || (what == OF_LIST && _PyLong_Sign(key) >= 0))
+            result = saw_key(one, key, site, mark, decision, what);
         else
             Py_CLEAR(mark);
     }
@@ -1277,12 +1326,6 @@ static PyObject *touch_keyed(PyObject *one, PyObject *key, PyObject *site, Py_ss
 
 /* What most hooks come to: nothing is touched, or what was touched just now in this stretch. It is told without any
    call, and if it is not plain, the rest of the hook finds out. */
-
-static inline int is_plain_value(PyObject *one)
-{
-    return PyLong_CheckExact(one) || PyFloat_CheckExact(one) || PyUnicode_CheckExact(one) || one == Py_None
-        || PyBool_Check(one);
-}
 
 static inline Decision *known_decision(PyTypeObject *type, PyObject *site)
 {
@@ -1326,7 +1369,9 @@ static inline int is_plain_key(PyObject *one, PyObject *key, PyObject *site)
     Decision *known = known_decision(Py_TYPE(one), site);
     if (known == NULL || known->what == NO_TOUCH)
         return known != NULL;
-    Owner *owner = known->what == OF_DICT || known->what == OF_LIST ? find_owner(one) : NULL;
+    int is_of_element = known->what == OF_DICT || known->what == OF_LIST || known->what == DICT_IN_PLACE
+        || known->what == LIST_IN_PLACE;
+    Owner *owner = is_of_element ? find_owner(one) : NULL;
     Seen *seen = owner == NULL || PyDict_GET_SIZE(given.fields_of) > 0 ? NULL : (Seen *)owner->seen;
     return seen != NULL && seen->number == known->seen && known->seen != 0 && known->key == key && is_of_now(seen);
 }
