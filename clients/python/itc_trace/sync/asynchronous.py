@@ -16,7 +16,7 @@ import functools
 import types
 from _thread import get_ident
 from collections import deque
-from collections.abc import Iterator
+from collections.abc import Callable, Iterator
 from types import FrameType
 from typing import Any
 
@@ -485,10 +485,11 @@ def _run_handle(original: Any) -> Any:
         if state.note is None:
             return original(self)
         thread = get_ident()
-        STRETCHES.pop(thread, None)
-        TURNS[thread] = next(TURN_NUMBERS)
-        _be_in_run(thread)
-        take_step(_line_of_step(self._callback))
+        if not _begin_turn(self._callback):
+            STRETCHES.pop(thread, None)
+            TURNS[thread] = next(TURN_NUMBERS)
+            _be_in_run(thread)
+            take_step(_line_of_step(self._callback))
         try:
             return original(self)
         finally:
@@ -496,6 +497,30 @@ def _run_handle(original: Any) -> Any:
             STRETCHES.pop(thread, None)
 
     return _run
+
+
+def _no_turn(_: Any) -> bool:
+    """Without the helper in C each turn begins in Python."""
+    return False
+
+
+def _is_known_step(callback: Any) -> bool:
+    return id(type(callback)) in _step_kinds
+
+
+_begin_turn: Callable[[Any], bool] = _no_turn
+"""Begins the turn of a callback, if that is the step of a task which the run of the loop knows. Gives whether it did."""
+_is_plain_step: Callable[[Any], bool] = _is_known_step
+"""Whether asyncio itself goes on by a callback, as far as that is plain to see."""
+
+
+def be_quick(quick: Any) -> None:
+    """From here on most turns of loops begin in C."""
+    global _begin_turn, _is_plain_step
+    quick.know_loops(
+        runs=RUNS, turn_numbers=TURN_NUMBERS, step_kinds=_step_kinds, run=LoopRun, future=_PlainFuture, task=_PlainTask,
+    )
+    _begin_turn, _is_plain_step = quick.begin_turn, quick.is_plain_step
 
 
 def _be_in_run(thread: int) -> None:
@@ -608,7 +633,7 @@ def _added(future: Any, callback: Any) -> Token | None:
 
 def _call(original: Any) -> Any:
     def call(self: Any, callback: Any, *args: Any, context: Any = None) -> Any:
-        if state.note is not None and id(type(callback)) not in _step_kinds:
+        if state.note is not None and not _is_plain_step(callback):
             callback = _after_caller(callback, args)
         return original(self, callback, *args, context=context)
 
@@ -617,7 +642,7 @@ def _call(original: Any) -> Any:
 
 def _call_at(original: Any) -> Any:
     def call_at(self: Any, when: Any, callback: Any, *args: Any, context: Any = None) -> Any:
-        if state.note is not None and id(type(callback)) not in _step_kinds:
+        if state.note is not None and not _is_plain_step(callback):
             callback = _after_caller(callback, args)
         return original(self, when, callback, *args, context=context)
 

@@ -34,7 +34,7 @@ from typing import Any, NamedTuple
 from ..model.conflicts import (
     ADDITION, INNER_READ, INNER_WRITE, ITERATION, KEYS, LENGTH, REMOVAL, REPLACEMENT, REWRITE, STEP, WRITE,
 )
-from ..sync import locks, queues
+from ..sync import locks, loops, queues
 from ..sync.handed_on import HANDED, Calling, Place, called, is_of_container
 from ..model.lines import state
 from ..record.noting import begin_stretch, lost, touched_all
@@ -1743,6 +1743,7 @@ if quick is not None:
     _set_up()
     locks.be_quick(quick)
     queues.be_quick(quick)
+    loops.be_quick(quick)
     HOOKS.update({name[5:]: one for name, one in vars(quick).items() if name.startswith("hook_")})
     QUIET.update({name: quick.first for name, one in QUIET.items() if one is _first})
     QUIET.update({name: quick.second for name, one in QUIET.items() if one is _second})

@@ -2479,6 +2479,84 @@ static PyObject *note_got(PyObject *self, PyObject *const *words, Py_ssize_t cou
     return token != NULL ? token : Py_NewRef(Py_False);
 }
 
+/* Loops of asyncio, as asynchronous.py notes them: each callback is a turn, and most of them are steps of tasks that
+   the run of the loop knows. */
+
+static struct {
+    PyObject *runs;           /* The run of a loop that each thread is in. */
+    PyObject *turn_numbers;
+    PyObject *step_kinds;     /* Types of the steps by which asyncio has a task go on, by their identities. */
+    PyTypeObject *run, *future, *task;
+} of_loops;
+
+static Py_ssize_t token_of_run, lines_of_run;
+static PyObject *text_self;
+
+/* Whether a type is one of these steps. */
+static int is_step_kind(PyTypeObject *type)
+{
+    PyObject *key = PyLong_FromVoidPtr(type);
+    int is_known = key != NULL && PyDict_Contains(of_loops.step_kinds, key) > 0;
+    Py_XDECREF(key);
+    return is_known;
+}
+
+/* Whose method a callback is, if asyncio itself goes on by it: a new reference. */
+static PyObject *stepping(PyObject *callback)
+{
+    if (PyCFunction_CheckExact(callback))
+        return Py_XNewRef(PyCFunction_GET_SELF(callback));
+    return is_step_kind(Py_TYPE(callback)) ? PyObject_GetAttr(callback, text_self) : NULL;
+}
+
+/* Whether the task that goes on by this callback is known to the run of its loop. */
+static int is_step_in(PyObject *run, PyObject *callback)
+{
+    PyObject *task = stepping(callback), *line = NULL;
+    int is_known = 0;
+    if (task != NULL && PyType_IsSubtype(Py_TYPE(task), of_loops.task) && look_up(task, text_itc_line, &line) == 0
+        && line != NULL && Py_TYPE(line) == of_locks.line
+        && FIELD(line, tracer_of_line) == FIELD(given.state, in_state.tracer))
+        is_known = PySet_Contains(FIELD(run, lines_of_run), line) > 0;
+    Py_XDECREF(line);
+    Py_XDECREF(task);
+    return is_known;
+}
+
+/* Whether this thread is in the run of a loop that has begun in this session: a borrowed reference, or nothing. */
+static PyObject *run_of(PyObject *thread)
+{
+    PyObject *run = PyDict_GetItemWithError(of_loops.runs, thread);
+    if (run == NULL || Py_TYPE(run) != of_loops.run || !PyAnySet_CheckExact(FIELD(run, lines_of_run)))
+        return NULL;
+    PyObject *line = FIELD(FIELD(run, token_of_run), line_of_token);
+    return FIELD(line, tracer_of_line) == FIELD(given.state, in_state.tracer) ? run : NULL;
+}
+
+/* Begins a turn of a loop in this thread. It gives whether nothing else is to be done. */
+static PyObject *begin_turn(PyObject *self, PyObject *callback)
+{
+    PyObject *thread = PyLong_FromUnsignedLong(PyThread_get_thread_ident());
+    PyObject *number = thread == NULL ? NULL : PyIter_Next(of_loops.turn_numbers);
+    int is_begun = number != NULL && end_stretch() >= 0 && PyDict_SetItem(of_locks.turns, thread, number) == 0;
+    PyObject *run = is_begun ? Py_XNewRef(run_of(thread)) : NULL;
+    int is_known = run != NULL && is_step_in(run, callback);
+    Py_XDECREF(run);
+    Py_XDECREF(thread);
+    Py_XDECREF(number);
+    PyErr_Clear();  /* What is not done here is done in Python. */
+    return PyBool_FromLong(is_known);
+}
+
+/* Whether asyncio itself goes on by this callback, as most are by which it does. */
+static PyObject *is_plain_step(PyObject *self, PyObject *callback)
+{
+    PyObject *of = PyCFunction_CheckExact(callback) ? PyCFunction_GET_SELF(callback) : NULL;
+    int is_plain = of != NULL ? PyType_IsSubtype(Py_TYPE(of), of_loops.future) : is_step_kind(Py_TYPE(callback));
+    PyErr_Clear();
+    return PyBool_FromLong(is_plain);
+}
+
 /* Where the fields of an object stand that has a slot for each. */
 typedef struct {
     PyTypeObject **type;
@@ -2608,6 +2686,24 @@ static PyObject *know_queues(PyObject *self, PyObject *words, PyObject *named)
         if ((*texts[number].text = PyUnicode_InternFromString(texts[number].name)) == NULL)
             return NULL;
     if (find_slots(slots_of_queues, sizeof slots_of_queues / sizeof *slots_of_queues) < 0)
+        return NULL;
+    Py_RETURN_NONE;
+}
+
+/* From here on turns of loops begin here, with what is handed over, which is kept for as long as the process lives. */
+static PyObject *know_loops(PyObject *self, PyObject *words, PyObject *named)
+{
+    static char *names[] = {"runs", "turn_numbers", "step_kinds", "run", "future", "task", NULL};
+    if (!PyArg_ParseTupleAndKeywords(
+            words, named, "OOOOOO", names, &of_loops.runs, &of_loops.turn_numbers, &of_loops.step_kinds, &of_loops.run,
+            &of_loops.future, &of_loops.task))
+        return NULL;
+    Py_INCREF(named);
+    const Slot slots_of_loops[] = {
+        {&of_loops.run, "token", &token_of_run}, {&of_loops.run, "lines", &lines_of_run},
+    };
+    text_self = PyUnicode_InternFromString("__self__");
+    if (text_self == NULL || find_slots(slots_of_loops, sizeof slots_of_loops / sizeof *slots_of_loops) < 0)
         return NULL;
     Py_RETURN_NONE;
 }
@@ -2930,7 +3026,9 @@ static PyMethodDef methods[] = {
     {"know_queues", (PyCFunction)(void (*)(void))know_queues, METH_VARARGS | METH_KEYWORDS, NULL},
     FAST("collecting", collecting), {"is_collecting", is_collecting, METH_NOARGS, NULL},
     FAST("note_put", note_put), FAST("note_got", note_got), {"again", again, METH_O, NULL},
-    {"is_taken", is_taken, METH_O, NULL},
+    {"is_taken", is_taken, METH_O, NULL}, {"begin_turn", begin_turn, METH_O, NULL},
+    {"is_plain_step", is_plain_step, METH_O, NULL},
+    {"know_loops", (PyCFunction)(void (*)(void))know_loops, METH_VARARGS | METH_KEYWORDS, NULL},
     {NULL},
 };
 
