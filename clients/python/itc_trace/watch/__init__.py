@@ -8,9 +8,9 @@ import importlib.util
 import os
 import runpy
 import sys
-from collections.abc import Sequence
+from collections.abc import Callable, Sequence
 from types import CodeType
-from typing import Any
+from typing import Any, NamedTuple
 
 from ..model.lines import Line, state
 from ..model.frames import INTERNAL
@@ -37,8 +37,15 @@ MAIN_OF_CHILD = "__mp_main__"
 handed.begin()
 proxied.begin()
 
+
+class _Waiting(NamedTuple):
+    """For a second task, in a block of tracing. Each block has one of its own."""
+
+    plain: Callable[..., None]
+
+
 _finder: Finder | None = None
-_plain_line_begin: Any = None
+_waiting: _Waiting | None = None
 _plain_spec = importlib.util.spec_from_file_location
 
 
@@ -138,7 +145,7 @@ def watch_path_runs() -> None:
 def begin() -> None:
     """Notes touches as soon as there is a second task: whatever comes before it starts,
     comes before all that it does."""
-    global _plain_line_begin
+    global _waiting
     tracer = state.tracer
     if _finder is None or tracer is None:
         return
@@ -146,8 +153,8 @@ def begin() -> None:
     if tracer.parent_of_strangers is not tracer.main:
         hooks.put(True)
         return
-    if _plain_line_begin is None:
-        _plain_line_begin = Line.__init__
+    if _waiting is None:
+        _waiting = _Waiting(Line.__init__)
         setattr(Line, "__init__", _begin_line)
 
 
@@ -157,11 +164,18 @@ def _begin_line(line: Line, *words: Any, **named: Any) -> None:
 
 
 def _switch_on() -> None:
-    global _plain_line_begin
-    if _plain_line_begin is not None:
-        setattr(Line, "__init__", _plain_line_begin)
-        _plain_line_begin = None
+    """Has the hooks there before the line is.
+
+    Another thread may be about to put them, which takes a while in a large program. Whoever makes a line meanwhile puts
+    them too, since its task may begin at once.
+    """
+    global _waiting
+    waiting = _waiting
+    if waiting is not None:
         hooks.put(True)
+        if _waiting is waiting:  # Else another thread has done so, or this block has ended.
+            _waiting = None
+            setattr(Line, "__init__", waiting.plain)
 
 
 def is_on() -> bool:
@@ -211,12 +225,12 @@ def witness() -> None:
 
 def end() -> None:
     """Notes nothing any more, and holds nothing."""
-    global _plain_line_begin
+    global _waiting
     if _finder is None:
         return
-    if _plain_line_begin is not None:
-        setattr(Line, "__init__", _plain_line_begin)
-        _plain_line_begin = None
+    waiting, _waiting = _waiting, None
+    if waiting is not None:
+        setattr(Line, "__init__", waiting.plain)
     hooks.put(False)
     leaving.end()
     things.let_go()

@@ -30,6 +30,7 @@ def among(objects: list[Any]) -> list[Any]:
     return [one for one in objects if id(type(one)) in RUNS]
 
 
+_NAMES: dict[str, Any] = vars(builtins)
 left_in_the_middle: Callable[[list[Any]], list[Any]] = among if quick is None else quick.left_in_the_middle
 """Which of these objects are of such a type. There may be as many as the program has."""
 
@@ -48,8 +49,13 @@ def begun() -> frozenset[int]:
     return frozenset(sites)
 
 
-def put(sites: frozenset[int]) -> None:
-    setattr(builtins, LOOPS, sites)
+def add(sites: frozenset[int]) -> None:
+    """Has these known as well. Two threads may have looked at once: between operators no thread goes on."""
+    _NAMES[LOOPS] = _NAMES[LOOPS] | sites if LOOPS in _NAMES else sites
+
+
+def forget() -> None:
+    _NAMES[LOOPS] = frozenset()
 
 
 def frames() -> Iterator[FrameType]:

@@ -1802,7 +1802,10 @@ def put(is_on: bool) -> None:
     """Puts the hooks where every module finds them: those that note, or those that do nothing."""
     for name, one in (HOOKS if is_on else QUIET).items():
         setattr(builtins, PREFIX + name, one)
-    begun_loops.put(begun_loops.begun() if is_on else frozenset())
+    if is_on:
+        begun_loops.add(begun_loops.begun())
+    else:
+        begun_loops.forget()
     setattr(builtins, ON, is_on)
 
 
