@@ -143,7 +143,7 @@ def of_tests(name: str) -> Answers:
 
 
 class Once(NamedTuple):
-    """A table that has run once. If there are no answers, it has failed."""
+    """A table that has run once. If something is said, it has failed."""
 
     answers: Answers
     said: str
@@ -154,19 +154,20 @@ def once(name: str, form: str) -> Once:
     words = [sys.executable, "-m", "tests.again", "--once", name]
     ran = subprocess.run(words, cwd=PACKAGE, env=environment, capture_output=True, text=True, check=False)
     if ran.returncode:
-        return Once({"all of it": f"{WRONG}: status {ran.returncode}"}, ran.stderr)
+        return Once({}, ran.stderr or f"status {ran.returncode}")
     return Once(json.loads(ran.stdout.splitlines()[-1]), "")
 
 
 def compared(name: str, runs: list[Once]) -> Iterator[str]:
     """A line for each program that had another answer than is due, or not always the same."""
-    for program in dict.fromkeys(one for run in runs for one in run.answers):
-        counts = Counter(run.answers.get(program, "nothing") for run in runs)
+    ended = [run.answers for run in runs if not run.said]
+    for program in dict.fromkeys(one for answers in ended for one in answers):
+        counts = Counter(answers.get(program, "nothing") for answers in ended)
         is_wrong = any(answer.startswith(WRONG) for answer in counts)
         if is_wrong or len(counts) > 1:
-            told = "; ".join(f"{count} of {len(runs)}: {answer}" for answer, count in counts.items())
+            told = "; ".join(f"{count} of {len(ended)}: {answer}" for answer, count in counts.items())
             yield f"{'wrong' if is_wrong else 'differs'}: {name}: {program}: {told}"
-    yield from (run.said for run in runs if run.said)
+    yield from (f"{WRONG}: {name}: 1 of {len(runs)} has failed: {run.said}" for run in runs if run.said)
 
 
 def main() -> int:

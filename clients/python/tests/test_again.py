@@ -25,6 +25,10 @@ class Compared(unittest.TestCase):
     def test_an_answer_that_is_not_due_is_told_also_if_it_is_always_the_same(self) -> None:
         self.assertEqual(told({"one": WRONG}, {"one": WRONG}), [f"wrong: table: one: 2 of 2: {WRONG}"])
 
+    def test_a_run_that_has_failed_is_told_once(self) -> None:
+        lines = list(compared("table", [Once({"one": "race"}, ""), Once({}, "status -11")]))
+        self.assertEqual(lines, ["wrong: table: 1 of 2 has failed: status -11"])
+
 
 class Run(unittest.TestCase):
     def test_a_table_is_run_and_each_of_its_programs_has_an_answer(self) -> None:
