@@ -234,6 +234,22 @@ class Touches(unittest.TestCase):
         rows = read_whole("".join(self.written).splitlines(keepends=True)).rows
         return len({row.event for row in rows if row.thing == "#0"})
 
+    def test_a_thing_that_is_touched_and_gone_as_things_are_looked_for_is_told(self) -> None:
+        self.touch(self.event("one", 1), self.things[:1000])
+        notes: list[str] = []
+        look = self.journal.rows.gone
+
+        def gone() -> list[int]:
+            notes.append("two touches a thing")
+            self.things[7].is_gone = True
+            return look()
+
+        self.journal.rows.gone = gone  # type: ignore[method-assign]
+        self.journal.look_for_gone(notes)
+        self.journal.write()
+        self.touch(self.event("two", 2), [self.things[7]])
+        self.assertEqual(self.told(), [("one", "#7"), ("two", "#7")])
+
     def test_an_event_that_is_over_keeps_none(self) -> None:
         event = self.event("one", 1)
         self.touch(event, self.things[:10])

@@ -2,7 +2,7 @@
 
 from __future__ import annotations
 
-from collections.abc import Callable, Hashable
+from collections.abc import Callable, Hashable, Sized
 from itertools import chain
 
 from ..model.lines import LateJob, Line, Reporter, Stretch, Touched, TouchEvent
@@ -134,12 +134,15 @@ class TouchJournal:
                 if text:
                     self._write(text)
 
-    def look_for_gone(self, waiting: int) -> None:
-        """Looks for things that are no more, where so many notes wait."""
+    def look_for_gone(self, notes: Sized) -> None:
+        """Looks for things that are no more, where these notes wait.
+
+        They are counted behind the look: a thing may be touched, and be no more, as things are looked for.
+        """
         if not self._things_gone:
             with self.writing:
                 self._things_gone = self.rows.gone()
-            self._things_gone_before = self.looked_at + waiting
+            self._things_gone_before = self.looked_at + len(notes)
 
     def shorten(self) -> None:
         """At the end of a part: what is kept of touches is made shorter."""

@@ -347,7 +347,7 @@ class Tracer:
                 if len(self.notes) < NOTES_AT_ONCE:
                     self._hurry.acquire(True, REST)
                     self._touches.write()
-                    self._touches.look_for_gone(len(self.notes))
+                    self._touches.look_for_gone(self.notes)
                 if self.notes:
                     self._report_some()
         except Fault as fault:
