@@ -19,7 +19,10 @@ from itc_trace import touch, tracing
 from itc_trace.model.conflicts import MAKING, READ, WRITE
 from itc_trace.record.journal import Row, read_whole
 from itc_trace.record.noting import touched
+from itc_trace.model.lines import Line, Stretch, state
 from itc_trace.model.stretches import SITES, STRETCHES, Site
+from itc_trace.watch import late
+from itc_trace.watch.seen import Seen
 
 from .support import ProgramCase, Step, TracedCase, fresh_tenant, in_turn, run_traced, wait_until
 
@@ -334,6 +337,43 @@ class Private(TracedCase):
             time.sleep(0.2)
 
         self.assertEqual(self.listed(first, lambda: touch_thing(kept, WRITE)), ["write Shop.kept", "write Shop.kept"])
+
+
+class SharedMeanwhile:
+    """An owner that a task goes on to touch as another one shares it: what is known of a stretch gives way to the next."""
+
+    is_sharing = False
+
+    def __init__(self, *stretches: Stretch) -> None:
+        self._stretches = iter(stretches)
+        self.history: list[Any] = []
+        self.touch()
+
+    def touch(self) -> None:
+        self.history.clear()
+        seen = Seen(next(self._stretches))
+        seen[f"touch of {seen.stretch.thread}"] = late.NOTHING
+        self.history.append(seen)
+
+    @property
+    def is_shared(self) -> bool:
+        return False
+
+    @is_shared.setter
+    def is_shared(self, is_shared: bool) -> None:
+        self.touch()
+
+
+class Sharing(unittest.TestCase):
+    def test_what_is_seen_in_the_place_of_something_older_is_listed(self) -> None:
+        noted: list[Any] = []
+        before, state.note = state.note, noted.append
+        try:
+            late.share(SharedMeanwhile(*(Stretch(Line(None, "one"), 0, 0, number) for number in range(2))))  # type: ignore
+        finally:
+            state.note = before
+        (_, listed), = noted
+        self.assertEqual([stretch.thread for stretch, _ in listed], [0, 1])
 
 
 if __name__ == "__main__":

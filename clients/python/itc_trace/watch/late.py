@@ -24,6 +24,8 @@ from .both_languages import SHORTENED_AT
 from .things import OWNERS, Owner, element_of, field_of, shape_of
 
 Touches = dict[Any, Touched]
+Counted = dict[int, tuple[Any, int]]
+"""How many marks there were in each stretch, by the identity of what has them, which is held: no other one gets it."""
 
 MOST_RECIPES = 1024
 """So many touches of an owner are kept ready to be noted once more."""
@@ -232,13 +234,13 @@ def share(owner: Owner) -> None:
     owner.history.clear()
 
 
-def _list_marks(owner: Owner, listed: list[tuple[Stretch, Touches]], known: dict[int, int]) -> dict[int, int]:
+def _list_marks(owner: Owner, listed: list[tuple[Stretch, Touches]], known: Counted) -> Counted:
     """Adds what the marks come to, but for the first ones of each stretch that are known. Gives how many there were."""
-    found: dict[int, int] = {}
+    found: Counted = {}
     for seen in list(owner.history):
         stretch, marks = seen.stretch, seen.copy()  # A copy is made at once.
-        found[id(seen)] = len(marks)
-        before = known.get(id(seen), 0)
+        found[id(seen)] = seen, len(marks)
+        before = known[id(seen)][1] if id(seen) in known else 0
         if stretch is not None and len(marks) > before:
             listed.append((stretch, touches_of(owner, islice(marks.items(), before, None), _line_of(stretch))))
     return found
