@@ -154,7 +154,7 @@ FAULTS = (
     ("Races", fault_of), ("MoreRaces", fault_of), ("Clean", fault_of), ("MoreClean", fault_of), ("Stars", fault_of_starred),
     ("SharedRaces", fault_of), ("SharedClean", fault_of), ("SharedStars", fault_of_starred), ("Children", fault_of_parent),
     ("Handed", fault_of), ("HandedRaces", fault_of), ("Guarded", fault_of), ("GuardedRaces", fault_of), ("Odd", fault_of_odd),
-    ("Meant", fault_of_meant),
+    ("Meant", fault_of_meant), ("Mapped", fault_of), ("MappedRaces", fault_of),
 )
 """The classes of programs, and what looks at a run of one."""
 

@@ -63,39 +63,40 @@ public final class Stars {
         System.out.println(counts[0] + counts[1]);
     }
 
-    static void concurrentMap() throws InterruptedException {
-        ConcurrentMap<String, Store> stores = new ConcurrentHashMap<>();
+    /** A key that says by itself what it equals. Nobody calls that more often than the program does. */
+    static final class Name {
+        private final String text;
+
+        Name(String text) {
+            this.text = text;
+        }
+
+        @Override
+        public boolean equals(Object other) {
+            return other instanceof Name name && name.text.equals(text);
+        }
+
+        @Override
+        public int hashCode() {
+            return text.hashCode();
+        }
+    }
+
+    static void ownKeys() throws InterruptedException {
+        ConcurrentMap<Name, Store> stores = new ConcurrentHashMap<>();
         both(
                 () -> {
                     Store store = new Store();
                     store.left = 7;
-                    stores.put("north", store);
+                    stores.put(new Name("north"), store);
                 },
                 () -> {
-                    Store store = stores.get("north");
+                    Store store = null;
                     while (store == null) {
-                        Thread.onSpinWait();
-                        store = stores.get("north");
+                        store = stores.get(new Name("north")); // star: ownKeys
                     }
                     System.out.println(store.left);
                 });
-    }
-
-    static void computed() throws InterruptedException {
-        ConcurrentMap<String, Store> stores = new ConcurrentHashMap<>();
-        Runnable grow =
-                () -> {
-                    for (int turn = 0; turn < 20; turn++) {
-                        stores.compute( // star: computed
-                                "north",
-                                (name, before) -> {
-                                    Store store = before == null ? new Store() : before;
-                                    store.left++;
-                                    return store;
-                                });
-                    }
-                };
-        both(grow, grow);
     }
 
     static void completed() throws Exception {

@@ -872,7 +872,7 @@ public final class Watched {
     }
 
     private static boolean isUnfollowed(Class<?> type) {
-        if (EXACT.stream().anyMatch(one -> one.isAssignableFrom(type))) {
+        if (EXACT.stream().anyMatch(one -> one.isAssignableFrom(type)) || Entries.isOfThose(type)) {
             return false;
         }
         for (Class<?> one = type; one != null; one = one.getSuperclass()) {

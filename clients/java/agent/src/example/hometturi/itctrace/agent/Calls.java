@@ -3,6 +3,7 @@ package example.hometturi.itctrace.agent;
 import static example.hometturi.itctrace.agent.Rewriter.hook;
 import static example.hometturi.itctrace.agent.Rewriter.listOf;
 
+import example.hometturi.itctrace.Entries;
 import example.hometturi.itctrace.Watched;
 import java.util.Arrays;
 import java.util.HashSet;
@@ -20,6 +21,7 @@ import org.objectweb.asm.tree.InvokeDynamicInsnNode;
 import org.objectweb.asm.tree.LdcInsnNode;
 import org.objectweb.asm.tree.MethodInsnNode;
 import org.objectweb.asm.tree.MethodNode;
+import org.objectweb.asm.tree.VarInsnNode;
 
 /** Puts hooks where a method calls what the JDK has for threads. */
 final class Calls {
@@ -86,6 +88,13 @@ final class Calls {
                     "java/util/Map", "java/util/Collection", "java/util/List", "java/util/Set", "java/util/Queue", "java/util/Deque",
                     "java/util/SortedMap", "java/util/NavigableMap", "java/util/SortedSet", "java/util/NavigableSet", "java/util/Vector",
                     "java/util/Hashtable", "java/util/Stack", "java/util/Properties", "java/lang/StringBuffer");
+    /** Of these some are concurrent maps and sets, of which each entry has an order of its own, or views of them. */
+    private static final Set<String> OF_ENTRIES =
+            Set.of(
+                    "java/util/Map", "java/util/Collection", "java/util/Set", "java/util/SortedMap", "java/util/NavigableMap",
+                    "java/util/SortedSet", "java/util/NavigableSet", CONCURRENT + "ConcurrentMap", CONCURRENT + "ConcurrentHashMap",
+                    CONCURRENT + "ConcurrentHashMap$KeySetView", CONCURRENT + "ConcurrentNavigableMap", CONCURRENT + "ConcurrentSkipListMap",
+                    CONCURRENT + "ConcurrentSkipListSet");
     /** What is of that package, and gives no order by itself. */
     private static final Set<String> HARMLESS =
             Set.of(
@@ -164,6 +173,9 @@ final class Calls {
         } else if (isOnObject && owner.equals("java/lang/invoke/MethodHandles$Lookup") && FINDING.contains(call.name)) {
             Kept kept = Kept.of(method, call, call.desc, true);
             code.insertBefore(call, listOf(kept.load(0), new LdcInsnNode(numberOf(owner, call.name, line)), hook("finds", "(" + OBJECT + "I)V")));
+        } else if (isOnObject && owner.equals("java/util/Iterator") && call.name.equals("next")) {
+            Kept kept = Kept.of(method, call, call.desc, true);
+            code.insert(call, listOf(kept.load(-1), entryHook("stepped", OF_ANY)));
         } else if (isOnObject && ATOMICS.contains(owner)) {
             rewriteAtomic(call, owner);
         } else if (isOnObject && isConcurrent(owner)) {
@@ -249,10 +261,46 @@ final class Calls {
         code.insertBefore(call, listOf(kept.load(-1), new LdcInsnNode(number), hook("calling", "(" + OBJECT + "I)V")));
         wrapFunctions(call, kept);
         InsnList behind = listOf(kept.load(-1), new LdcInsnNode(number), hook("called", "(" + OBJECT + "I)V"));
+        if (OF_ENTRIES.contains(owner)) {
+            behind.insert(aroundEntry(call, kept, number));
+        }
         if (Type.getReturnType(call.desc).getSort() == Type.OBJECT) {
             behind.add(listOf(new InsnNode(Opcodes.DUP), kept.load(-1), hook("part", "(" + OBJECT + OBJECT + ")V")));
         }
         code.insert(call, behind);
+    }
+
+    /** Puts hooks in front of a call of what may be a concurrent map, and gives those behind it. */
+    private InsnList aroundEntry(MethodInsnNode call, Kept kept, int number) {
+        Entries.Does does = Entries.Does.of(call.name);
+        boolean hasKey = kept.count() > 0 && kept.descriptor(0).equals(OBJECT);
+        int going = method.maxLocals++;
+        code.insertBefore(call, listOf(kept.load(-1), does.isOfKey() && hasKey ? kept.load(0) : new InsnNode(Opcodes.ACONST_NULL)));
+        code.insertBefore(call, listOf(new LdcInsnNode(does.ordinal()), new LdcInsnNode(number)));
+        code.insertBefore(call, listOf(entryHook("calling", "(" + OBJECT + OBJECT + "II)" + OBJECT), new VarInsnNode(Opcodes.ASTORE, going)));
+        boolean hasFunction = false;
+        for (int place = 0; place < kept.count(); place++) {
+            String descriptor = kept.descriptor(place);
+            if (descriptor.endsWith("/Function;") || descriptor.endsWith("/BiFunction;")) {
+                hasFunction = true;
+                code.insertBefore(call, listOf(kept.load(place), new VarInsnNode(Opcodes.ALOAD, going)));
+                code.insertBefore(call, listOf(entryHook("ordered", "(" + descriptor + OBJECT + ")" + descriptor), kept.store(place)));
+            }
+        }
+        if (hasFunction) {
+            kept.pushAgain(method, call);
+        }
+        String result = Type.getReturnType(call.desc).getDescriptor();
+        String taken = result.startsWith("L") || result.startsWith("[") ? OBJECT : result.equals("Z") ? "Z" : "";
+        InsnList behind = listOf(new VarInsnNode(Opcodes.ALOAD, going), entryHook("called", "(" + taken + OBJECT + ")V"));
+        if (!taken.isEmpty()) {
+            behind.insert(new InsnNode(Opcodes.DUP));
+        }
+        return behind;
+    }
+
+    private static MethodInsnNode entryHook(String name, String descriptor) {
+        return new MethodInsnNode(Opcodes.INVOKESTATIC, "example/hometturi/itctrace/Entries", name, descriptor, false);
     }
 
     /** A function that the object calls comes after what others have done with the object. */
