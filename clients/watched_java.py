@@ -155,6 +155,7 @@ FAULTS = (
     ("SharedRaces", fault_of), ("SharedClean", fault_of), ("SharedStars", fault_of_starred), ("Children", fault_of_parent),
     ("Handed", fault_of), ("HandedRaces", fault_of), ("Guarded", fault_of), ("GuardedRaces", fault_of), ("Odd", fault_of_odd),
     ("Meant", fault_of_meant), ("Mapped", fault_of), ("MappedRaces", fault_of),
+    ("Staged", fault_of), ("StagedRaces", fault_of),
 )
 """The classes of programs, and what looks at a run of one."""
 

@@ -13,6 +13,7 @@ import java.util.Set;
 import java.util.concurrent.CompletableFuture;
 import java.util.concurrent.ConcurrentHashMap;
 import java.util.concurrent.CountDownLatch;
+import java.util.concurrent.ForkJoinPool;
 import java.util.concurrent.ForkJoinTask;
 import java.util.concurrent.FutureTask;
 import java.util.concurrent.ScheduledThreadPoolExecutor;
@@ -59,7 +60,7 @@ public final class Watched {
 
     /** Those that tell of their orders by themselves, and what is below them. */
     private static final Set<Class<?>> EXACT =
-            Set.of(FutureTask.class, ThreadPoolExecutor.class, CompletableFuture.class, ForkJoinTask.class);
+            Set.of(FutureTask.class, ThreadPoolExecutor.class, CompletableFuture.class, ForkJoinTask.class, ForkJoinPool.class);
 
     /** The same by their names, if the agent has rewritten them. */
     private static final Set<String> REWRITTEN = ConcurrentHashMap.newKeySet();

@@ -103,13 +103,11 @@ final class Calls {
     /** Calls that do something which no hook sees: what begins so. */
     private static final List<String> UNSEEN =
             List.of(
-                    "java/lang/reflect/Field.get", "java/lang/reflect/Field.set", "java/util/Collection.parallelStream",
+                    "java/lang/reflect/Field.get", "java/lang/reflect/Field.set",
                     "java/lang/invoke/MethodHandles.arrayElement", "jdk/internal/misc/Unsafe.",
-                    "java/util/stream/BaseStream.parallel", "java/util/stream/Stream.parallel", "java/util/stream/IntStream.parallel",
-                    "java/util/stream/LongStream.parallel", "java/util/stream/DoubleStream.parallel", "sun/misc/Unsafe.",
+                    "sun/misc/Unsafe.",
                     CONCURRENT + "locks/LockSupport.park", CONCURRENT + "locks/LockSupport.unpark", "java/lang/Thread.startVirtualThread",
-                    "java/lang/Thread.ofVirtual", CONCURRENT + "Executors.newVirtualThread", CONCURRENT + "Executors.newWorkStealing",
-                    CONCURRENT + "CompletableFuture.", CONCURRENT + "ForkJoin", CONCURRENT + "Recursive",
+                    "java/lang/Thread.ofVirtual", CONCURRENT + "Executors.newVirtualThread",
                     "java/lang/invoke/MethodHandles$Lookup.findGetter", "java/lang/invoke/MethodHandles$Lookup.findSetter",
                     "java/lang/invoke/MethodHandles$Lookup.findStaticGetter", "java/lang/invoke/MethodHandles$Lookup.findStaticSetter",
                     "java/lang/invoke/MethodHandles$Lookup.unreflectGetter", "java/lang/invoke/MethodHandles$Lookup.unreflectSetter",
@@ -160,9 +158,6 @@ final class Calls {
             code.insertBefore(call, listOf(kept.load(-1), hook("local", OF_ANY)));
         } else if (isUnseen(owner, call.name)) {
             pass(call, owner, call.name, line);
-            if (isOnObject && owner.equals(CONCURRENT + "ForkJoinPool")) {
-                around(call, owner, line);
-            }
         } else if (isOnObject && isOfField(owner)) {
             pass(call, owner, call.name, line);
             around(call, owner, line);

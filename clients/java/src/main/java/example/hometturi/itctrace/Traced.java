@@ -118,6 +118,9 @@ public final class Traced {
         /** What the agent keeps of what the thread reads on trust. Null if it does not. */
         Object trusting;
 
+        /** What the agent keeps of the jobs that the thread does within one another. */
+        Object doing;
+
         boolean holds(String lock) {
             return Holding.isIn(holding, lock);
         }
@@ -155,7 +158,7 @@ public final class Traced {
 
         /** The job uses a variable that the thread has for itself. */
         void usesLocal(Object variable) {
-            if (isInJob && job != null) {
+            if (isInJob && job != null || doing != null) {
                 Object token = locals.computeIfAbsent(variable, fresh -> new Object());
                 if (usedLocals.add(token)) {
                     after(token);
@@ -163,11 +166,16 @@ public final class Traced {
             }
         }
 
+        /** Another job of the thread may use what this one has used of the variables of the thread alone. */
+        void lendLocals() {
+            usedLocals.forEach(Traced::before);
+            usedLocals.clear();
+        }
+
         /** The job is over, and the thread is what it was before. */
         void endJob() {
             isInJob = false;
-            usedLocals.forEach(Traced::before);
-            usedLocals.clear();
+            lendLocals();
             if (job != null) {
                 endUnawaited(job, beforeJob);
                 job = null;
