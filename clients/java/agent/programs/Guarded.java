@@ -1,10 +1,22 @@
+import java.util.ArrayList;
+import java.util.Collections;
+import java.util.HashMap;
+import java.util.Hashtable;
+import java.util.List;
+import java.util.Map;
+import java.util.Vector;
+import java.util.concurrent.atomic.AtomicIntegerArray;
+import java.util.concurrent.atomic.AtomicReferenceArray;
+import java.util.concurrent.atomic.AtomicStampedReference;
+import java.util.concurrent.atomic.LongAdder;
 import java.util.concurrent.locks.Condition;
 import java.util.concurrent.locks.Lock;
+import java.util.concurrent.locks.LockSupport;
 import java.util.concurrent.locks.ReadWriteLock;
 import java.util.concurrent.locks.ReentrantReadWriteLock;
 import java.util.concurrent.locks.StampedLock;
 
-/** Programs that guard what they share by locks for readers and writers, without a race. */
+/** Programs that guard what they share by locks, monitors of the JDK and atomics, without a race. */
 public final class Guarded {
     static final class Store {
         int left = 2;
@@ -189,6 +201,124 @@ public final class Guarded {
                     System.out.println(store.left > 0);
                     reading.unlock();
                 });
+    }
+
+    static void byVector() throws InterruptedException {
+        Vector<Store> stores = new Vector<>();
+        Hashtable<String, Store> named = new Hashtable<>();
+        StringBuffer text = new StringBuffer();
+        both(
+                () -> {
+                    Store store = new Store();
+                    store.left = 7;
+                    text.append("north");
+                    named.put("north", store);
+                    stores.add(store);
+                },
+                () -> {
+                    while (stores.isEmpty()) {
+                        Thread.onSpinWait();
+                    }
+                    System.out.println(stores.get(0).left + named.get("north").left + text.length());
+                });
+    }
+
+    static void bySynchronizedList() throws InterruptedException {
+        List<Store> stores = Collections.synchronizedList(new ArrayList<>());
+        Map<String, Store> named = Collections.synchronizedMap(new HashMap<>());
+        Store total = new Store();
+        Handed.Body use =
+                () -> {
+                    stores.add(new Store());
+                    stores.forEach(store -> store.left++);
+                    synchronized (stores) {
+                        for (Store store : stores) {
+                            total.left += store.left;
+                        }
+                    }
+                    named.computeIfAbsent("north", name -> new Store());
+                    named.compute(
+                            "north",
+                            (name, store) -> {
+                                store.sold++;
+                                return store;
+                            });
+                };
+        both(use, use);
+        System.out.println(named.get("north").sold);
+    }
+
+    static void countedInArray() throws InterruptedException {
+        AtomicIntegerArray counts = new AtomicIntegerArray(4);
+        AtomicReferenceArray<Store> stores = new AtomicReferenceArray<>(4);
+        both(
+                () -> {
+                    Store store = new Store();
+                    store.left = 7;
+                    stores.set(1, store);
+                    counts.incrementAndGet(2);
+                },
+                () -> {
+                    while (counts.get(2) == 0) {
+                        Thread.onSpinWait();
+                    }
+                    System.out.println(stores.get(1).left);
+                });
+    }
+
+    static void stampedReference() throws InterruptedException {
+        AtomicStampedReference<Store> last = new AtomicStampedReference<>(new Store(), 0);
+        Handed.Body push =
+                () -> {
+                    Store store = new Store();
+                    int[] stamp = new int[1];
+                    Store before;
+                    do {
+                        before = last.get(stamp);
+                        store.left = before.left + 1;
+                    } while (!last.compareAndSet(before, store, stamp[0], stamp[0] + 1));
+                };
+        both(push, push);
+        System.out.println(last.getReference().left);
+    }
+
+    static void addedUp() throws InterruptedException {
+        LongAdder done = new LongAdder();
+        Store one = new Store();
+        Store other = new Store();
+        Thread waiting =
+                new Thread(
+                        () -> {
+                            while (done.sum() < 2) {
+                                Thread.onSpinWait();
+                            }
+                            System.out.println(one.left + other.left);
+                        });
+        waiting.start();
+        both(
+                () -> {
+                    one.left = 4;
+                    done.increment();
+                },
+                () -> {
+                    other.left = 5;
+                    done.add(1);
+                });
+        waiting.join();
+    }
+
+    static void unparked() throws InterruptedException {
+        Store store = new Store();
+        Thread waiting =
+                new Thread(
+                        () -> {
+                            LockSupport.park();
+                            System.out.println(store.left);
+                        });
+        waiting.start();
+        store.left = 9;
+        LockSupport.unpark(waiting);
+        waiting.join();
     }
 
     private Guarded() {}

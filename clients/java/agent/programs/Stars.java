@@ -1,5 +1,7 @@
 import java.lang.reflect.Field;
 import java.util.ArrayList;
+import java.util.Collections;
+import java.util.ConcurrentModificationException;
 import java.util.HashMap;
 import java.util.List;
 import java.util.Map;
@@ -92,6 +94,24 @@ public final class Stars {
                         store = stores.get(new Name("north")); // star: ownKeys
                     }
                     System.out.println(store.left);
+                });
+    }
+
+    /** The list guards itself, but not who goes through it. */
+    static void unguarded() throws InterruptedException {
+        List<String> names = Collections.synchronizedList(new ArrayList<>());
+        names.add("one");
+        both(
+                () -> names.add("two"),
+                () -> {
+                    try {
+                        rest();
+                        for (String name : names) { // star: unguarded
+                            System.out.println(name.length());
+                        }
+                    } catch (ConcurrentModificationException changed) {
+                        System.out.println("changed");
+                    }
                 });
     }
 

@@ -9,6 +9,7 @@ import java.util.ArrayDeque;
 import java.util.Date;
 import java.util.Deque;
 import java.util.List;
+import java.util.Properties;
 import java.util.Set;
 import java.util.concurrent.CompletableFuture;
 import java.util.concurrent.ConcurrentHashMap;
@@ -23,6 +24,15 @@ import java.util.concurrent.TimeUnit;
 import java.util.concurrent.atomic.AtomicBoolean;
 import java.util.concurrent.atomic.AtomicInteger;
 import java.util.concurrent.atomic.AtomicLong;
+import java.util.concurrent.atomic.AtomicIntegerArray;
+import java.util.concurrent.atomic.AtomicLongArray;
+import java.util.concurrent.atomic.AtomicMarkableReference;
+import java.util.concurrent.atomic.AtomicReferenceArray;
+import java.util.concurrent.atomic.AtomicStampedReference;
+import java.util.concurrent.atomic.DoubleAccumulator;
+import java.util.concurrent.atomic.DoubleAdder;
+import java.util.concurrent.atomic.LongAccumulator;
+import java.util.concurrent.atomic.LongAdder;
 import java.util.concurrent.atomic.AtomicReference;
 import java.util.concurrent.locks.Condition;
 import java.util.concurrent.locks.Lock;
@@ -56,6 +66,15 @@ public final class Watched {
                     AtomicInteger.class,
                     AtomicLong.class,
                     AtomicReference.class,
+                    AtomicStampedReference.class,
+                    AtomicMarkableReference.class,
+                    AtomicIntegerArray.class,
+                    AtomicLongArray.class,
+                    AtomicReferenceArray.class,
+                    LongAdder.class,
+                    DoubleAdder.class,
+                    LongAccumulator.class,
+                    DoubleAccumulator.class,
                     TimeUnit.class);
 
     /** Those that tell of their orders by themselves, and what is below them. */
@@ -74,6 +93,7 @@ public final class Watched {
                         "locks.StampedLock")) {
             REWRITTEN.add(CONCURRENT + name);
         }
+        REWRITTEN.addAll(List.of("java.util.Vector", "java.util.Hashtable", "java.util.Collections", "java.lang.StringBuffer"));
     }
 
     /** A class of the JDK runs as it is. What its objects order is not followed exactly. */
@@ -84,14 +104,25 @@ public final class Watched {
         }
     }
 
-    /** Whether an object gives an order that is not followed exactly, by its class. */
-    private static final ClassValue<Boolean> IS_UNFOLLOWED =
+    /** How the order is followed that an object gives. */
+    private enum How {
+        UNFOLLOWED,
+        BY_MONITOR,
+        /** There is none, or it is followed elsewhere. */
+        ELSEWHERE
+    }
+
+    private static final ClassValue<How> HOW =
             new ClassValue<>() {
                 @Override
-                protected Boolean computeValue(Class<?> type) {
-                    return isUnfollowed(type);
+                protected How computeValue(Class<?> type) {
+                    return isUnfollowed(type) ? How.UNFOLLOWED : Mutexes.mayHave(type) ? How.BY_MONITOR : How.ELSEWHERE;
                 }
             };
+
+    private static boolean isUnfollowed(Object object) {
+        return HOW.get(object.getClass()) == How.UNFOLLOWED;
+    }
 
     private static final Keyed<VolatileCell> ATOMICS = new Keyed<>();
     private static final Keyed<TracedLock> LOCKS = new Keyed<>();
@@ -306,6 +337,21 @@ public final class Watched {
         Traced.monitorOf(object).close();
     }
 
+    /** A class of the JDK has entered a monitor, maybe one of an object that the program uses. */
+    public static void enteredKnown(Object object) {
+        TracedMonitor known = Traced.isOn() ? Traced.knownMonitorOf(object) : null;
+        if (known != null) {
+            known.enter();
+        }
+    }
+
+    public static void exitingKnown(Object object) {
+        TracedMonitor known = Traced.isOn() ? Traced.knownMonitorOf(object) : null;
+        if (known != null) {
+            known.close();
+        }
+    }
+
     public static void await(Object object) throws InterruptedException {
         waitFor(object, 0, () -> object.wait());
     }
@@ -394,6 +440,23 @@ public final class Watched {
     public static void caught(Object thrown) {
         if (thrown instanceof InterruptedException) {
             Traced.after(Thread.currentThread());
+        }
+    }
+
+    /** What stands for the permit of each thread. */
+    private static final Keyed<Object> PERMITS = new Keyed<>();
+
+    public static void unparks(Object thread) {
+        if (thread != null && Traced.isOn()) {
+            Traced.before(PERMITS.of(thread, Object::new));
+        }
+    }
+
+    /** Whoever has given this thread its permit by now has done so before. */
+    public static void parked() {
+        Object permit = Traced.isOn() ? PERMITS.known(Thread.currentThread()) : null;
+        if (permit != null) {
+            Traced.after(permit);
         }
     }
 
@@ -591,7 +654,7 @@ public final class Watched {
             if (followed != null) {
                 followed.becomeGuard();
                 CONDITIONS.of(condition, () -> followed);
-            } else if (IS_UNFOLLOWED.get(lock.getClass())) {
+            } else if (isUnfollowed(lock)) {
                 Shared shared = sharedOf(lock);
                 SHARED.of(condition, () -> shared);
             }
@@ -713,17 +776,28 @@ public final class Watched {
 
     /** Such a call orders all that is done by the same object. It is told once two tasks use that. */
     public static void calling(Object object, int call) {
-        if (object != null && Traced.isOn() && IS_UNFOLLOWED.get(object.getClass())) {
+        if (object == null || !Traced.isOn()) {
+            return;
+        }
+        How how = HOW.get(object.getClass());
+        if (how == How.UNFOLLOWED) {
             Shared shared = sharedOf(object);
             if (shared.isUsedBySeveral(Traced.own().task())) {
                 calls[call].tell();
             }
             shared.order();
+        } else if (how == How.BY_MONITOR) {
+            Object mutex = Mutexes.of(object);
+            Traced.monitorOf(mutex);
+            boolean isShared = sharedOf(object).isUsedBySeveral(Traced.own().task());
+            if (isShared && Mutexes.isUnguarded(object, calls[call].what) && !Thread.holdsLock(mutex)) {
+                calls[call].tell();
+            }
         }
     }
 
     public static void called(Object object, int call) {
-        if (Traced.isOn() && IS_UNFOLLOWED.get(object.getClass())) {
+        if (Traced.isOn() && isUnfollowed(object)) {
             sharedOf(object).order();
         }
     }
@@ -737,7 +811,7 @@ public final class Watched {
     }
 
     private static boolean isPart(Object given, Object object) {
-        return IS_UNFOLLOWED.get(object.getClass()) && (given instanceof Condition || IS_UNFOLLOWED.get(given.getClass()));
+        return isUnfollowed(object) && (given instanceof Condition || isUnfollowed(given));
     }
 
     private static Shared sharedOf(Object object) {
@@ -786,7 +860,7 @@ public final class Watched {
     }
 
     private static Ordered orderedBy(Object object) {
-        boolean isOrdering = object != null && Traced.isOn() && (IS_UNFOLLOWED.get(object.getClass()) || isAtomic(object));
+        boolean isOrdering = object != null && Traced.isOn() && (isUnfollowed(object) || isAtomic(object));
         return isOrdering ? new Ordered(object) : null;
     }
 
@@ -826,7 +900,7 @@ public final class Watched {
 
     private static boolean isLookedAt(Object object) {
         return object != null
-                && (Kinds.of(object).isLookedAt() || IS_UNFOLLOWED.get(object.getClass()) || object.getClass().getName().startsWith(CONCURRENT));
+                && (Kinds.of(object).isLookedAt() || isUnfollowed(object) || object.getClass().getName().startsWith(CONCURRENT));
     }
 
     /** A handle of a method is looked for, by its class, by the method, or for an object. */
@@ -879,6 +953,9 @@ public final class Watched {
         for (Class<?> one = type; one != null; one = one.getSuperclass()) {
             String name = one.getName();
             String outer = name.substring(0, Math.max(name.indexOf('$'), 0));
+            if (one == Properties.class) {
+                return true;
+            }
             if (FOLLOWED.contains(one) || REWRITTEN.contains(name) || REWRITTEN.contains(outer) || name.startsWith("java.util.concurrent.Executors$") || Throwable.class == one) {
                 return false;
             }

@@ -29,6 +29,7 @@ public final class Agent {
             instrumentation.addTransformer(new OfTheJdk(), true);
             instrumentation.addTransformer(new OfFutures(), true);
             instrumentation.addTransformer(new OfHandovers(), true);
+            instrumentation.addTransformer(new OfMonitors(), true);
             for (Class<?> type : OfTheJdk.CLASSES) {
                 retransform(instrumentation, type);
             }
@@ -36,7 +37,8 @@ public final class Agent {
                 retransform(instrumentation, type);
             }
             for (Class<?> type : instrumentation.getAllLoadedClasses()) {
-                if (OfHandovers.isOfThese(type.getName().replace('.', '/'))) {
+                String name = type.getName().replace('.', '/');
+                if (OfHandovers.isOfThese(name) || OfMonitors.isOfThese(name)) {
                     retransform(instrumentation, type);
                 }
             }

@@ -68,17 +68,29 @@ final class Calls {
 
     private static final Set<String> WAITS = Set.of("wait()V", "wait(J)V", "wait(JI)V");
     private static final Set<String> ATOMICS = new HashSet<>();
+    private static final Set<String> ATOMIC_ARRAYS = new HashSet<>();
+    private static final Set<String> ADDERS = new HashSet<>();
+    private static final Set<String> ADDING = Set.of("add", "increment", "decrement", "accumulate", "reset");
+    private static final Set<String> ADDING_UP_AND_RESETTING = Set.of("sumThenReset", "getThenReset");
     private static final Set<String> ATOMIC_READS =
-            Set.of("get", "getAcquire", "intValue", "longValue", "floatValue", "doubleValue");
+            Set.of("get", "getAcquire", "intValue", "longValue", "floatValue", "doubleValue", "getReference", "getStamp", "isMarked");
     private static final Set<String> ATOMIC_WRITES = Set.of("set", "lazySet", "setRelease");
     private static final Set<String> ATOMIC_TRIES =
-            Set.of("compareAndSet", "weakCompareAndSet", "weakCompareAndSetVolatile", "weakCompareAndSetAcquire", "weakCompareAndSetRelease");
+            Set.of(
+                    "compareAndSet", "weakCompareAndSet", "weakCompareAndSetVolatile", "weakCompareAndSetAcquire", "weakCompareAndSetRelease",
+                    "attemptStamp", "attemptMark");
     private static final Set<String> ATOMIC_FUNCTIONS = Set.of("updateAndGet", "getAndUpdate", "accumulateAndGet", "getAndAccumulate", "toString");
     private static final Set<String> ATOMIC_UNORDERED = Set.of("getPlain", "getOpaque", "setPlain", "setOpaque", "weakCompareAndSetPlain");
 
     static {
-        for (String name : List.of("Boolean", "Integer", "Long", "Reference")) {
+        for (String name : List.of("Boolean", "Integer", "Long", "Reference", "StampedReference", "MarkableReference")) {
             ATOMICS.add(CONCURRENT + "atomic/Atomic" + name);
+        }
+        for (String name : List.of("Integer", "Long", "Reference")) {
+            ATOMIC_ARRAYS.add(CONCURRENT + "atomic/Atomic" + name + "Array");
+        }
+        for (String name : List.of("LongAdder", "DoubleAdder", "LongAccumulator", "DoubleAccumulator")) {
+            ADDERS.add(CONCURRENT + "atomic/" + name);
         }
     }
 
@@ -106,7 +118,7 @@ final class Calls {
                     "java/lang/reflect/Field.get", "java/lang/reflect/Field.set",
                     "java/lang/invoke/MethodHandles.arrayElement", "jdk/internal/misc/Unsafe.",
                     "sun/misc/Unsafe.",
-                    CONCURRENT + "locks/LockSupport.park", CONCURRENT + "locks/LockSupport.unpark", "java/lang/Thread.startVirtualThread",
+                    "java/lang/Thread.startVirtualThread",
                     "java/lang/Thread.ofVirtual", CONCURRENT + "Executors.newVirtualThread",
                     "java/lang/invoke/MethodHandles$Lookup.findGetter", "java/lang/invoke/MethodHandles$Lookup.findSetter",
                     "java/lang/invoke/MethodHandles$Lookup.findStaticGetter", "java/lang/invoke/MethodHandles$Lookup.findStaticSetter",
@@ -173,6 +185,14 @@ final class Calls {
             code.insert(call, listOf(kept.load(-1), entryHook("stepped", OF_ANY)));
         } else if (isOnObject && ATOMICS.contains(owner)) {
             rewriteAtomic(call, owner);
+        } else if (isOnObject && ATOMIC_ARRAYS.contains(owner)) {
+            rewriteAtomicArray(call);
+        } else if (isOnObject && ADDERS.contains(owner)) {
+            rewriteAdder(call);
+        } else if (owner.equals(CONCURRENT + "locks/LockSupport") && call.name.equals("unpark")) {
+            code.insertBefore(call, listOf(new InsnNode(Opcodes.DUP), hook("unparks", OF_ANY)));
+        } else if (owner.equals(CONCURRENT + "locks/LockSupport") && call.name.startsWith("park")) {
+            code.insert(call, hook("parked", "()V"));
         } else if (isOnObject && isConcurrent(owner)) {
             around(call, owner, line);
             String kind = LOCKS.contains(owner) ? LOCK : owner;
@@ -211,6 +231,9 @@ final class Calls {
         }
         if (owner == null) {
             return isOfObject && handle.getOwner().equals("java/lang/Object");
+        }
+        if (owner.equals(CONCURRENT + "locks/LockSupport")) {
+            return true;
         }
         boolean isConcurrent = owner.startsWith(CONCURRENT) && !HARMLESS.contains(owner) && !FOLLOWED_ANYWHERE.contains(owner);
         return isUnseen(owner, handle.getName())
@@ -334,6 +357,43 @@ final class Calls {
             behind.add(hook(isFunction ? "orderAtomic" : endOf(call.name), OF_ANY));
         }
         code.insert(call, behind);
+    }
+
+    /** The same of an element. The index is in the first local. */
+    private void rewriteAtomicArray(MethodInsnNode call) {
+        boolean hasIndex = call.desc.startsWith("(I");
+        if (ATOMIC_UNORDERED.contains(call.name) || !hasIndex && !call.name.equals("toString")) {
+            return;
+        }
+        boolean isFunction = ATOMIC_FUNCTIONS.contains(call.name) || !hasIndex;
+        Kept kept = Kept.of(method, call, call.desc, true);
+        InsnList element = listOf(kept.load(-1), hasIndex ? kept.load(0) : new InsnNode(Opcodes.ICONST_M1));
+        element.add(elementHook(isFunction ? "order" : "begin", "(" + OBJECT + "I)V"));
+        code.insertBefore(call, element);
+        InsnList behind = listOf(kept.load(-1), hasIndex ? kept.load(0) : new InsnNode(Opcodes.ICONST_M1));
+        if (ATOMIC_TRIES.contains(call.name)) {
+            behind.add(elementHook("endTry", "(Z" + OBJECT + "I)Z"));
+        } else {
+            String end = endOf(call.name).substring("endAtomic".length());
+            behind.add(elementHook(isFunction ? "order" : "end" + end, "(" + OBJECT + "I)V"));
+        }
+        code.insert(call, behind);
+    }
+
+    private static MethodInsnNode elementHook(String name, String descriptor) {
+        return new MethodInsnNode(Opcodes.INVOKESTATIC, "example/hometturi/itctrace/AtomicElements", name, descriptor, false);
+    }
+
+    /** Who sees a sum comes after those who have added to it. They do not come after one another. */
+    private void rewriteAdder(MethodInsnNode call) {
+        Kept kept = Kept.of(method, call, call.desc, true);
+        boolean isBoth = ADDING_UP_AND_RESETTING.contains(call.name);
+        if (ADDING.contains(call.name) || isBoth) {
+            code.insertBefore(call, listOf(kept.load(-1), hook("gives", OF_ANY)));
+        }
+        if (!ADDING.contains(call.name)) {
+            code.insert(call, listOf(kept.load(-1), hook("takes", OF_ANY)));
+        }
     }
 
     private static String endOf(String name) {

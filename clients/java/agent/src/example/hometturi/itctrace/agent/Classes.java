@@ -8,7 +8,6 @@ import java.io.IOException;
 import java.io.InputStream;
 import java.net.URL;
 import java.util.ArrayList;
-import java.util.Collections;
 import java.util.HashSet;
 import java.util.List;
 import java.util.Map;
@@ -25,7 +24,8 @@ import org.objectweb.asm.Opcodes;
 
 /** What the class files of the program say, before their classes are there. */
 final class Classes {
-    private final Map<ClassLoader, Map<String, Optional<Described>>> known = Collections.synchronizedMap(new WeakHashMap<>());
+    /** It is looked at with its monitor held. What the JDK has for that is followed by the agent itself. */
+    private final Map<ClassLoader, Map<String, Optional<Described>>> known = new WeakHashMap<>();
 
     /** What the file of a class says of its fields and its kin. */
     static final class Described extends ClassVisitor {
@@ -117,7 +117,9 @@ final class Classes {
     }
 
     private Map<String, Optional<Described>> of(ClassLoader loader) {
-        return known.computeIfAbsent(loader, fresh -> new ConcurrentHashMap<>());
+        synchronized (known) {
+            return known.computeIfAbsent(loader, fresh -> new ConcurrentHashMap<>());
+        }
     }
 
     /** What a class says, as this loader finds it. Empty for one of the JDK, and for one whose file cannot be read. */

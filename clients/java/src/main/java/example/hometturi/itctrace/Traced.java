@@ -363,6 +363,11 @@ public final class Traced {
         return MONITORS.of(object, () -> new TracedMonitor(object));
     }
 
+    /** Null if nobody has asked for it. */
+    static TracedMonitor knownMonitorOf(Object object) {
+        return MONITORS.known(object);
+    }
+
     /** The executor. Each of its jobs is a task, which comes after its submission. Whoever takes the result comes after the job. */
     public static ExecutorService executor(ExecutorService executor) {
         return new TracedExecutor(executor);

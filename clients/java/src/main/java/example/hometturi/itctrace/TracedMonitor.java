@@ -79,7 +79,7 @@ public final class TracedMonitor implements AutoCloseable {
     /** Leaves the monitor. It stands in front of the end of {@code synchronized}. */
     @Override
     public void close() {
-        if (--depth == 0) {
+        if (depth > 0 && --depth == 0) { // It may have been entered before anybody asked for it.
             releasing(false);
         }
     }
