@@ -5,6 +5,7 @@ import example.hometturi.itctrace.Row.Site;
 import java.lang.reflect.Method;
 import java.lang.reflect.Modifier;
 import java.util.Arrays;
+import java.util.Map;
 import java.util.Set;
 import java.util.SortedMap;
 import java.util.SortedSet;
@@ -76,9 +77,10 @@ public final class Entries {
             return 0;
         }
         for (Class<?> one = type; one != null; one = one.getSuperclass()) {
-            if (one.getEnclosingClass() == ConcurrentHashMap.class) {
+            String field = one.getEnclosingClass() == ConcurrentHashMap.class ? "map" : SHOWING.get(one.getName());
+            if (field != null) {
                 try {
-                    return UNSAFE.objectFieldOffset(one, "map");
+                    return UNSAFE.objectFieldOffset(one, field);
                 } catch (InternalError missing) {
                     continue;
                 }
@@ -93,9 +95,18 @@ public final class Entries {
     }
 
     private static Object mapOf(Object object) {
-        long offset = OFFSETS.get(object.getClass());
-        return offset < 0 ? null : offset == 0 ? object : UNSAFE.getReference(object, offset);
+        long offset = object == null ? -1 : OFFSETS.get(object.getClass());
+        if (offset <= 0) {
+            return offset < 0 ? null : object;
+        }
+        return mapOf(UNSAFE.getReference(object, offset));
     }
+
+    /** What one of these of {@code Collections} shows, if it is a concurrent map or a part of one. */
+    private static final Map<String, String> SHOWING =
+            Map.of(
+                    "java.util.Collections$SetFromMap", "m", "java.util.Collections$UnmodifiableMap", "m",
+                    "java.util.Collections$UnmodifiableCollection", "c");
 
     /** Whether nobody notices that a key is compared once more, by its class. */
     private static final ClassValue<Boolean> IS_QUIET =
@@ -142,16 +153,18 @@ public final class Entries {
         private final Does does;
         private final MapOrder order;
         private final Object key;
+        private final Site site;
         private EntryOrder entry;
         private Change change;
 
-        Going(Does does, MapOrder order, Object key) {
+        Going(Does does, MapOrder order, Object key, Site site) {
             this.does = does;
             this.order = order;
             this.key = key;
+            this.site = site;
         }
 
-        private void see(boolean isThere, Site site) {
+        private void see(boolean isThere) {
             EntryOrder known = entry != null ? entry : order.known(key);
             order.whole().see(isThere, site);
             if (known != null) {
@@ -159,35 +172,34 @@ public final class Entries {
             }
         }
 
-        private void begin(Site site) {
+        private void begin() {
             entry = order.of(key);
             change = entry.begin(site);
         }
 
-        private void end(boolean isChanged, boolean isThere, Site site) {
+        private void end(boolean isChanged, boolean isThere) {
             if (isChanged) {
                 order.whole().see(true, site);
                 entry.end(change, site);
             } else {
                 entry.drop(change);
-                see(isThere, site);
+                see(isThere);
             }
         }
 
         /** Another thread sees what the function did once the map has what it gives. */
         <T> T computed(Supplier<T> function) {
-            Site site = Traced.site();
             entry = entry == null ? order.of(key) : entry;
             entry.drop(change);
             change = null;
-            see(true, site);
+            see(true);
             try {
                 return function.get();
             } catch (RuntimeException | Error thrown) {
                 Watched.strip(thrown);
                 throw thrown;
             } finally {
-                entry.end(null, Traced.site());
+                entry.end(null, site);
             }
         }
     }
@@ -201,32 +213,33 @@ public final class Entries {
         Does kind = ALL[does];
         MapOrder order = ORDERS.of(map, MapOrder::new);
         boolean isOfKey = kind.isOfKey() && isKnownBy(map, key);
-        if (kind.isOfKey() && !isOfKey && order.isUsedBySeveral(Traced.own().task())) {
+        boolean isShared = order.isUsedBySeveral(Traced.own().task());
+        if (kind.isOfKey() && !isOfKey && isShared) {
             Watched.passes(call);
         }
-        Going going = new Going(isOfKey ? kind : kind == Does.SEES ? Does.SEES_ALL : kind.isOfKey() ? Does.CHANGES_ALL : kind, order, key);
-        order.isUsedBySeveral(Traced.own().task());
+        Site site = Watched.siteOf(call);
+        Going going = new Going(isOfKey ? kind : kind == Does.SEES ? Does.SEES_ALL : kind.isOfKey() ? Does.CHANGES_ALL : kind, order, key, site);
         if (going.does == Does.CHANGES_ALL) {
             going.entry = order.whole();
-            going.change = going.entry.begin(Traced.site());
-            order.seeAll(Traced.site());
+            going.change = going.entry.begin(site);
+            order.seeAll(site);
         } else if (going.does == Does.SEES_ALL) {
-            order.seeAll(Traced.site());
+            order.seeAll(site);
         } else if (going.does != Does.SEES && going.does != Does.COMPUTES) {
-            going.begin(Traced.site());
+            going.begin();
         }
         return going;
     }
 
     public static void called(Object result, Object going) {
         if (going instanceof Going one && Traced.isOn()) {
-            called(one, result != null, Traced.site());
+            called(one, result != null);
         }
     }
 
     public static void called(boolean result, Object going) {
         if (going instanceof Going one && Traced.isOn()) {
-            called(one, result, Traced.site());
+            called(one, result);
         }
     }
 
@@ -234,21 +247,21 @@ public final class Entries {
         called(true, going);
     }
 
-    private static void called(Going going, boolean isThere, Site site) {
+    private static void called(Going going, boolean isThere) {
         switch (going.does) {
-            case SEES, COMPUTES -> going.see(isThere, site);
-            case PUTS -> going.end(true, true, site);
-            case PUTS_IF_ABSENT -> going.end(!isThere, true, site);
-            case CHANGES -> going.end(isThere, isThere, site);
+            case SEES, COMPUTES -> going.see(isThere);
+            case PUTS -> going.end(true, true);
+            case PUTS_IF_ABSENT -> going.end(!isThere, true);
+            case CHANGES -> going.end(isThere, isThere);
             case MERGES -> {
                 if (going.change != null) {
-                    going.end(true, true, site);
+                    going.end(true, true);
                 }
             }
-            case SEES_ALL -> going.order.seeAll(site);
+            case SEES_ALL -> going.order.seeAll(going.site);
             case CHANGES_ALL -> {
-                going.order.seeAll(site);
-                going.entry.end(going.change, site);
+                going.order.seeAll(going.site);
+                going.entry.end(going.change, going.site);
             }
         }
     }

@@ -38,6 +38,13 @@ public final class Handovers {
         }
     }
 
+    /** The same of a queue that others may look into meanwhile. They may still find where the element was put. */
+    public static void leavesIf(boolean hasLeft, Object node) {
+        if (hasLeft && Traced.isOn()) {
+            Mark.endShared(NODES.known(node));
+        }
+    }
+
     // Nodes at which two threads meet
 
     public static void meets(Object node) {

@@ -208,6 +208,10 @@ public final class Watched {
         return calls.length - 1;
     }
 
+    static Site siteOf(int call) {
+        return calls[call].site;
+    }
+
     /** Something is not looked into. */
     public static void passOver(String what, String file, int line) {
         if (Traced.isOn()) {

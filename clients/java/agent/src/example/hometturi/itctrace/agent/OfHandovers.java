@@ -43,6 +43,9 @@ final class OfHandovers implements ClassFileTransformer {
     private static final String EXCHANGER = CONCURRENT + "Exchanger";
     private static final String BARRIER = CONCURRENT + "CyclicBarrier";
     private static final String PHASER = CONCURRENT + "Phaser";
+    private static final String PUBLISHER = CONCURRENT + "SubmissionPublisher";
+    private static final String SUBSCRIPTION = PUBLISHER + "$BufferedSubscription";
+    private static final String SUBSCRIBER = CONCURRENT + "Flow$Subscriber;";
     private static final String COPIED_LIST = CONCURRENT + "CopyOnWriteArrayList";
 
     /** Those whose elements each have a node, and whether an element leaves its node while the queue is locked. */
@@ -119,6 +122,14 @@ final class OfHandovers implements ClassFileTransformer {
                             "met",
                             OF_ANY,
                             1),
+                    first(SUBSCRIPTION, "offer(" + OBJECT + "Z)I", "meets", OF_ANY, 0),
+                    first(SUBSCRIPTION, "startOnSignal(I)V", "meets", OF_ANY, 0),
+                    first(SUBSCRIPTION, "consumeNext(L" + SUBSCRIBER + OBJECT + ")Z", "met", OF_ANY, 0),
+                    last(SUBSCRIPTION, "consumeNext(L" + SUBSCRIBER + OBJECT + ")Z", "meets", OF_ANY, 0),
+                    first(SUBSCRIPTION, "consumeSubscribe(L" + SUBSCRIBER + ")V", "met", OF_ANY, 0),
+                    last(SUBSCRIPTION, "consumeSubscribe(L" + SUBSCRIBER + ")V", "meets", OF_ANY, 0),
+                    first(SUBSCRIPTION, "consumeComplete(L" + SUBSCRIBER + ")V", "met", OF_ANY, 0),
+                    first(SUBSCRIPTION, "consumeError(L" + SUBSCRIBER + "Ljava/lang/Throwable;)V", "met", OF_ANY, 0),
                     first(COPIED_LIST, "setArray([" + OBJECT + ")V", "meets", OF_ANY, 1),
                     last(COPIED_LIST, "getArray()[" + OBJECT, "met", OF_ANY),
                     first(PHASER, "doArrive(I)I", "arrives", OF_A_PHASER, 0),
@@ -142,6 +153,7 @@ final class OfHandovers implements ClassFileTransformer {
         EDITS.put(EXCHANGER, OfHandovers::editExchanger);
         EDITS.put(BARRIER, OfHandovers::editBarrier);
         EDITS.put(PHASER, OfHandovers::editPhaser);
+        EDITS.put(PUBLISHER, (node, method) -> {});
         EDITS.put(COPIED_LIST, (node, method) -> {});
         OF_NODES.forEach((name, isLocked) -> EDITS.put(name, (node, method) -> editQueueOfNodes(name, isLocked, node, method)));
     }
@@ -256,6 +268,8 @@ final class OfHandovers implements ClassFileTransformer {
         if (node.name.equals(type)) {
             if (method.name.equals("<init>") && method.desc.equals(OF_ANY)) {
                 put(last(type, OF_ANY, "putsNode", OF_TWO, 0, 1), method);
+            } else if (method.name.equals("casItem")) {
+                put(last(type, "", "leavesIf", "(Z" + OBJECT + ")V", 0), method);
             }
             return;
         }
@@ -268,6 +282,23 @@ final class OfHandovers implements ClassFileTransformer {
         }
         if (isLocked) {
             putBeforeWrites(method, type, "item", "losesItem");
+        } else {
+            putBehindRemoval(type, method);
+        }
+    }
+
+    /** An element leaves its node by a handle, which gets the node, the element, and null. */
+    private static void putBehindRemoval(String type, MethodNode method) {
+        for (AbstractInsnNode one : method.instructions.toArray()) {
+            boolean isByHandle = one instanceof MethodInsnNode call && call.owner.equals("java/lang/invoke/VarHandle");
+            if (isByHandle && ((MethodInsnNode) one).desc.equals("(L" + type + ";" + OBJECT + "Ljava/lang/Void;)Z")) {
+                int node = method.maxLocals;
+                method.maxLocals += 2;
+                method.instructions.insertBefore(one, listOf(plain(Opcodes.POP), new VarInsnNode(Opcodes.ASTORE, node + 1)));
+                method.instructions.insertBefore(one, listOf(plain(Opcodes.DUP), new VarInsnNode(Opcodes.ASTORE, node)));
+                method.instructions.insertBefore(one, listOf(load(node + 1), plain(Opcodes.ACONST_NULL)));
+                method.instructions.insert(one, listOf(plain(Opcodes.DUP), load(node), hook("leavesIf", "(Z" + OBJECT + ")V")));
+            }
         }
     }
 
