@@ -214,7 +214,7 @@ public final class Entries {
         MapOrder order = ORDERS.of(map, MapOrder::new);
         boolean isOfKey = kind.isOfKey() && isKnownBy(map, key);
         boolean isShared = order.isUsedBySeveral(Traced.own().task());
-        if (kind.isOfKey() && !isOfKey && isShared) {
+        if (kind.isOfKey() && isShared && !(isOfKey && order.hasRoom(key))) {
             Watched.passes(call);
         }
         Site site = Watched.siteOf(call);

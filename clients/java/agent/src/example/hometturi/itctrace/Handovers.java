@@ -3,11 +3,18 @@ package example.hometturi.itctrace;
 import example.hometturi.itctrace.Place.Mark;
 import java.util.concurrent.ArrayBlockingQueue;
 import java.util.concurrent.Phaser;
+import java.util.concurrent.atomic.AtomicInteger;
 
 /** What queues, exchangers, barriers and phasers of the JDK call by the agent: who hands something over, and who gets it. */
 public final class Handovers {
     /** Of each node of a queue where its element was put. */
     private static final Keyed<Mark> NODES = new Keyed<>();
+
+    /** So many elements of queues have an order of their own. Those behind them have one in common, and are named. */
+    private static final int MOST = 10_000;
+
+    private static final AtomicInteger COUNT = new AtomicInteger();
+    private static final Object LATER = new Object();
 
     private static final Keyed<Elements> ELEMENTS = new Keyed<>();
     private static final Keyed<Phases> PHASES = new Keyed<>();
@@ -17,16 +24,32 @@ public final class Handovers {
     // Queues that have a node for each element
 
     public static void putsNode(Object node, Object item) {
-        Mark mark = item == null ? null : Traced.mark(Elements.ITEM, Traced.site());
-        if (mark != null) {
-            NODES.put(node, mark);
+        if (hasOwnOrder(item)) {
+            NODES.put(node, Traced.mark(Elements.ITEM, Traced.site()));
         }
+    }
+
+    /** Whether an element that is about to be put gets an order of its own. A job that an executor got has one. */
+    private static boolean hasOwnOrder(Object item) {
+        if (item == null || !Traced.isOn() || item instanceof Runnable job && Watched.isSubmitted(job)) {
+            return false;
+        }
+        int number = COUNT.get() > MOST ? MOST + 2 : COUNT.incrementAndGet();
+        if (number > MOST) {
+            Traced.before(LATER);
+        }
+        if (number == MOST + 1) {
+            Traced.tracer().passOver("which element of a queue was put where, behind the first " + MOST, Traced.site());
+        }
+        return number <= MOST;
     }
 
     public static Object seesItem(Object node, Object item) {
         Mark mark = item == null || !Traced.isOn() ? null : NODES.known(node);
         if (mark != null) {
             Traced.take(mark, Traced.site());
+        } else if (item != null && COUNT.get() > MOST) {
+            Traced.after(LATER);
         }
         return item;
     }
@@ -92,32 +115,42 @@ public final class Handovers {
     }
 
     public static void puts(Object queue, Object element) {
-        if (element != null && Traced.isOn()) {
+        if (hasOwnOrder(element)) {
             of(queue).put(element, Traced.site());
         }
     }
 
     public static void took(Object element, Object queue) {
-        if (element != null && Traced.isOn()) {
-            of(queue).take(element, true, Traced.site());
-        }
+        takes(element, queue, true);
     }
 
     public static void saw(Object element, Object queue) {
+        takes(element, queue, false);
+    }
+
+    private static void takes(Object element, Object queue, boolean isGone) {
         if (element != null && Traced.isOn()) {
-            of(queue).take(element, false, Traced.site());
+            of(queue).take(element, isGone, Traced.site());
+            takesLater();
+        }
+    }
+
+    private static void takesLater() {
+        if (COUNT.get() > MOST) {
+            Traced.after(LATER);
         }
     }
 
     public static void sawAll(Object queue) {
         if (Traced.isOn()) {
             of(queue).takeAll(Traced.site());
+            takesLater();
         }
     }
 
     public static void muddles(Object queue) {
         if (Traced.isOn()) {
-            of(queue).takeAll(Traced.site());
+            sawAll(queue);
             of(queue).muddle();
         }
     }

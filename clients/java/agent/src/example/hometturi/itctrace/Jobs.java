@@ -11,7 +11,7 @@ import jdk.internal.misc.Unsafe;
 /** What fork-join pools and futures call by the agent. Each job, and each stage, is a task of its own, whichever thread does it. */
 public final class Jobs {
     /** So many jobs of a process are tasks of their own. Those behind them are of the thread that does them, and are named. */
-    private static final int MOST = 20_000;
+    private static final int MOST = 5_000;
 
     private static final AtomicInteger COUNT = new AtomicInteger();
     private static final Unsafe UNSAFE = Unsafe.getUnsafe();

@@ -6,8 +6,8 @@ import java.util.Map;
 
 /** The orders of the entries of one map, by their keys, and of what is done with the whole map. */
 final class MapOrder {
-    /** From so many keys on, those that were touched first are forgotten. What is done with them counts as done with the whole. */
-    private static final int MANY = 100_000;
+    /** So many keys have an order of their own. What is done with another one counts as done with the whole map. */
+    private static final int MOST = 2_000;
 
     private final Map<Object, EntryOrder> entries = new HashMap<>();
     private final EntryOrder whole = new EntryOrder();
@@ -24,10 +24,12 @@ final class MapOrder {
     }
 
     synchronized EntryOrder of(Object key) {
-        if (entries.size() >= MANY && !entries.containsKey(key)) {
-            return whole;
-        }
-        return entries.computeIfAbsent(key, fresh -> new EntryOrder());
+        return hasRoom(key) ? entries.computeIfAbsent(key, fresh -> new EntryOrder()) : whole;
+    }
+
+    /** Whether the key has an order of its own, or may have one. */
+    synchronized boolean hasRoom(Object key) {
+        return entries.size() < MOST || entries.containsKey(key);
     }
 
     synchronized void seeAll(Site site) {

@@ -557,6 +557,17 @@ public final class Watched {
         }
     }
 
+    /** Whether an executor has got the job, and no thread does it yet. */
+    static boolean isSubmitted(Runnable job) {
+        Deque<Task> tasks = JOBS.known(job);
+        if (tasks == null) {
+            return false;
+        }
+        synchronized (tasks) {
+            return !tasks.isEmpty();
+        }
+    }
+
     private static Task taskOf(Runnable job) {
         Deque<Task> tasks = JOBS.known(job);
         if (tasks == null) {
