@@ -775,7 +775,7 @@ class WhatIsTouched(unittest.TestCase):
             self.assert_touches("table.left = 1", (element, "write"), ("Table", "replacement"), before=before)
             self.assert_touches("table.left += 1", *both, before=before)
             self.assert_touches("table.left += shop.count", *both, ("Shop.count", "read"), before=before)
-            self.assert_touches("table.kind", before=before)
+            self.assert_touches("table.kind", ("Table.kind", "read"), before=before)
 
     def test_variables_that_are_bound_behind_a_start(self) -> None:
         for helper, call in (

@@ -621,13 +621,13 @@ OF_VARIABLES = OF_SCOPES | {"globals"}
 """Functions that give the dictionary of what has fields, or variables."""
 
 
-def _mark_kept(node: ast.expr | None) -> None:
+def _mark_kept(node: Any) -> None:
     """Marks a dictionary of fields that something may keep. Whose it is has to be known from then on."""
-    if isinstance(node, ast.Attribute):
+    if type(node) is ast.Attribute:
         if node.attr == "__dict__":
-            node.is_kept = True  # type: ignore[attr-defined]
-    elif isinstance(node, ast.Call) and isinstance(node.func, ast.Name) and node.func.id in OF_VARIABLES:
-        node.is_kept = True  # type: ignore[attr-defined]
+            node.is_kept = True
+    elif type(node) is ast.Call and type(node.func) is ast.Name and node.func.id in OF_VARIABLES:
+        node.is_kept = True
 
 
 def is_kept(node: ast.expr) -> bool:
