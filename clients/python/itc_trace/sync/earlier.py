@@ -243,6 +243,7 @@ class _Found:
         lock = one.mutex
         if type(lock) in _LOCKS:
             made = mutex_of(one, None) if is_plain(one) else traced_lock(None, lock=lock)
+            self._made[id(lock)] = made
             made._itc_identity.is_found(self._name(one), self._place(one))
             for holder in self._of(lock):
                 replace(holder, lock, made)
