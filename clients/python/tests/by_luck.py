@@ -324,6 +324,14 @@ def first():
 def second():
     with jobs.mutex: jobs.queue.clear()
     LOOK
+## the lock of a queue in which something lies
+jobs = queue.Queue()
+def first():
+    CHANGE
+    jobs.put(1)
+def second():
+    with jobs.mutex: len(jobs.queue)
+    LOOK
 ## a condition that a queue has itself
 jobs = queue.PriorityQueue()
 def first():

@@ -12,9 +12,11 @@ from collections.abc import Callable, Iterable
 from types import FrameType, FunctionType
 from typing import Any
 
+from ..model.answers import Behind
 from ..model.lines import DONE_ITEM, QUEUE, ROOM, Token, What, state
+from ..model.lock_identity import Poll
 from ..record.nesting import Items as ItemsUnderLocks
-from ..record.noting import mark, take
+from ..record.noting import mark, take, take_asked
 from ..model.frames import INTERNAL_NAMES, frame_at, is_internal
 from .base import Patches, name_as
 from .locks import TracedLock, are_quiet, gave, took, traced_lock
@@ -31,6 +33,8 @@ and to tell it would take an event an item."""
 
 
 _CONDITIONS = frozenset({"not_empty", "not_full", "all_tasks_done"})
+_LOOK = Poll("mutex", Behind())
+"""Whoever acquires the lock of a queue may look at what lies there, or do something else."""
 _OF_CONDITIONS = frozenset({"threading", "itc_trace.sync.threads"})
 """The modules whose code acquires the lock of a condition for whoever calls."""
 _INSIDE = ("_init", "_put", "_get", "_qsize")
@@ -87,7 +91,7 @@ class _Mutex(TracedLock):
     """The lock of a queue, as the program has it, also by the queue's conditions.
 
     What the library does while it holds the lock gives no order by that. If the program acquires it, it comes after who
-    has put what lies there. What the program itself puts there or takes out is known as it releases the lock.
+    has put what lies there: by luck, but for what it looks at. What the program itself puts there or takes out is known as it releases the lock.
     """
 
     __slots__ = ("_itc_queue", "_itc_unfinished")
@@ -124,7 +128,7 @@ class _Mutex(TracedLock):
         if one is not None:
             self._itc_unfinished = one.unfinished_tasks
             for token in items_of(one).last():
-                take(token, 3)
+                take_asked(token, _LOOK, 3)
 
     def _is_given(self) -> None:
         one = self._itc_queue()
