@@ -509,7 +509,7 @@ def _is_known_step(callback: Any) -> bool:
 
 
 _begin_turn: Callable[[Any], bool] = _no_turn
-"""Begins the turn of a callback, if that is the step of a task which the run of the loop knows. Gives whether it did."""
+"""Begins the turn of a callback, if that is the step of a task that the run of the loop knows. Gives whether it did."""
 _is_plain_step: Callable[[Any], bool] = _is_known_step
 """Whether asyncio itself goes on by a callback, as far as that is plain to see."""
 

@@ -91,7 +91,8 @@ class _Mutex(TracedLock):
     """The lock of a queue, as the program has it, also by the queue's conditions.
 
     What the library does while it holds the lock gives no order by that. If the program acquires it, it comes after who
-    has put what lies there: by luck, but for what it looks at. What the program itself puts there or takes out is known as it releases the lock.
+    has put what lies there: by luck, but for what it looks at. What the program itself puts there or takes out is known
+    as it releases the lock.
     """
 
     __slots__ = ("_itc_queue", "_itc_unfinished")
