@@ -623,11 +623,15 @@ OF_VARIABLES = OF_SCOPES | {"globals"}
 
 def _mark_kept(node: Any) -> None:
     """Marks a dictionary of fields that something may keep. Whose it is has to be known from then on."""
-    if type(node) is ast.Attribute:
-        if node.attr == "__dict__":
-            node.is_kept = True
-    elif type(node) is ast.Call and type(node.func) is ast.Name and node.func.id in OF_VARIABLES:
+    if _gives_fields(node):
         node.is_kept = True
+
+
+def _gives_fields(node: Any) -> bool:
+    """Whether an expression gives a dictionary that has the fields of an object, or the variables of a module."""
+    if type(node) is ast.Attribute:
+        return node.attr == "__dict__"
+    return type(node) is ast.Call and type(node.func) is ast.Name and node.func.id in OF_VARIABLES
 
 
 def is_kept(node: ast.expr) -> bool:
