@@ -6,7 +6,10 @@ import example.hometturi.itctrace.Row.Site;
 import java.util.ArrayDeque;
 import java.util.Deque;
 
-/** What is in a queue that has no nodes: where each element was put. An element is told by what it is, and may be there several times. */
+/**
+ * What is in a queue that has no nodes: where each element was put. An element is told by what it is, and may be there
+ * several times.
+ */
 final class Elements {
     static final Gives ITEM = Gives.order("item", "put item", "take item");
 

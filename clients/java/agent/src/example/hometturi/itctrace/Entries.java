@@ -5,6 +5,7 @@ import example.hometturi.itctrace.Row.Site;
 import java.lang.reflect.Method;
 import java.lang.reflect.Modifier;
 import java.util.Arrays;
+import java.util.List;
 import java.util.Map;
 import java.util.Set;
 import java.util.SortedMap;
@@ -18,7 +19,10 @@ import java.util.function.Function;
 import java.util.function.Supplier;
 import jdk.internal.misc.Unsafe;
 
-/** What a call of a concurrent map or set of the JDK has before it and behind it: who sees an entry comes after who has put it. */
+/**
+ * What a call of a concurrent map or set of the JDK has before it and behind it: who sees an entry comes after who has
+ * put it.
+ */
 public final class Entries {
     private static final Unsafe UNSAFE = Unsafe.getUnsafe();
     private static final Keyed<MapOrder> ORDERS = new Keyed<>();
@@ -47,8 +51,8 @@ public final class Entries {
                 case "replace", "remove", "add" -> CHANGES;
                 case "compute", "computeIfAbsent", "computeIfPresent" -> COMPUTES;
                 case "merge" -> MERGES;
-                case "putAll", "clear", "addAll", "removeAll", "retainAll", "removeIf", "replaceAll", "pollFirst", "pollLast",
-                        "pollFirstEntry", "pollLastEntry" ->
+                case "putAll", "clear", "addAll", "removeAll", "retainAll", "removeIf", "replaceAll", "pollFirst",
+                        "pollLast", "pollFirstEntry", "pollLastEntry" ->
                         CHANGES_ALL;
                 default -> SEES_ALL;
             };
@@ -56,6 +60,11 @@ public final class Entries {
 
         public boolean isOfKey() {
             return compareTo(SEES_ALL) < 0;
+        }
+
+        /** The same if nobody knows of which key it is. */
+        Does toAll() {
+            return this == SEES ? SEES_ALL : isOfKey() ? CHANGES_ALL : this;
         }
     }
 
@@ -119,7 +128,7 @@ public final class Entries {
 
     private static boolean isQuiet(Class<?> type) {
         String name = type.getName();
-        boolean isOfJdk = name.startsWith("java.lang.") || name.startsWith("java.time.") || name.startsWith("java.math.");
+        boolean isOfJdk = List.of("java.lang.", "java.time.", "java.math.").stream().anyMatch(name::startsWith);
         if (isOfJdk || type == UUID.class || type.isPrimitive() || type.isEnum() || Enum.class.isAssignableFrom(type)) {
             return true;
         }
@@ -130,8 +139,8 @@ public final class Entries {
                 return true;
             }
             // The methods that javac gives a record are final.
-            boolean isPlain = type.isRecord() && Modifier.isFinal(hash.getModifiers()) && Modifier.isFinal(equals.getModifiers());
-            return isPlain && Arrays.stream(type.getRecordComponents()).allMatch(one -> isSurelyQuiet(one.getType()));
+            boolean isPlain = Modifier.isFinal(hash.getModifiers()) && Modifier.isFinal(equals.getModifiers());
+            return type.isRecord() && isPlain && Arrays.stream(type.getRecordComponents()).allMatch(one -> isSurelyQuiet(one.getType()));
         } catch (ReflectiveOperationException | LinkageError unknown) {
             return false;
         }
@@ -218,7 +227,7 @@ public final class Entries {
             Watched.passes(call);
         }
         Site site = Watched.siteOf(call);
-        Going going = new Going(isOfKey ? kind : kind == Does.SEES ? Does.SEES_ALL : kind.isOfKey() ? Does.CHANGES_ALL : kind, order, key, site);
+        Going going = new Going(isOfKey ? kind : kind.toAll(), order, key, site);
         if (going.does == Does.CHANGES_ALL) {
             going.entry = order.whole();
             going.change = going.entry.begin(site);

@@ -7,8 +7,8 @@ import java.util.ArrayList;
 import java.util.List;
 
 /**
- * The order of one entry of a map: who sees what it has comes after those who have changed it, and each change comes after the one before.
- * A change is known before it is made, so that nobody sees it earlier.
+ * The order of one entry of a map: who sees what it has comes after those who have changed it, and each change comes
+ * after the one before. A change is known before it is made, so that nobody sees it earlier.
  */
 final class EntryOrder {
     private static final Gives ENTRY = Gives.order("entry", "put entry", "see entry");

@@ -1,6 +1,8 @@
 package example.hometturi.itctrace;
 
-/** One side of a lock for readers and writers, as the agent follows it: that of those who read, or of those who write. */
+/**
+ * One side of a lock for readers and writers, as the agent follows it: that of those who read, or of those who write.
+ */
 final class FollowedSide extends ReportingLock {
     private final ReadWriteOrder order;
     private final boolean isWriter;

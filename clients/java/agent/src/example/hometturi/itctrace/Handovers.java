@@ -5,7 +5,10 @@ import java.util.concurrent.ArrayBlockingQueue;
 import java.util.concurrent.Phaser;
 import java.util.concurrent.atomic.AtomicInteger;
 
-/** What queues, exchangers, barriers and phasers of the JDK call by the agent: who hands something over, and who gets it. */
+/**
+ * What queues, exchangers, barriers and phasers of the JDK call by the agent: who hands something over, and who gets
+ * it.
+ */
 public final class Handovers {
     /** Of each node of a queue where its element was put. */
     private static final Keyed<Mark> NODES = new Keyed<>();

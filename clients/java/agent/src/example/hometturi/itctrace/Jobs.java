@@ -8,9 +8,15 @@ import java.util.concurrent.ForkJoinWorkerThread;
 import java.util.concurrent.atomic.AtomicInteger;
 import jdk.internal.misc.Unsafe;
 
-/** What fork-join pools and futures call by the agent. Each job, and each stage, is a task of its own, whichever thread does it. */
+/**
+ * What fork-join pools and futures call by the agent. Each job, and each stage, is a task of its own, whichever thread
+ * does it.
+ */
 public final class Jobs {
-    /** So many jobs of a process are tasks of their own. Those behind them are of the thread that does them, and are named. */
+    /**
+     * So many jobs of a process are tasks of their own. Those behind them are of the thread that does them, and are
+     * named.
+     */
     private static final int MOST = 5_000;
 
     private static final AtomicInteger COUNT = new AtomicInteger();
@@ -55,7 +61,8 @@ public final class Jobs {
         own.lendLocals();
         boolean isOwn = COUNT.incrementAndGet() <= MOST;
         if (!isOwn && COUNT.get() == MOST + 1) {
-            Traced.tracer().passOver("which job of a fork-join pool does what, behind the first " + MOST, Traced.site());
+            String what = "which job of a fork-join pool does what, behind the first " + MOST;
+            Traced.tracer().passOver(what, Traced.site());
         }
         Task task = isOwn ? Traced.stranger("job") : null;
         of(own).push(new Doing(job, task, task == null ? null : Traced.become(task)));

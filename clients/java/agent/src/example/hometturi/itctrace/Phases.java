@@ -5,7 +5,10 @@ import example.hometturi.itctrace.Row.Site;
 import java.util.Map;
 import java.util.TreeMap;
 
-/** Who has arrived in which phase of a phaser. The last one that arrives comes after the others, and after the phase before. */
+/**
+ * Who has arrived in which phase of a phaser. The last one that arrives comes after the others, and after the phase
+ * before.
+ */
 final class Phases {
     private static final Gives ARRIVAL = Gives.order("arrive", "arrive at phaser", "see arrival");
     private static final int MOST = 64;

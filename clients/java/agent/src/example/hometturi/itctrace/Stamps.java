@@ -4,7 +4,10 @@ import example.hometturi.itctrace.Traced.Own;
 import java.util.concurrent.TimeUnit;
 import java.util.concurrent.locks.StampedLock;
 
-/** What stands in the place of a call of a lock with stamps. What is read on trust counts as read under the lock, if it is valid. */
+/**
+ * What stands in the place of a call of a lock with stamps. What is read on trust counts as read under the lock, if it
+ * is valid.
+ */
 public final class Stamps {
     private static final long FOR_EVER = Long.MAX_VALUE;
 
@@ -97,8 +100,8 @@ public final class Stamps {
     }
 
     /**
-     * Does what says whether this thread may trust what it has read. Whoever writes next has to find that this thread has read before, so
-     * that is noted while it is still valid.
+     * Does what says whether this thread may trust what it has read. Whoever writes next has to find that this thread
+     * has read before, so that is noted while it is still valid.
      */
     private static boolean trusted(StampedLock lock, long stamp, Call<Boolean, RuntimeException> call) {
         Own own = Traced.isOn() ? Traced.own() : null;

@@ -43,6 +43,12 @@ final class OfHandovers implements ClassFileTransformer {
     private static final String EXCHANGER = CONCURRENT + "Exchanger";
     private static final String BARRIER = CONCURRENT + "CyclicBarrier";
     private static final String PHASER = CONCURRENT + "Phaser";
+    private static final String OF_AN_ANSWER = "(Z" + OBJECT + ")V";
+    private static final String OF_A_PHASE = "(ILjava/util/concurrent/Phaser;)V";
+    private static final String TIMED = "(JLjava/util/concurrent/TimeUnit;)";
+    private static final String STACK_NODE = SYNCHRONOUS_QUEUE + "$TransferStack$SNode";
+    private static final String QUEUE_NODE = SYNCHRONOUS_QUEUE + "$TransferQueue$QNode";
+    private static final String TRANSFER_NODE = TRANSFER_QUEUE + "$Node";
     private static final String PUBLISHER = CONCURRENT + "SubmissionPublisher";
     private static final String SUBSCRIPTION = PUBLISHER + "$BufferedSubscription";
     private static final String SUBSCRIBER = CONCURRENT + "Flow$Subscriber;";
@@ -57,8 +63,8 @@ final class OfHandovers implements ClassFileTransformer {
                     LINKED_DEQUE, false);
 
     /**
-     * A method, and the hook in front of its first instruction, or of each return. It gets the locals of these numbers, behind what is
-     * returned if it takes one more.
+     * A method, and the hook in front of its first instruction, or of each return. It gets the locals of these numbers,
+     * behind what is returned if it takes one more.
      */
     private record Put(String type, String method, boolean isAtEnd, String hook, String descriptor, int... locals) {
         boolean isFor(MethodNode one) {
@@ -101,24 +107,24 @@ final class OfHandovers implements ClassFileTransformer {
                     first(DELAY_QUEUE, "offer(Ljava/util/concurrent/Delayed;)Z", "puts", OF_TWO, 0, 1),
                     last(DELAY_QUEUE, "poll()Ljava/util/concurrent/Delayed;", "took", OF_TWO, 0),
                     last(DELAY_QUEUE, "take()Ljava/util/concurrent/Delayed;", "took", OF_TWO, 0),
-                    last(DELAY_QUEUE, "poll(JLjava/util/concurrent/TimeUnit;)Ljava/util/concurrent/Delayed;", "took", OF_TWO, 0),
+                    last(DELAY_QUEUE, "poll" + TIMED + "Ljava/util/concurrent/Delayed;", "took", OF_TWO, 0),
                     last(DELAY_QUEUE, "peek()Ljava/util/concurrent/Delayed;", "saw", OF_TWO, 0),
                     first(DELAY_QUEUE, "clear()V", "clears", OF_ANY, 0),
                     first(DELAY_QUEUE, "remove(" + OBJECT + ")Z", "muddles", OF_ANY, 0),
                     first(DELAY_QUEUE, "removeEQ(" + OBJECT + ")V", "muddles", OF_ANY, 0),
                     last(DELAY_QUEUE, "toArray()[" + OBJECT, "sawAll", OF_ANY, 0),
                     last(DELAY_QUEUE, "toArray([" + OBJECT + ")[" + OBJECT, "sawAll", OF_ANY, 0),
-                    last(SYNCHRONOUS_QUEUE + "$TransferStack$SNode", "<init>(" + OBJECT + ")V", "meets", OF_ANY, 0),
-                    last(SYNCHRONOUS_QUEUE + "$TransferStack$SNode", "tryMatch(L" + SYNCHRONOUS_QUEUE + "$TransferStack$SNode;)Z", "metIf", "(Z" + OBJECT + ")V", 0),
-                    last(SYNCHRONOUS_QUEUE + "$TransferQueue$QNode", "<init>(" + OBJECT + "Z)V", "meets", OF_ANY, 0),
-                    first(SYNCHRONOUS_QUEUE + "$TransferQueue$QNode", "casItem(" + OBJECT + OBJECT + ")Z", "meets", OF_ANY, 0),
-                    last(SYNCHRONOUS_QUEUE + "$TransferQueue$QNode", "casItem(" + OBJECT + OBJECT + ")Z", "metIf", "(Z" + OBJECT + ")V", 0),
-                    last(TRANSFER_QUEUE + "$Node", "<init>(" + OBJECT + ")V", "meets", OF_ANY, 0),
-                    first(TRANSFER_QUEUE + "$Node", "tryMatch(" + OBJECT + OBJECT + ")Z", "meets", OF_ANY, 0),
-                    last(TRANSFER_QUEUE + "$Node", "tryMatch(" + OBJECT + OBJECT + ")Z", "metIf", "(Z" + OBJECT + ")V", 0),
+                    last(STACK_NODE, "<init>(" + OBJECT + ")V", "meets", OF_ANY, 0),
+                    last(STACK_NODE, "tryMatch(L" + STACK_NODE + ";)Z", "metIf", OF_AN_ANSWER, 0),
+                    last(QUEUE_NODE, "<init>(" + OBJECT + "Z)V", "meets", OF_ANY, 0),
+                    first(QUEUE_NODE, "casItem(" + OBJECT + OBJECT + ")Z", "meets", OF_ANY, 0),
+                    last(QUEUE_NODE, "casItem(" + OBJECT + OBJECT + ")Z", "metIf", OF_AN_ANSWER, 0),
+                    last(TRANSFER_NODE, "<init>(" + OBJECT + ")V", "meets", OF_ANY, 0),
+                    first(TRANSFER_NODE, "tryMatch(" + OBJECT + OBJECT + ")Z", "meets", OF_ANY, 0),
+                    last(TRANSFER_NODE, "tryMatch(" + OBJECT + OBJECT + ")Z", "metIf", OF_AN_ANSWER, 0),
                     last(
                             TRANSFER_QUEUE,
-                            "awaitMatch(L" + TRANSFER_QUEUE + "$Node;L" + TRANSFER_QUEUE + "$Node;" + OBJECT + "ZJ)" + OBJECT,
+                            "awaitMatch(L" + TRANSFER_NODE + ";L" + TRANSFER_NODE + ";" + OBJECT + "ZJ)" + OBJECT,
                             "met",
                             OF_ANY,
                             1),
@@ -135,10 +141,10 @@ final class OfHandovers implements ClassFileTransformer {
                     first(PHASER, "doArrive(I)I", "arrives", OF_A_PHASER, 0),
                     first(PHASER, "arriveAndAwaitAdvance()I", "arrives", OF_A_PHASER, 0),
                     first(PHASER, "forceTermination()V", "arrives", OF_A_PHASER, 0),
-                    last(PHASER, "arriveAndAwaitAdvance()I", "sawPhase", "(ILjava/util/concurrent/Phaser;)V", 0),
-                    last(PHASER, "awaitAdvance(I)I", "sawPhase", "(ILjava/util/concurrent/Phaser;)V", 0),
-                    last(PHASER, "awaitAdvanceInterruptibly(I)I", "sawPhase", "(ILjava/util/concurrent/Phaser;)V", 0),
-                    last(PHASER, "awaitAdvanceInterruptibly(IJLjava/util/concurrent/TimeUnit;)I", "sawPhase", "(ILjava/util/concurrent/Phaser;)V", 0),
+                    last(PHASER, "arriveAndAwaitAdvance()I", "sawPhase", OF_A_PHASE, 0),
+                    last(PHASER, "awaitAdvance(I)I", "sawPhase", OF_A_PHASE, 0),
+                    last(PHASER, "awaitAdvanceInterruptibly(I)I", "sawPhase", OF_A_PHASE, 0),
+                    last(PHASER, "awaitAdvanceInterruptibly(I" + TIMED.substring(1) + "I", "sawPhase", OF_A_PHASE, 0),
                     last(PHASER, "isTerminated()Z", "sawEnd", "(ZLjava/util/concurrent/Phaser;)V", 0));
 
     /** What else is put into a class, by its name. */
@@ -155,7 +161,8 @@ final class OfHandovers implements ClassFileTransformer {
         EDITS.put(PHASER, OfHandovers::editPhaser);
         EDITS.put(PUBLISHER, (node, method) -> {});
         EDITS.put(COPIED_LIST, (node, method) -> {});
-        OF_NODES.forEach((name, isLocked) -> EDITS.put(name, (node, method) -> editQueueOfNodes(name, isLocked, node, method)));
+        OF_NODES.forEach(
+                (name, isLocked) -> EDITS.put(name, (node, method) -> editQueueOfNodes(name, isLocked, node, method)));
     }
 
     /** Whether the class is one of those. */
@@ -269,7 +276,7 @@ final class OfHandovers implements ClassFileTransformer {
             if (method.name.equals("<init>") && method.desc.equals(OF_ANY)) {
                 put(last(type, OF_ANY, "putsNode", OF_TWO, 0, 1), method);
             } else if (method.name.equals("casItem")) {
-                put(last(type, "", "leavesIf", "(Z" + OBJECT + ")V", 0), method);
+                put(last(type, "", "leavesIf", OF_AN_ANSWER, 0), method);
             }
             return;
         }
@@ -297,7 +304,7 @@ final class OfHandovers implements ClassFileTransformer {
                 method.instructions.insertBefore(one, listOf(plain(Opcodes.POP), new VarInsnNode(Opcodes.ASTORE, node + 1)));
                 method.instructions.insertBefore(one, listOf(plain(Opcodes.DUP), new VarInsnNode(Opcodes.ASTORE, node)));
                 method.instructions.insertBefore(one, listOf(load(node + 1), plain(Opcodes.ACONST_NULL)));
-                method.instructions.insert(one, listOf(plain(Opcodes.DUP), load(node), hook("leavesIf", "(Z" + OBJECT + ")V")));
+                method.instructions.insert(one, listOf(plain(Opcodes.DUP), load(node), hook("leavesIf", OF_AN_ANSWER)));
             }
         }
     }
@@ -331,7 +338,7 @@ final class OfHandovers implements ClassFileTransformer {
     /** What is drained is taken before somebody else has it. */
     private static void putIntoDrain(MethodNode method) {
         for (AbstractInsnNode one : method.instructions.toArray()) {
-            boolean isAdding = one instanceof MethodInsnNode call && call.owner.equals("java/util/Collection") && call.name.equals("add");
+            boolean isAdding = one instanceof MethodInsnNode call && call.name.equals("add");
             if (method.name.equals("drainTo") && isAdding) {
                 method.instructions.insertBefore(one, listOf(plain(Opcodes.DUP), load(0), hook("took", OF_TWO)));
             }
@@ -339,25 +346,24 @@ final class OfHandovers implements ClassFileTransformer {
     }
 
     private static void editSynchronousQueue(ClassNode node, MethodNode method) {
-        String stackNode = SYNCHRONOUS_QUEUE + "$TransferStack$SNode";
-        String queueNode = SYNCHRONOUS_QUEUE + "$TransferQueue$QNode";
         if (!method.name.equals("transfer")) {
             return;
         }
-        for (FieldInsnNode access : accesses(method, Opcodes.GETFIELD, stackNode, "match")) {
+        for (FieldInsnNode access : accesses(method, Opcodes.GETFIELD, STACK_NODE, "match")) {
             method.instructions.insertBefore(access, plain(Opcodes.DUP));
-            method.instructions.insert(access, listOf(hook("meetsNode", OF_ITEM), new TypeInsnNode(Opcodes.CHECKCAST, stackNode)));
+            TypeInsnNode cast = new TypeInsnNode(Opcodes.CHECKCAST, STACK_NODE);
+            method.instructions.insert(access, listOf(hook("meetsNode", OF_ITEM), cast));
         }
-        for (FieldInsnNode access : accesses(method, Opcodes.GETFIELD, queueNode, "item")) {
+        for (FieldInsnNode access : accesses(method, Opcodes.GETFIELD, QUEUE_NODE, "item")) {
             method.instructions.insertBefore(access, plain(Opcodes.DUP));
-            method.instructions.insert(access, listOf(load(1), hook("meetsItem", "(" + OBJECT + OBJECT + OBJECT + ")" + OBJECT)));
+            String descriptor = "(" + OBJECT + OBJECT + OBJECT + ")" + OBJECT;
+            method.instructions.insert(access, listOf(load(1), hook("meetsItem", descriptor)));
         }
     }
 
     private static void editTransferQueue(ClassNode node, MethodNode method) {
-        String type = TRANSFER_QUEUE + "$Node";
-        if (!node.name.equals(type) && !Set.of("xfer", "awaitMatch").contains(method.name)) {
-            seeField(method, type, "item", "seesOffer");
+        if (!node.name.equals(TRANSFER_NODE) && !Set.of("xfer", "awaitMatch").contains(method.name)) {
+            seeField(method, TRANSFER_NODE, "item", "seesOffer");
         }
     }
 
@@ -369,12 +375,15 @@ final class OfHandovers implements ClassFileTransformer {
         }
     }
 
-    /** All who meet at a barrier in one generation come after one another. Its action comes after those who arrive, too. */
+    /**
+     * All who meet at a barrier in one generation come after one another. Its action comes after those who arrive, too.
+     */
     private static void editBarrier(ClassNode node, MethodNode method) {
         InsnList code = method.instructions;
         String generation = "L" + BARRIER + "$Generation;";
         if (method.name.equals("nextGeneration")) {
-            code.insert(listOf(load(0), new FieldInsnNode(Opcodes.GETFIELD, BARRIER, "generation", generation), hook("meets", OF_ANY)));
+            FieldInsnNode current = new FieldInsnNode(Opcodes.GETFIELD, BARRIER, "generation", generation);
+            code.insert(listOf(load(0), current, hook("meets", OF_ANY)));
         }
         if (!method.name.equals("dowait")) {
             return;

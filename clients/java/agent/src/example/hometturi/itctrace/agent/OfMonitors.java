@@ -22,7 +22,8 @@ import org.objectweb.asm.tree.VarInsnNode;
 
 /** Has the classes of the JDK that guard themselves by a monitor tell of it, for objects that the program uses. */
 final class OfMonitors implements ClassFileTransformer {
-    private static final Set<String> CLASSES = Set.of("java/util/Vector", "java/util/Stack", "java/util/Hashtable", "java/lang/StringBuffer");
+    private static final Set<String> CLASSES =
+            Set.of("java/util/Vector", "java/util/Stack", "java/util/Hashtable", "java/lang/StringBuffer");
     private static final String SYNCHRONIZED = "java/util/Collections$Synchronized";
     private static final String THROWABLE = "java/lang/Throwable";
 
@@ -69,7 +70,7 @@ final class OfMonitors implements ClassFileTransformer {
     }
 
     private static MethodInsnNode hook(String name) {
-        return new MethodInsnNode(Opcodes.INVOKESTATIC, "example/hometturi/itctrace/Watched", name, "(Ljava/lang/Object;)V", false);
+        return Rewriter.hook(name, "(Ljava/lang/Object;)V");
     }
 
     private static VarInsnNode own() {
