@@ -9,6 +9,7 @@ import java.util.concurrent.ConcurrentLinkedDeque;
 import java.util.concurrent.ConcurrentLinkedQueue;
 import java.util.concurrent.CopyOnWriteArrayList;
 import java.util.concurrent.CopyOnWriteArraySet;
+import java.util.concurrent.CountDownLatch;
 import java.util.concurrent.CyclicBarrier;
 import java.util.concurrent.DelayQueue;
 import java.util.concurrent.Delayed;
@@ -18,6 +19,7 @@ import java.util.concurrent.LinkedBlockingQueue;
 import java.util.concurrent.LinkedTransferQueue;
 import java.util.concurrent.Phaser;
 import java.util.concurrent.PriorityBlockingQueue;
+import java.util.concurrent.SubmissionPublisher;
 import java.util.concurrent.SynchronousQueue;
 import java.util.concurrent.TimeUnit;
 import java.util.concurrent.TransferQueue;
@@ -318,6 +320,21 @@ public final class Handed {
                     }
                     all.forEach(store -> System.out.println(store.left));
                 });
+    }
+
+    static void published() throws InterruptedException {
+        CountDownLatch over = new CountDownLatch(1);
+        Store total = new Store();
+        try (SubmissionPublisher<Store> publisher = new SubmissionPublisher<>()) {
+            publisher.consume(store -> total.left += store.left).thenRun(over::countDown);
+            for (int number = 0; number < 5; number++) {
+                Store store = new Store();
+                store.left = number;
+                publisher.submit(store);
+            }
+        }
+        over.await();
+        System.out.println(total.left);
     }
 
     private Handed() {}

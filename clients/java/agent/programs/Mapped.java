@@ -1,3 +1,4 @@
+import java.util.Collections;
 import java.util.Iterator;
 import java.util.Map;
 import java.util.Set;
@@ -188,6 +189,21 @@ public final class Mapped {
                         store = stores.get(new Pair("north", 1));
                     }
                     System.out.println(store.left);
+                });
+    }
+
+    static void shownOnly() throws InterruptedException {
+        ConcurrentMap<String, Store> stores = new ConcurrentHashMap<>();
+        Map<String, Store> shown = Collections.unmodifiableMap(stores);
+        both(
+                () -> {
+                    Store store = new Store();
+                    store.left = 7;
+                    stores.put("north", store);
+                },
+                () -> {
+                    wait(shown);
+                    System.out.println(shown.get("north").left);
                 });
     }
 

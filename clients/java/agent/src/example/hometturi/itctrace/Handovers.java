@@ -49,9 +49,9 @@ public final class Handovers {
 
     public static Object seesItem(Object node, Object item) {
         Mark mark = item == null || !Traced.isOn() ? null : NODES.known(node);
-        if (mark != null) {
+        if (mark != null && mark.place.task != Traced.current()) {
             Traced.take(mark, Traced.site());
-        } else if (item != null && COUNT.get() > MOST) {
+        } else if (mark == null && item != null && COUNT.get() > MOST) {
             Traced.after(LATER);
         }
         return item;

@@ -50,6 +50,11 @@ final class Givers {
         swept = marks.size();
     }
 
+    /** Whether another task than this one has given something. */
+    synchronized boolean isOfOthers(Task task) {
+        return marks.size() > 1 || !marks.isEmpty() && !marks.containsKey(task.number);
+    }
+
     synchronized void take(Site site) {
         marks.values().forEach(mark -> Traced.take(mark, site));
     }

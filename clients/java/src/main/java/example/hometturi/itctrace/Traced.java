@@ -293,7 +293,7 @@ public final class Traced {
     /** This thread comes after all who have called {@code before} with this object by now. It stands behind what has waited for them. */
     public static void after(Object token) {
         Givers givers = isOn() ? TOKENS.known(token) : null;
-        if (givers != null) {
+        if (givers != null && givers.isOfOthers(current())) {
             givers.take(site());
         }
     }
