@@ -10,7 +10,7 @@ from __future__ import annotations
 import ast
 import functools
 import linecache
-from collections.abc import Iterable, Iterator
+from collections.abc import Iterable, Iterator, Sequence
 from itertools import islice
 from types import CodeType
 from typing import Any, NamedTuple
@@ -156,6 +156,11 @@ def _names_in(node: ast.AST) -> Iterator[str]:
             yield one.attr
 
 
+def _behind(row: Sequence[ast.AST], one: ast.AST) -> Sequence[ast.AST]:
+    """What stands behind it in the row."""
+    return row[row.index(one) + 1:]
+
+
 class _Asked:
     """An expression that asks, and its function."""
 
@@ -224,7 +229,7 @@ class _Asked:
         if isinstance(above, ast.BoolOp):
             is_and = isinstance(above.op, ast.And)
             if says.if_true if is_and else says.if_false:
-                self._guarded += above.values[above.values.index(node) + 1:]  # type: ignore[arg-type]
+                self._guarded += _behind(above.values, node)
             return Says(says.if_true and is_and, says.if_false and not is_and)
         if isinstance(above, ast.Compare) and len(above.ops) == 1 and above.left is node:
             return _compared(above, says)
@@ -243,7 +248,7 @@ class _Asked:
         if says.if_true:
             around = self._source.parents[above]
             self._guarded += [one for one in ast.iter_child_nodes(around) if not isinstance(one, ast.comprehension)]
-            self._guarded += above.ifs[above.ifs.index(test) + 1:]  # type: ignore[arg-type]
+            self._guarded += _behind(above.ifs, test)
 
     def _kept(self, node: ast.Assign | ast.NamedExpr, says: Says) -> None:
         """A variable of the function has the value, and nothing else. What tests it tests the answer."""
