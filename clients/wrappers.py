@@ -13,6 +13,7 @@ import json
 import os
 import re
 import socket
+import statistics
 import subprocess
 import sys
 import tempfile
@@ -57,7 +58,9 @@ NO_RACE, RACES, INCOMPLETE = 0, 66, 67
 SYSTEM = "system.toml"
 """The file that describes a system."""
 MOST_OF_FIRST = 1.15
-"""So many times as much memory as the collector of the first part any later one may take."""
+"""So many times as much memory as the collector of the first part half of the later ones may take."""
+MOST_BESIDE = 12_000
+"""So many kilobytes more than that any later one may take."""
 AT_ONCE = max(2, len(os.sched_getaffinity(0)))
 OF_A_SYSTEM = 5
 """So many programs at most are processes of one system."""
@@ -347,7 +350,8 @@ def check_long(programs: Programs, name: str, source: Path) -> Peaks:
 def check_collectors(peaks: Peaks) -> None:
     """The parts of a long run become no longer: each begins with little."""
     of_first, *of_others = peaks.of(Kind.COLLECTOR)
-    if max(of_others) > MOST_OF_FIRST * of_first:
+    most = MOST_OF_FIRST * of_first
+    if statistics.median(of_others) > most or max(of_others) > most + MOST_BESIDE:
         raise Wrong(f"the collector of the first part takes {of_first} kB, and the others take {of_others}")
 
 
