@@ -27,7 +27,7 @@ from .hidden_races import CLEAN, HIDDEN, THREADS, TOUCHES, Ran, confirmed, progr
 from .support import ProgramCase, run_traced
 
 QUICK = ("lock_field", "first_holds_element", "own_queue_length", "lock_of_condition_keys", "permits_both_count", "poll_set")
-QUICK_CLEAN = ("condition_length", "turns_both_count")
+QUICK_CLEAN = ("condition_set", "turns_both_count")
 UNTOLD = program(HIDDEN["lock_of_condition"], TOUCHES["field"])
 """No possible race is told of it, since somebody may wait at the condition."""
 
@@ -77,6 +77,14 @@ class Counted(ProgramCase):
 
     def test_what_both_did_under_one_lock_is_not_counted(self) -> None:
         self.assertRegex(self.last(program(CLEAN["common_lock"], TOUCHES["field"])), r"^itc_trace: no race in this run: ")
+
+    def test_what_is_polled_to_the_end_is_not_counted(self) -> None:
+        polled = program(CLEAN["polled_to_the_end"], TOUCHES["field"])
+        self.assertRegex(self.last(polled), r"^itc_trace: no race in this run: ")
+        left = polled.replace("while worker.is_alive():\n        time.sleep(0.001)", "time.sleep(0.1)\n    worker.is_alive()")
+        self.assertRegex(
+            self.last(left), r"^itc_trace: no race in this run; 1 more pair is in order by polls alone: run --confirm: "
+        )
 
     def test_what_an_event_or_a_join_orders_is_not_counted(self) -> None:
         by_event = UNTOLD.replace("guard = threading.Condition()", "told, guard = threading.Event(), threading.Condition()")
