@@ -420,18 +420,21 @@ _IN_PYTHON = [
 ]
 
 
-def be_quick(quick: Any) -> None:
+def be_quick(quick: Any) -> bool:
     """From here on locks are acquired and released by methods in C, which leave to these what is rare.
 
-    Those that another library has put in the place of the interpreter's keep these.
+    Those that another library has put in the place of the interpreter's keep these. Gives whether locks are quick now:
+    what else is noted in C knows tasks and tokens by that.
     """
-    if not _is_walked and all(kind.__module__ == "_thread" for kind in (_PlainLock, _PlainRLock)):
+    is_quick = not _is_walked and all(kind.__module__ == "_thread" for kind in (_PlainLock, _PlainRLock))
+    if is_quick:
         _put_methods(quick.lock_methods(
             turns=TURNS, local=local, asyncio=ASYNCIO, nothing=no_loop, took=_took_by_c, gave=_gave_by_c,
             lock=TracedLock, rlock=TracedRLock, token=Token, line=Line, section=Section, identity=LockIdentity,
             stretch=Stretch, plain_lock=_PlainLock, release=_PlainLock.release, acquire_rlock=_PlainRLock.acquire,
             release_rlock=_PlainRLock.release, owned_rlock=_PlainRLock._is_owned, most_of_stretch=MOST_OF_STRETCH,
         ))
+    return is_quick
 
 
 def _took_by_c(lock: Any) -> None:

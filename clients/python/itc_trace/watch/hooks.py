@@ -1741,9 +1741,9 @@ QUIET: dict[str, Callable[..., Any]] = {
 
 if quick is not None:
     _set_up()
-    locks.be_quick(quick)
-    queues.be_quick(quick)
-    loops.be_quick(quick)
+    if locks.be_quick(quick):
+        queues.be_quick(quick)
+        loops.be_quick(quick)
     HOOKS.update({name[5:]: one for name, one in vars(quick).items() if name.startswith("hook_")})
     QUIET.update({name: quick.first for name, one in QUIET.items() if one is _first})
     QUIET.update({name: quick.second for name, one in QUIET.items() if one is _second})
