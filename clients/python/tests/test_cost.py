@@ -9,7 +9,7 @@ import unittest
 from itc_trace import Verdict
 from itc_trace.watch.helper import quick
 
-from .support import ProgramCase, run_traced
+from .support import ProgramCase, run_python, run_traced
 
 NO_HELPER = "there is no compiler here, or another Python"
 TURNS = 100
@@ -133,6 +133,20 @@ class InPlace(ProgramCase):
             with self.subTest(hooks="Python" if pure else "C"):
                 raced = self.raced("with lock: len(of_shop), len(of_table), len(of_row)", pure)
                 self.assertEqual(raced, set())
+
+
+WALKED = """
+from itc_trace.sync import locks
+locks.walk_always()
+from itc_trace.watch import hooks
+print("imported")
+"""
+
+
+class Left(unittest.TestCase):
+    def test_queues_and_loops_are_left_to_python_if_locks_are(self) -> None:
+        ran = run_python("-c", WALKED)
+        self.assertEqual((ran.returncode, ran.stdout), (0, "imported\n"), ran.stderr)
 
 
 if __name__ == "__main__":
