@@ -104,7 +104,7 @@ class Calls(ProgramCase):
     def test_an_item_is_put_and_got_by_few(self) -> None:
         for kind in ("Queue", "PriorityQueue"):
             with self.subTest(kind):
-                self.assertLess(self.calls_of(QUEUE.replace("KIND", kind)), 8)
+                self.assertLess(self.calls_of(QUEUE.replace("KIND", kind)), 10)
 
     @unittest.skipIf(quick is None, NO_HELPER)
     def test_a_turn_of_a_loop_takes_few(self) -> None:

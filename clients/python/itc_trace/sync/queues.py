@@ -338,7 +338,12 @@ _is_taken: Callable[[Token], bool | None] = _nothing_by_c
 def be_quick(quick: Any) -> None:
     """From here on most items are noted in C."""
     global _note_put, _note_got, _again, _is_taken
-    quick.know_queues(items=Items, what=QUEUE, own_steps=_own_steps, internal=INTERNAL_NAMES, most_places=MOST_PLACES)
+    methods = quick.know_queues(
+        items=Items, what=QUEUE, own_steps=_own_steps, internal=INTERNAL_NAMES, most_places=MOST_PLACES, mutex=_Mutex,
+        of_conditions=_OF_CONDITIONS,
+    )
+    for name, method in methods.items():
+        setattr(_Mutex, name, method)
     _note_put, _note_got, _again, _is_taken = quick.note_put, quick.note_got, quick.again, quick.is_taken
 
 

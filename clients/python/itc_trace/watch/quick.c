@@ -2357,6 +2357,88 @@ static int is_at_place_of(PyObject *token)
     return is_there;
 }
 
+/* The lock of a queue, as the program has it. The library's own code acquires it by the conditions of the queue, and
+   that is nothing to note. All else is left to Python, and so is each wait. */
+
+static PyObject *of_conditions;  /* The modules whose code acquires the lock of a condition for whoever calls. */
+static Places of_mutex;
+
+static int is_of_condition(PyFrameObject *frame)
+{
+    PyObject *globals = PyFrame_GetGlobals(frame), *name = PyDict_GetItemWithError(globals, text_name);
+    int is_so = name != NULL && PyUnicode_CheckExact(name) && PySet_Contains(of_conditions, name) > 0;
+    Py_DECREF(globals);
+    PyErr_Clear();
+    return is_so;
+}
+
+/* Whether the library alone acquires or releases the lock, as far as that is plain to see. */
+static int is_by_library(void)
+{
+    if (FIELD(given.state, in_state.note) == Py_None)
+        return 1;
+    PyFrameObject *frame = PyThreadState_GetFrame(PyThreadState_Get());
+    while (frame != NULL && is_of_condition(frame))
+        frame = back_of(frame);
+    int is_so = frame != NULL && is_of_program(frame) == 0;
+    Py_XDECREF((PyObject *)frame);
+    return is_so;
+}
+
+static PyObject *mutex_acquired(PyObject *self, PyObject *python)
+{
+    PlainLock *plain = plain_of_lock(self);
+    if (plain == NULL || !is_by_library() || !PyThread_acquire_lock(plain->lock, NOWAIT_LOCK))
+        return PyObject_CallOneArg(python, self);
+    plain->is_locked = 1;
+    Py_RETURN_TRUE;
+}
+
+static PyObject *mutex_released(PyObject *self, PyObject *python)
+{
+    PlainLock *plain = plain_of_lock(self);
+    if (plain == NULL || !plain->is_locked || !is_by_library())
+        return PyObject_CallOneArg(python, self);
+    plain->is_locked = 0;
+    PyThread_release_lock(plain->lock);
+    Py_RETURN_NONE;
+}
+
+/* A condition looks whether its lock is held by trying to acquire it. */
+static PyObject *mutex_acquire(PyObject *self, PyObject *words, PyObject *named)
+{
+    PlainLock *plain = plain_of_lock(self);
+    if (PyTuple_GET_SIZE(words) == 0 && named == NULL)
+        return mutex_acquired(self, of_mutex.python[ACQUIRE]);
+    if (PyTuple_GET_SIZE(words) == 1 && named == NULL && PyTuple_GET_ITEM(words, 0) == Py_False && plain != NULL
+        && plain->is_locked)
+        Py_RETURN_FALSE;
+    return with_words(of_mutex.python[ACQUIRE], self, words, named);
+}
+
+static PyObject *mutex_enter(PyObject *self, PyObject *ignored)
+{
+    return mutex_acquired(self, of_mutex.python[ENTER]);
+}
+
+static PyObject *mutex_release(PyObject *self, PyObject *ignored)
+{
+    return mutex_released(self, of_mutex.python[RELEASE]);
+}
+
+static PyObject *mutex_exit(PyObject *self, PyObject *const *words, Py_ssize_t count)
+{
+    return mutex_released(self, of_mutex.python[EXIT]);
+}
+
+static PyMethodDef methods_of_mutex[] = {
+    {"acquire", (PyCFunction)(void (*)(void))mutex_acquire, METH_VARARGS | METH_KEYWORDS, NULL},
+    {"__enter__", mutex_enter, METH_NOARGS, NULL},
+    {"release", mutex_release, METH_NOARGS, NULL},
+    {"__exit__", (PyCFunction)(void (*)(void))mutex_exit, METH_FASTCALL, NULL},
+    {NULL},
+};
+
 /* The token of the same place, if the task has done nothing since: a new reference. Nothing if another one is due. */
 static PyObject *token_again(PyObject *what)
 {
@@ -2664,13 +2746,15 @@ static PyObject *is_taken(PyObject *self, PyObject *token)
     return PyBool_FromLong(is_known_now);
 }
 
-/* From here on items of queues are noted by what is handed over, which is kept for as long as the process lives. */
+/* From here on items of queues are noted by what is handed over, which is kept for as long as the process lives. Gives
+   the methods of the lock of a queue. */
 static PyObject *know_queues(PyObject *self, PyObject *words, PyObject *named)
 {
-    static char *names[] = {"items", "what", "own_steps", "internal", "most_places", NULL};
+    static char *names[] = {"items", "what", "own_steps", "internal", "most_places", "mutex", "of_conditions", NULL};
+    PyTypeObject *mutex;
     if (!PyArg_ParseTupleAndKeywords(
-            words, named, "OOOOl", names, &of_queues.items, &of_queues.what, &of_queues.own_steps, &of_queues.internal,
-            &of_queues.most_places))
+            words, named, "OOOOlOO", names, &of_queues.items, &of_queues.what, &of_queues.own_steps,
+            &of_queues.internal, &of_queues.most_places, &mutex, &of_conditions))
         return NULL;
     Py_INCREF(named);
     const Slot slots_of_queues[] = {
@@ -2687,7 +2771,7 @@ static PyObject *know_queues(PyObject *self, PyObject *words, PyObject *named)
             return NULL;
     if (find_slots(slots_of_queues, sizeof slots_of_queues / sizeof *slots_of_queues) < 0)
         return NULL;
-    Py_RETURN_NONE;
+    return methods_for(mutex, methods_of_mutex, &of_mutex);
 }
 
 /* From here on turns of loops begin here, with what is handed over, which is kept for as long as the process lives. */
