@@ -63,7 +63,7 @@ public final class GuardedRaces {
         Store store = new Store();
         both(
                 () -> {
-                    Thread.sleep(40);
+                    Thread.sleep(600); // The other one has read by then.
                     long stamp = lock.writeLock();
                     store.left++; // race: neverValidated
                     lock.unlockWrite(stamp);
