@@ -5,7 +5,6 @@ import java.util.concurrent.BlockingQueue;
 import java.util.concurrent.ConcurrentLinkedDeque;
 import java.util.concurrent.ConcurrentLinkedQueue;
 import java.util.concurrent.CopyOnWriteArrayList;
-import java.util.concurrent.CountDownLatch;
 import java.util.concurrent.CyclicBarrier;
 import java.util.concurrent.DelayQueue;
 import java.util.concurrent.Exchanger;
@@ -14,7 +13,6 @@ import java.util.concurrent.LinkedBlockingQueue;
 import java.util.concurrent.LinkedTransferQueue;
 import java.util.concurrent.Phaser;
 import java.util.concurrent.PriorityBlockingQueue;
-import java.util.concurrent.SubmissionPublisher;
 import java.util.concurrent.SynchronousQueue;
 
 /** Programs that hand something over by a queue, an exchanger, a barrier or a phaser, each with a race. */
@@ -259,17 +257,6 @@ public final class HandedRaces {
                         System.out.println(store.left); // race: behindTheListing
                     }
                 });
-    }
-
-    static void changedAfterSubmit() throws InterruptedException {
-        CountDownLatch over = new CountDownLatch(1);
-        try (SubmissionPublisher<Store> publisher = new SubmissionPublisher<>()) {
-            publisher.consume(store -> System.out.println(store.left)).thenRun(over::countDown); // race: changedAfterSubmit
-            Store store = new Store();
-            publisher.submit(store);
-            store.left = 4; // race: changedAfterSubmit
-        }
-        over.await();
     }
 
     private HandedRaces() {}
