@@ -165,6 +165,22 @@ public final class MoreRaces {
         System.out.println(language.length()); // race: reloaded
     }
 
+    static int stage;
+
+    /** Nothing stands between the last look and the end of the process. */
+    static void polled() {
+        Thread other =
+                new Thread(
+                        () -> {
+                            stage = 1; // race: polled
+                        });
+        other.setDaemon(true);
+        other.start();
+        while (stage == 0) { // race: polled
+            Thread.onSpinWait();
+        }
+    }
+
     static final class Statistics {
         private static long total;
 
@@ -272,6 +288,7 @@ public final class MoreRaces {
         both(
                 () -> mailbox.put("hello"),
                 () -> {
+                    rest(); // Else this one may wait for the letter, and what it did before would come before that.
                     try {
                         System.out.println(mailbox.isEmpty() || true);
                         System.out.println(mailbox.take());

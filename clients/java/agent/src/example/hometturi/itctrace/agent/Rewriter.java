@@ -228,7 +228,9 @@ final class Rewriter {
                 code.insertBefore(access, listOf(number(place), hook("begin", OF_A_NUMBER)));
                 behind.insert(listOf(number(place), hook("end", OF_A_NUMBER)));
             } else if (field.isStatic()) {
-                behind.add(listOf(number(place), hook("touch", OF_A_NUMBER)));
+                initializeBefore(access, isWide);
+                code.insertBefore(access, behind); // The class is seen before the touch.
+                code.insertBefore(access, listOf(number(place), hook("touch", OF_A_NUMBER)));
             } else if (field.isVolatile()) {
                 rewriteVolatile(access, place, writes, isWide, behind);
             } else if (!writes) {
@@ -241,7 +243,7 @@ final class Rewriter {
             }
         }
 
-        /** The class of a static field is initialized, or that fails, before an access begins that has to end. */
+        /** The class of a static field is initialized, or that fails, before the access is told. */
         private void initializeBefore(FieldInsnNode access, boolean isWide) {
             if (!access.owner.equals(node.name)) {
                 code.insertBefore(access, new FieldInsnNode(Opcodes.GETSTATIC, access.owner, access.name, access.desc));
