@@ -1,8 +1,4 @@
 import java.lang.reflect.Field;
-import java.util.ArrayList;
-import java.util.HashMap;
-import java.util.List;
-import java.util.Map;
 import java.util.concurrent.CompletableFuture;
 import java.util.concurrent.ConcurrentHashMap;
 import java.util.concurrent.ConcurrentMap;
@@ -35,32 +31,6 @@ public final class Stars {
         } catch (InterruptedException interrupted) {
             Thread.currentThread().interrupt();
         }
-    }
-
-    static void sharedMap() throws InterruptedException {
-        Map<String, Integer> stock = new HashMap<>();
-        both(
-                () -> stock.put("apple", 1), // star: sharedMap
-                () -> stock.put("pear", 2)); // star: sharedMap
-    }
-
-    static void sharedList() throws InterruptedException {
-        List<String> names = new ArrayList<>();
-        both(
-                () -> names.add("one"), // star: sharedList
-                () -> {
-                    for (String name : names) { // star: sharedList
-                        System.out.println(name.length());
-                    }
-                });
-    }
-
-    static void sharedArray() throws InterruptedException {
-        int[] counts = new int[2];
-        both(
-                () -> counts[0]++, // star: sharedArray
-                () -> counts[1]++); // star: sharedArray
-        System.out.println(counts[0] + counts[1]);
     }
 
     static void concurrentMap() throws InterruptedException {

@@ -346,7 +346,7 @@ final class Tracer {
     }
 
     /** What was touched in a program that is watched as it is, what a person calls it, and how it was touched. */
-    record Watching(String thing, String name, String kind) {}
+    record Watching(String thing, Row.Called called, String kind) {}
 
     /** In the stretch the task has touched the thing, which is of this process. */
     synchronized void touched(Task task, Stretch stretch, Watching what, Site site, Held held) {
@@ -354,8 +354,8 @@ final class Tracer {
             return;
         }
         List<String> locks = held == null ? List.of() : held.inOrder();
-        String label = what.kind() + " " + what.name();
-        Row row = new Row(task.name, what.thing() + " of " + process, what.kind(), site, label, locks, null, List.of(), 0, what.name());
+        String label = what.kind() + " " + what.called().name();
+        Row row = new Row(task.name, what.thing() + " of " + process, what.kind(), site, label, locks, null, List.of(), 0, what.called());
         Touches told = stretch.add(row);
         if (told != null) {
             grows(told);
@@ -499,6 +499,9 @@ final class Tracer {
             return;
         }
         task.learn(place.task, place.position, kind);
+        if (kind != Kind.LUCK) {
+            task.comeAfter(place.ages());
+        }
         leave(task);
         Row row = Row.of(task.name, "recv", site, noted.gives().taking(), noted.gives().handed());
         tell(task, "recv " + task.name + " " + slot.message, row, Refusable.RECEIVED, null);
@@ -602,6 +605,7 @@ final class Tracer {
             gone.forget(child.watched);
             ended.remove(child);
             task.learn(child, child.position, Kind.MEANT);
+            task.comeAfter(child.growOlder());
             leave(task);
             Row row = Row.of(task.name, "join", site, "join " + child.name, null);
             tell(task, "join " + task.name + " " + child.name, row, Refusable.NEVER, null);
