@@ -12,6 +12,7 @@ import java.util.Map;
 import java.util.PriorityQueue;
 import java.util.Queue;
 import java.util.TreeMap;
+import java.util.concurrent.CountDownLatch;
 import java.util.concurrent.ExecutorService;
 import java.util.concurrent.Executors;
 import java.util.concurrent.Future;
@@ -310,6 +311,44 @@ public final class MorePartClean {
                 };
         both(count, count);
         System.out.println(counts.get("apple"));
+    }
+
+    /** The thread that merges is over before the process ends. */
+    static void mergedInTime() throws InterruptedException {
+        Map<String, Integer> counts = new HashMap<>(Map.of("apple", 1));
+        Thread slow = new Thread(() -> counts.merge("apple", 1, Integer::sum));
+        slow.setDaemon(true);
+        slow.start();
+        slow.join();
+        System.out.println(counts.get("apple") > 9);
+    }
+
+    /** The thread goes on, and what it has asked for has thrown. */
+    static void thrownBefore() throws InterruptedException {
+        List<Integer> numbers = List.of(1, 2);
+        List<Integer> shown = new ArrayList<>(numbers);
+        CountDownLatch begun = new CountDownLatch(1);
+        Thread waiting =
+                new Thread(
+                        () -> {
+                            try {
+                                shown.add(9, 3);
+                            } catch (IndexOutOfBoundsException thrown) {
+                                begun.countDown();
+                                lookUp();
+                            }
+                        });
+        waiting.setDaemon(true);
+        waiting.start();
+        begun.await();
+    }
+
+    private static void lookUp() {
+        try {
+            Thread.sleep(60_000);
+        } catch (InterruptedException interrupted) {
+            Thread.currentThread().interrupt();
+        }
     }
 
     private MorePartClean() {}

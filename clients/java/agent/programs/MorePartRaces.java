@@ -12,6 +12,7 @@ import java.util.Map;
 import java.util.PriorityQueue;
 import java.util.Queue;
 import java.util.TreeMap;
+import java.util.concurrent.CountDownLatch;
 import java.util.concurrent.TimeUnit;
 
 /** Further programs of which two threads touch the same element, key or shape. A line that races says so in a comment. */
@@ -84,6 +85,35 @@ public final class MorePartRaces {
         both(
                 () -> names.headMap(5).clear(), // race: lowerHalf
                 () -> System.out.println(names.get(9))); // race: lowerHalf
+    }
+
+    /** The process ends while the other thread has not told yet what it has merged. */
+    static void mergedLate() throws InterruptedException {
+        Map<String, Integer> counts = new HashMap<>(Map.of("apple", 1));
+        CountDownLatch begun = new CountDownLatch(1);
+        Thread slow =
+                new Thread(
+                        () ->
+                                counts.merge( // race: mergedLate
+                                        "apple",
+                                        1,
+                                        (one, other) -> {
+                                            begun.countDown();
+                                            rest();
+                                            return one + other;
+                                        }));
+        slow.setDaemon(true);
+        slow.start();
+        begun.await();
+        System.out.println(counts.get("apple") > 9); // race: mergedLate
+    }
+
+    private static void rest() {
+        try {
+            Thread.sleep(300);
+        } catch (InterruptedException interrupted) {
+            Thread.currentThread().interrupt();
+        }
     }
 
     static void twoEnds() throws InterruptedException {

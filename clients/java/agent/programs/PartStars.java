@@ -8,6 +8,7 @@ import java.util.HashMap;
 import java.util.List;
 import java.util.Map;
 import java.util.TreeMap;
+import java.util.concurrent.CountDownLatch;
 
 /** Programs that touch parts that nobody tells apart. Each line that says so in a comment is named as not looked into. */
 public final class PartStars {
@@ -106,6 +107,33 @@ public final class PartStars {
         both(
                 () -> numbers.add(7), // star: ownList
                 () -> System.out.println(numbers.iterator().hasNext())); // star: ownList
+    }
+
+    /** The process ends while the other thread still works out the value. */
+    static void neverOver() throws InterruptedException {
+        Map<String, Integer> costs = new HashMap<>();
+        CountDownLatch begun = new CountDownLatch(1);
+        Thread slow =
+                new Thread(
+                        () ->
+                                costs.computeIfAbsent( // star: neverOver
+                                        "apple",
+                                        name -> {
+                                            begun.countDown();
+                                            return lookUp(name);
+                                        }));
+        slow.setDaemon(true);
+        slow.start();
+        begun.await();
+    }
+
+    private static int lookUp(String name) {
+        try {
+            Thread.sleep(60_000);
+        } catch (InterruptedException interrupted) {
+            Thread.currentThread().interrupt();
+        }
+        return name.length();
     }
 
     private PartStars() {}

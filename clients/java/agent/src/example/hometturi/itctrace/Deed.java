@@ -187,6 +187,14 @@ enum Deed {
         };
     }
 
+    /** Whether it may have changed something before it tells so. */
+    boolean changesBefore() {
+        return switch (this) {
+            case STRUCTURE, IF_TRUE, IF_GIVEN, PUT, ABSENT, COMPUTE, REPLACE, REMOVE_KEY, PUT_ALL, SET_AT, SET_STEP, SET_VALUE -> true;
+            default -> false;
+        };
+    }
+
     /** Those that look at each element of an array that they get, if they get no part of it. */
     private static final Set<String> LOOKING_AT_ARRAYS =
             Set.of(

@@ -27,6 +27,9 @@ final class Touching {
         if (on.isOverridden()) {
             return;
         }
+        if (use.isOfObject() && on.deed().changesBefore()) {
+            Unfinished.begin(use);
+        }
         switch (on.deed()) {
             case NOTHING, VALUE, SET_VALUE -> {}
             case UNKNOWN -> touchUnknown(cells, use);
@@ -87,20 +90,30 @@ final class Touching {
     /** The call has not thrown. */
     static void end(Cells cells, Object object, Use use, End end) {
         On on = use.on(object);
-        if (on.isOverridden()) {
-            return;
+        if (!on.isOverridden()) {
+            end(cells, object, use, end, on.deed());
+            endOpen(use, on.deed());
         }
-        switch (on.deed()) {
+    }
+
+    private static void endOpen(Use use, Deed deed) {
+        if (deed.changesBefore()) {
+            Unfinished.end(use);
+        }
+    }
+
+    private static void end(Cells cells, Object object, Use use, End end, Deed deed) {
+        switch (deed) {
             case STRUCTURE -> change(cells, use);
             case SORT -> touchSorted(cells, use);
             case IF_TRUE -> changeIf(end.isTrue(), cells, use);
             case IF_GIVEN -> changeIf(end.given != null, cells, use);
             case SEARCH -> endSearch(cells, use, end);
-            case FIRST, LAST -> endAtEnd(cells, object, use, end, on.deed() == Deed.FIRST);
+            case FIRST, LAST -> endAtEnd(cells, object, use, end, deed == Deed.FIRST);
             case GET -> endGet(cells, object, use, end);
-            case PUT, ABSENT, COMPUTE, REPLACE, REMOVE_KEY, PUT_ALL -> endPut(cells, object, use, end, on.deed());
+            case PUT, ABSENT, COMPUTE, REPLACE, REMOVE_KEY, PUT_ALL -> endPut(cells, object, use, end, deed);
             case ENTRY -> endEntry(cells, use, end.given);
-            case VALUE, SET_VALUE -> touchEntry(cells, use, (Map.Entry<?, ?>) object, on.deed() == Deed.SET_VALUE);
+            case VALUE, SET_VALUE -> touchEntry(cells, use, (Map.Entry<?, ?>) object, deed == Deed.SET_VALUE);
             case STEP -> endStep(cells, object, use);
             case SET_STEP -> touchNumber(cells, use, Steps.index(object), true);
             case REPLACE_ALL -> touchAll(cells, use, true, !cells.isCut);
@@ -142,6 +155,7 @@ final class Touching {
         On on = use.on(object);
         if (!on.isOverridden() && (on.deed() == Deed.AT || on.deed() == Deed.SET_AT)) {
             touchNumber(cells, use, cells.offset + index, on.deed() == Deed.SET_AT);
+            endOpen(use, on.deed());
         }
     }
 

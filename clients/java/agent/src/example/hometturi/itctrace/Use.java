@@ -103,6 +103,15 @@ final class Use {
         return given == Deed.SOME && changes ? Deed.UNKNOWN : given;
     }
 
+    Site site() {
+        return site;
+    }
+
+    /** The process ends while the call goes on. Nobody knows what it has changed. */
+    void nameUnfinished() {
+        Traced.tracer().passOver(owner.substring(owner.lastIndexOf('/') + 1) + "." + method + ", which was not over", site);
+    }
+
     boolean isOfObject() {
         return role == Role.OWNER || role == Role.SUPER;
     }
