@@ -156,7 +156,7 @@ class ByValue(unittest.TestCase):
                 traced = run_traced(str(program), PYTHONPATH=path, ITC_TRACE_PURE=FORMS[form])
                 with self.subTest(hooks=form):
                     self.assertEqual(traced.stdout, plain.stdout, traced.stderr)
-                    self.assertIn(", plain where it runs by value at program.py:5, ", traced.stderr)
+                    self.assertIn(", plain where it runs by value at program.py:5", traced.stderr)
 
     def test_what_a_pickler_by_value_takes_works_without_hooks(self) -> None:
         with tempfile.TemporaryDirectory() as folder:

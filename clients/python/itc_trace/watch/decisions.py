@@ -20,7 +20,7 @@ from builtins import (
     any, dict, enumerate, filter, frozenset, id, int, issubclass, iter, list, map, next, property, reversed, set, str,
     tuple, type, zip,
 )
-from collections import OrderedDict, deque
+from collections import OrderedDict, deque, namedtuple
 from collections.abc import Iterable
 from typing import Any
 
@@ -57,6 +57,9 @@ BARE = ids_of({object, types.SimpleNamespace, BaseException})
 
 _USUAL = BARE | PLAIN | ids_of((property, *(kind for kinds in TYPES.values() for kind in kinds)))
 """Types whose attributes are found in the usual way, and so are those of classes below."""
+
+_OF_TUPLES = (types.MemberDescriptorType, type(vars(namedtuple("_Named", "one"))["one"]))
+"""What stands in a class for an element of its tuples."""
 
 _BASES = tuple((kind, family) for family, kinds in TYPES.items() for kind in kinds)
 _EXACT: dict[int, int] = {id(kind): family for kind, family in _BASES}
@@ -450,7 +453,7 @@ def _decide(kind: type, name: str, kinds: str) -> int:
         return FIELD
     if owner is not None and kinds == "r" and is_by_getter(_vars_of(owner)[name]):
         return BY_GETTER
-    if _finds_by_itself(kind):
+    if _finds_by_itself(kind) or owner is not None and _is_of_tuple(kind, owner, name):
         return OWN_FIELD
     if owner is not None:
         return _decide_of_class(kind, owner, name, kinds)
@@ -467,6 +470,11 @@ def _finds_by_itself(kind: type) -> bool:
 def is_by_getter(value: Any) -> bool:
     """Whether it is a property whose value a function in C finds, which has no hooks."""
     return type(value) is property and type(value.fget) in HANDED and is_of_container(value.fget)
+
+
+def _is_of_tuple(kind: type, owner: type, name: str) -> bool:
+    """Whether the attribute is one of a tuple with names, which nobody can change."""
+    return issubclass(kind, tuple) and type(_vars_of(owner).get(name)) in _OF_TUPLES
 
 
 def _finds_keys(kind: type, kinds: str, is_missing: bool) -> bool:
