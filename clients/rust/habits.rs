@@ -174,19 +174,20 @@ fn singleton(is_raced: bool) {
     touch(SETTINGS.get().unwrap(), false);
 }
 
-/// The last user takes the resource away, or the first one if there is a race.
+/// The last user takes the resource away. If there is a race, the first one does, before it counts.
 fn counted(is_raced: bool) {
     let users = Arc::new(AtomicUsize::new(4));
     let are_in = Arc::new(PlainBarrier::new(4)); // Of the standard library: it only has all of them be there at once.
     join(many(4, move |number| {
         are_in.wait();
-        let is_first = number == 0;
-        if !is_raced || !is_first {
+        if is_raced && number == 0 {
+            touch("resource", true); // race: counted
+        } else {
             touch("resource", false); // race: counted
         }
         let is_last = users.fetch_sub(1, Ordering::AcqRel) == 1;
-        if if is_raced { is_first } else { is_last } {
-            touch("resource", true); // race: counted
+        if is_last && !is_raced {
+            touch("resource", true);
         }
     }));
 }

@@ -261,15 +261,16 @@ fn permits(is_raced: bool) {
 fn latch(is_raced: bool) {
     let left = Arc::new((Mutex::new(3), Condvar::new()));
     let own = left.clone();
-    let threads = many(3, move |number| {
+    let held = left.0.lock().unwrap(); // Nobody counts down before it waits. So the lock is known for one of a condition.
+    let mut threads = many(3, move |number| {
         touch(&format!("cell {number}"), true); // race: latch
         *own.0.lock().unwrap() -= 1;
         own.1.notify_all();
     });
     if is_raced {
-        touch("cell 1", false); // race: latch
+        threads.push(thread::spawn(|| touch("cell 1", false))); // race: latch
     }
-    drop(left.1.wait_while(left.0.lock().unwrap(), |left| *left > 0).unwrap());
+    drop(left.1.wait_while(held, |left| *left > 0).unwrap());
     (0..3).for_each(|number| touch(&format!("cell {number}"), false));
     join(threads);
 }

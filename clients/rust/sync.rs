@@ -40,6 +40,11 @@ impl Hand {
         Hand { made: Location::caller(), number: AtomicU64::new(0), is_guard: AtomicBool::new(false) }
     }
 
+    /// Others wait at a condition of this lock from now on, or would have.
+    fn mark_guard(&self) {
+        self.is_guard.store(true, Ordering::Relaxed);
+    }
+
     #[inline]
     fn name(&self, tracer: &Tracer) -> LockName {
         let number = match self.number.load(Ordering::Relaxed) {
@@ -616,6 +621,7 @@ impl Condvar {
     where
         F: FnMut(&mut T) -> bool,
     {
+        guard.hand.mark_guard();
         while condition(&mut guard) {
             guard = self.wait(guard)?;
         }
@@ -647,6 +653,7 @@ impl Condvar {
     where
         F: FnMut(&mut T) -> bool,
     {
+        guard.hand.mark_guard();
         let begun = Instant::now();
         while condition(&mut guard) {
             let left = time.checked_sub(begun.elapsed()).unwrap_or_default();
@@ -676,7 +683,7 @@ impl Condvar {
 
 /// The lock's own guard, behind the report that the lock is released.
 fn released<'a, T>(mut guard: MutexGuard<'a, T>, site: Site) -> (&'a Hand, sync::MutexGuard<'a, Inner<T>>) {
-    guard.hand.is_guard.store(true, Ordering::Relaxed);
+    guard.hand.mark_guard();
     let mut own = guard.guard.take().expect(HELD);
     own.released = guard.hand.lending(site);
     (guard.hand, own)

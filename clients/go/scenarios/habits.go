@@ -230,19 +230,21 @@ func singleton(isRaced bool) {
 	itctrace.Touch(get(), false)
 }
 
-// counted is a resource that the last of its users takes away. If there is a race, the first one does.
+// counted is a resource that the last of its users takes away. If there is a race, the first one does, before it counts.
 func counted(isRaced bool) {
 	var users itctrace.AtomicInt64
 	users.Store(4)
 	isIn := itctrace.MakeChan[bool](4)
 	wait(many(4, func(number int) {
-		if number > 0 || !isRaced {
+		if isRaced && number == 0 {
+			itctrace.Touch("resource", true) // race: counted
+		} else {
 			itctrace.Touch("resource", false) // race: counted
 		}
 		isIn.Send(true)
 		isLast := users.Add(-1) == 0
-		if isRaced && number == 0 || !isRaced && isLast {
-			itctrace.Touch("resource", true) // race: counted
+		if isLast && !isRaced {
+			itctrace.Touch("resource", true)
 		}
 	}))
 }

@@ -241,7 +241,7 @@ final class Habits {
         Scenarios.join(threads);
     }
 
-    /** The last user takes the resource away, or the first one if there is a race. */
+    /** The last user takes the resource away. If there is a race, the first one does, before it counts. */
     private static void counted(boolean isRaced) throws Exception {
         TracedInteger users = new TracedInteger(4);
         TracedInteger numbers = new TracedInteger();
@@ -254,12 +254,14 @@ final class Habits {
                             boolean isFirst = numbers.getAndIncrement() == 0;
                             isIn.countDown();
                             isIn.await();
-                            if (!isFirst || !isRaced) {
+                            if (isFirst && isRaced) {
+                                touch("resource", true); // race: counted
+                            } else {
                                 touch("resource", false); // race: counted
                             }
                             boolean isLast = users.decrementAndGet() == 0;
-                            if (isRaced ? isFirst : isLast) {
-                                touch("resource", true); // race: counted
+                            if (isLast && !isRaced) {
+                                touch("resource", true);
                             }
                         });
         Scenarios.join(threads);
