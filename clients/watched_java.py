@@ -1,10 +1,12 @@
-"""Runs the small programs of `clients/java/agent/programs` as they are, watched by the agent, and looks which of their lines race.
+"""Runs the small programs of `clients/java/agent/programs` as they are, watched by the agent, and looks what is told.
 
-Each method of `Races`, `MoreRaces` and `SharedRaces` is a program with a race, and each of `Clean`, `MoreClean` and `SharedClean` one
-without. A line that races says so in a comment of the source, as in `race: lostUpdate`. Exactly these lines have to be listed. Those of
-`Stars` and `SharedStars` have no race either, and each line with a comment as `star: sharedMap` has to be named as not looked into. The
-races of `Meant` are silenced by comments, but for lines that say so. A run of those of `Children` has to be incomplete, and names where they start another JVM. The odd programs of `Odd` have to write what they
-write unwatched.
+Each method of `Races`, `MoreRaces`, `SharedRaces`, `PartRaces` and `MorePartRaces` is a program with a race, and each
+of `Clean`, `MoreClean`, `SharedClean`, `PartClean` and `MorePartClean` one without. A line that races says so in a
+comment of the source, as in `race: lostUpdate`. Exactly these lines have to be listed. Those of `Stars`,
+`SharedStars` and `PartStars` have no race either, and each line with a comment as `star: swapped` has to be named as
+not looked into. The races of `Meant` are silenced by comments, but for lines that say so. A run of those of
+`Children` has to be incomplete, and names where they start another JVM. The odd programs of `Odd` have to write what
+they write unwatched.
 
 Usage: clients/watched_java.py FOLDER, with the agent and the built programs in FOLDER. The last line is 'watched_java: N passed'.
 ITC_PROGRAM_RUNS says how often each program is run, once if it is not set.
@@ -151,11 +153,14 @@ def fault_of_odd(folder: Path, program: Program) -> str | None:
 
 
 FAULTS = (
-    ("Races", fault_of), ("MoreRaces", fault_of), ("Clean", fault_of), ("MoreClean", fault_of), ("Stars", fault_of_starred),
-    ("SharedRaces", fault_of), ("SharedClean", fault_of), ("SharedStars", fault_of_starred), ("Children", fault_of_parent),
-    ("Handed", fault_of), ("HandedRaces", fault_of), ("Guarded", fault_of), ("GuardedRaces", fault_of), ("Odd", fault_of_odd),
-    ("Meant", fault_of_meant), ("Mapped", fault_of), ("MappedRaces", fault_of),
-    ("Staged", fault_of), ("StagedRaces", fault_of),
+    ("Races", fault_of), ("MoreRaces", fault_of), ("Clean", fault_of), ("MoreClean", fault_of),
+    ("Stars", fault_of_starred),
+    ("SharedRaces", fault_of), ("SharedClean", fault_of), ("SharedStars", fault_of_starred), ("PartRaces", fault_of),
+    ("PartClean", fault_of), ("PartStars", fault_of_starred), ("MorePartRaces", fault_of), ("MorePartClean", fault_of),
+    ("Handed", fault_of), ("HandedRaces", fault_of), ("Guarded", fault_of), ("GuardedRaces", fault_of),
+    ("Mapped", fault_of), ("MappedRaces", fault_of), ("Staged", fault_of), ("StagedRaces", fault_of),
+    ("Requested", fault_of), ("RequestedRaces", fault_of),
+    ("Children", fault_of_parent), ("Odd", fault_of_odd), ("Meant", fault_of_meant),
 )
 """The classes of programs, and what looks at a run of one."""
 

@@ -11,9 +11,12 @@ from pathlib import Path
 from unittest import mock
 
 from itc_trace.cli.commands import _divided
+from itc_trace.analyse.kept_sources import sources_of
+from itc_trace.analyse.races import Race, add_race, sides_of
 from itc_trace.cli.java import Java
 from itc_trace.cli.options import parser
 from itc_trace.record.faults import Fault
+from itc_trace.record.journal import Row, read_whole
 
 PACKAGE = Path(__file__).resolve().parent.parent
 
@@ -73,6 +76,33 @@ class Agents(unittest.TestCase):
 
     def test_no_program_is_told(self) -> None:
         self.assertEqual(told("--quiet")[0], 2)
+
+
+class OfJunit(unittest.TestCase):
+    """A journal says which tasks are of which test."""
+
+    LINES = (
+        '{"test":"Shop.sells()","task":"p_alice"}', '{"test":"Shop.sells()","task":"p_bob"}',
+        '{"test":"Shop.buys()","task":"p_carol"}',
+    )
+
+    def race(self, one: str, other: str, event: int) -> Race:
+        touches = [
+            Row(event + place, task, str(event), "write", "Shop.java", 6, "-", "Shop.left", "Shop.left")
+            for place, task in enumerate((one, other))
+        ]
+        return Race("Shop.left", sides_of(*touches), (touches[0], touches[1]), 1)
+
+    def test_a_race_names_the_tests_of_all_pairs_that_are_listed_as_one(self) -> None:
+        sources = sources_of((), (), read_whole([f"{line}\n" for line in self.LINES]).tests)
+        listed: dict[object, Race] = {}
+        for one, other, event in (("p_dave", "p_carol", 1), ("p_alice", "p_bob", 5)):
+            add_race(self.race(one, other, event), listed)
+        (race,) = listed.values()
+        self.assertEqual(race.finding(sources).tests, ("Shop.sells()", "Shop.buys()"))
+        self.assertEqual(race.times, 2)
+        self.assertEqual(self.race("p_dave", "p_eve", 1).finding(sources).tests, ())
+        self.assertIn("in 2 tests, first in Shop.sells()", race.finding(sources).lines())
 
 
 if __name__ == "__main__":

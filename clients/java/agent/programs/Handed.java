@@ -92,6 +92,88 @@ public final class Handed {
         handOver(new LinkedBlockingDeque<>(3));
     }
 
+    /** Who has taken the first element of the queue comes before who puts one more than it has room for. */
+    private static void fill(BlockingQueue<Integer> queue, Body take) throws InterruptedException {
+        Store store = new Store();
+        int room = queue.remainingCapacity();
+        both(
+                () -> {
+                    for (int number = 0; number <= room; number++) {
+                        queue.put(number);
+                    }
+                    System.out.println(store.left);
+                },
+                () -> {
+                    store.left = 7;
+                    while (queue.remainingCapacity() > 0) {
+                        Thread.onSpinWait();
+                    }
+                    take.run();
+                });
+    }
+
+    static void roomInArray() throws InterruptedException {
+        BlockingQueue<Integer> queue = new ArrayBlockingQueue<>(2);
+        fill(queue, queue::take);
+    }
+
+    static void roomInFullArray() throws InterruptedException {
+        BlockingQueue<Integer> queue = new ArrayBlockingQueue<>(3, false, List.of(1, 2));
+        fill(queue, queue::poll);
+    }
+
+    static void roomInNodes() throws InterruptedException {
+        BlockingQueue<Integer> queue = new LinkedBlockingQueue<>(3);
+        fill(queue, queue::take);
+    }
+
+    static void roomInDeque() throws InterruptedException {
+        LinkedBlockingDeque<Integer> queue = new LinkedBlockingDeque<>(1);
+        fill(queue, queue::takeLast);
+    }
+
+    /** The room that was made first is used first. */
+    static void roomsInTurn() throws InterruptedException {
+        BlockingQueue<Integer> queue = new LinkedBlockingQueue<>(List.of(1, 2));
+        BlockingQueue<Integer> small = new LinkedBlockingQueue<>(2);
+        queue.drainTo(small);
+        Store store = new Store();
+        both(
+                () -> {
+                    store.left = 7;
+                    small.take();
+                },
+                () -> {
+                    while (small.remainingCapacity() == 0) {
+                        Thread.onSpinWait();
+                    }
+                    small.take();
+                    small.put(3);
+                    System.out.println(store.left);
+                });
+    }
+
+    static void roomByRemoval() throws InterruptedException {
+        BlockingQueue<Integer> queue = new ArrayBlockingQueue<>(2);
+        BlockingQueue<Integer> other = new LinkedBlockingQueue<>(2);
+        fill(queue, () -> queue.remove(1));
+        fill(other, () -> other.remove(1));
+    }
+
+    static void roomByDrain() throws InterruptedException {
+        BlockingQueue<Integer> queue = new ArrayBlockingQueue<>(2);
+        BlockingQueue<Integer> other = new LinkedBlockingQueue<>(2);
+        fill(queue, () -> queue.drainTo(new ArrayList<>()));
+        fill(other, () -> other.drainTo(new ArrayList<>()));
+    }
+
+    static void roomByClearing() throws InterruptedException {
+        BlockingQueue<Integer> queue = new ArrayBlockingQueue<>(2);
+        BlockingQueue<Integer> other = new LinkedBlockingQueue<>(2);
+        fill(queue, queue::clear);
+        fill(other, () -> other.removeIf(number -> number == 0));
+    }
+
     static void queuedByPriority() throws InterruptedException {
         handOver(new PriorityBlockingQueue<>(4, Comparator.comparing(Store::hashCode)));
     }

@@ -84,6 +84,62 @@ public final class HandedRaces {
                 });
     }
 
+    /** There is room for the second put without the taking, also if that came first. */
+    private static void otherRoom(BlockingQueue<Integer> queue, Handed.Body read, Handed.Body write) throws InterruptedException {
+        both(
+                () -> {
+                    queue.put(1);
+                    while (queue.remainingCapacity() < 2) {
+                        Thread.onSpinWait();
+                    }
+                    queue.put(2);
+                    read.run();
+                },
+                () -> {
+                    write.run();
+                    System.out.println(queue.take());
+                });
+    }
+
+    static void otherRoomInArray() throws InterruptedException {
+        Store store = new Store();
+        otherRoom(
+                new ArrayBlockingQueue<>(2),
+                () -> System.out.println(store.left), // race: otherRoomInArray
+                () -> store.left = 7); // race: otherRoomInArray
+    }
+
+    static void otherRoomInNodes() throws InterruptedException {
+        Store store = new Store();
+        otherRoom(
+                new LinkedBlockingQueue<>(2),
+                () -> System.out.println(store.left), // race: otherRoomInNodes
+                () -> store.left = 7); // race: otherRoomInNodes
+    }
+
+    static void otherRoomInDeque() throws InterruptedException {
+        Store store = new Store();
+        otherRoom(
+                new LinkedBlockingDeque<>(2),
+                () -> System.out.println(store.left), // race: otherRoomInDeque
+                () -> store.left = 7); // race: otherRoomInDeque
+    }
+
+    static void behindTheRoom() throws InterruptedException {
+        BlockingQueue<Integer> queue = new LinkedBlockingQueue<>(1);
+        Store store = new Store();
+        both(
+                () -> {
+                    queue.put(1);
+                    queue.put(2);
+                    System.out.println(store.left); // race: behindTheRoom
+                },
+                () -> {
+                    System.out.println(queue.take());
+                    store.left = 7; // race: behindTheRoom
+                });
+    }
+
     static void twoProducers() throws InterruptedException {
         Queue<String> orders = new ConcurrentLinkedQueue<>();
         Store store = new Store();

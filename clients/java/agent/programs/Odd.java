@@ -325,6 +325,78 @@ public final class Odd {
         }
     }
 
+    static void elements() throws Exception {
+        long[] longs = new long[3];
+        double[] doubles = new double[2];
+        float[][] table = new float[2][];
+        Object[][] objects = new String[2][2];
+        longs[1] = longs[2]++ + (doubles[1] = 2.5) > 2 ? longs[0] += 7 : -1;
+        longs[2] <<= longs[1] - 6;
+        doubles[0] += doubles[1]++ * longs[1];
+        table[1] = new float[] {1, (float) (doubles[0] -= 1), table[0] == null ? 3 : 4};
+        byte[] bytes = {(byte) 200, bytesOf(3)[1]};
+        boolean[] flags = {bytes[0] < 0, !new boolean[] {true}[0]};
+        int[] places = {2, 0, 1};
+        places[places[0]] = places[places[1]]++ + places[2]--;
+        System.out.println(Arrays.toString(longs) + Arrays.toString(doubles) + Arrays.deepToString(table) + bytes[1] + flags[0] + flags[1]);
+        System.out.println(Arrays.toString(places) + Arrays.deepToString(objects) + (objects[1][0] = "x") + Arrays.stream(places, 1, 3).sum());
+        Runnable[] wrong = {
+            () -> objects[1][0] = 3, () -> objects[0] = new Integer[1], () -> table[0][0]++, () -> longs[3] = sumOf(1), () -> doubles[-1]--,
+            () -> System.arraycopy(longs, 0, doubles, 0, 1), () -> System.arraycopy(longs, 2, longs, 0, 2), () -> Arrays.fill(longs, 2, 1, 5),
+            () -> System.arraycopy(new Object[] {"a", 1}, 0, objects[0], 0, 2), () -> Arrays.copyOf(longs, -1), () -> Arrays.sort(longs, 0, 9),
+            () -> List.of(1).toArray(objects[0]), () -> Arrays.asList(objects[1]).add(null), () -> ((int[]) null).clone()
+        };
+        for (Runnable one : wrong) {
+            try {
+                one.run();
+            } catch (RuntimeException thrown) {
+                System.out.println(thrown);
+            }
+        }
+        System.out.println(Arrays.deepToString(objects));
+    }
+
+    private static byte[] bytesOf(int count) {
+        byte[] bytes = new byte[count];
+        for (int place = 0; place < count; place++) {
+            bytes[place] = (byte) (place << 5 | place);
+        }
+        return bytes;
+    }
+
+    static void maps() throws Exception {
+        Map<String, Integer> counts = new HashMap<>();
+        System.out.println(counts.put("a", null) + " " + counts.put("a", 1) + counts.putIfAbsent("b", 2) + counts.merge("a", 5, Integer::sum));
+        System.out.println(counts.computeIfAbsent("c", name -> null) + " " + counts.computeIfPresent("b", (name, count) -> null) + counts.replace("a", 6, 7));
+        System.out.println(counts.remove("a", 6) + " " + counts.getOrDefault("z", 9) + counts.replace("z", 1) + counts.remove("z") + counts);
+        TreeMap<Integer, String> names = new TreeMap<>(Map.of(1, "one", 5, "five", 9, "nine"));
+        names.subMap(2, 9).put(3, "three");
+        names.headMap(4).values().removeIf(name -> name.startsWith("o"));
+        System.out.println(names.floorEntry(4) + " " + names.pollLastEntry() + names.descendingMap() + names.ceilingKey(4));
+        Deque<Integer> deque = new ArrayDeque<>(List.of(1, 2, 3));
+        deque.push(deque.pollLast());
+        List<Integer> numbers = new ArrayList<>(deque);
+        numbers.subList(1, 3).set(0, 7 + numbers.indexOf(2));
+        System.out.println(deque + " " + deque.peekFirst() + deque.contains(3) + numbers.removeAll(List.of(7)));
+    }
+
+    static void throwing() throws Exception {
+        TreeMap<Object, Integer> ordered = new TreeMap<>();
+        Runnable[] wrong = {
+            () -> new ArrayList<>(List.of(1)).get(1), () -> new ArrayList<>(List.of(1)).set(-1, 2), () -> new ArrayDeque<>().pop(),
+            () -> ordered.put(new Object(), 1), () -> ordered.get(null), () -> new ArrayDeque<>().add(null), () -> new ArrayList<>().iterator().next(),
+            () -> new EnumMap<Color, Integer>(Color.class).put(null, 1), () -> Collections.unmodifiableMap(ordered).put(1, 1),
+            () -> new ArrayList<>(List.of(1)).subList(1, 0), () -> new ArrayList<>(List.of(1)).listIterator().set(3)
+        };
+        for (Runnable one : wrong) {
+            try {
+                one.run();
+            } catch (RuntimeException thrown) {
+                print(thrown);
+            }
+        }
+    }
+
     static void collections() throws Exception {
         List<String> names = new ArrayList<>(List.of("c", "a", "b"));
         names.sort(Comparator.naturalOrder());

@@ -2,9 +2,7 @@ import java.lang.reflect.Field;
 import java.util.ArrayList;
 import java.util.Collections;
 import java.util.ConcurrentModificationException;
-import java.util.HashMap;
 import java.util.List;
-import java.util.Map;
 import java.util.concurrent.ConcurrentHashMap;
 import java.util.concurrent.ConcurrentMap;
 
@@ -35,32 +33,6 @@ public final class Stars {
         }
     }
 
-    static void sharedMap() throws InterruptedException {
-        Map<String, Integer> stock = new HashMap<>();
-        both(
-                () -> stock.put("apple", 1), // star: sharedMap
-                () -> stock.put("pear", 2)); // star: sharedMap
-    }
-
-    static void sharedList() throws InterruptedException {
-        List<String> names = new ArrayList<>();
-        both(
-                () -> names.add("one"), // star: sharedList
-                () -> {
-                    for (String name : names) { // star: sharedList
-                        System.out.println(name.length());
-                    }
-                });
-    }
-
-    static void sharedArray() throws InterruptedException {
-        int[] counts = new int[2];
-        both(
-                () -> counts[0]++, // star: sharedArray
-                () -> counts[1]++); // star: sharedArray
-        System.out.println(counts[0] + counts[1]);
-    }
-
     /** A key that says by itself what it equals. Nobody calls that more often than the program does. */
     static final class Name {
         private final String text;
@@ -89,11 +61,10 @@ public final class Stars {
                     stores.put(new Name("north"), store);
                 },
                 () -> {
-                    Store store = null;
-                    while (store == null) {
-                        store = stores.get(new Name("north")); // star: ownKeys
+                    while (stores.get(new Name("north")) == null) {
+                        Thread.onSpinWait();
                     }
-                    System.out.println(store.left);
+                    System.out.println(stores.get(new Name("north")).left); // star: ownKeys
                 });
     }
 

@@ -10,7 +10,7 @@ from pathlib import PurePath
 
 from ..model.file_names import working_folder
 from ..model.sources import LINES_AROUND, MOST_LETTERS, Sources
-from ..record.journal import ProcessTold, SourceText
+from ..record.journal import OfTest, ProcessTold, SourceText
 
 PLACE = re.compile(r'"file":("(?:[^"\\]|\\.)*"),"line":(\d+)')
 MOST_FILE = 1 << 20
@@ -77,12 +77,16 @@ def _kept(path: str, numbers: set[int]) -> dict[int, str]:
         return {}
 
 
-def sources_of(told: Iterable[SourceText], processes: Iterable[ProcessTold] = ()) -> Sources:
+def sources_of(
+    told: Iterable[SourceText], processes: Iterable[ProcessTold] = (), tests: Iterable[OfTest] = (),
+) -> Sources:
     """The sources that journals have kept.
 
     Lines of which two say otherwise are left out, and so is where a file was found: it may be two files.
     """
-    sources = Sources(processes={one.tag: one.process for one in processes})
+    sources = Sources(
+        processes={one.tag: one.process for one in processes}, tests={one.task: one.test for one in tests},
+    )
     spoilt: set[str] = set()
     elsewhere: set[str] = set()
     for one in told:

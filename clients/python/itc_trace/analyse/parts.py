@@ -223,7 +223,8 @@ def _races_of(parts: DividedJournal, looking: Looking, bar: Bar | None, export: 
     told = parts.told
     found = Races(
         deadlocks=deadlocks_told(told.deadlocks, parts.all_rows()), unseen=told.unseen,
-        passed_over=told.passed_over, left=list(told.left), sources=sources_of(told.sources, told.processes),
+        passed_over=told.passed_over, left=list(told.left),
+        sources=sources_of(told.sources, told.processes, told.tests),
     )
     try:
         with contextlib.closing(_counted(_looked_at(parts, looking.strict, bar, export), found)) as looked_at:

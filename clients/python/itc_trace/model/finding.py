@@ -177,7 +177,7 @@ class Finding:
     seen: Seen | None = None
     """Of several runs."""
     tests: tuple[str, ...] = field(default=(), compare=False)
-    """The tests of pytest that met it."""
+    """The tests of pytest that met it, or those of JUnit of which its tasks are."""
     story: Story = field(default=Story(), compare=False)
 
     @property

@@ -3,7 +3,7 @@
 from __future__ import annotations
 
 import linecache
-from collections.abc import Mapping
+from collections.abc import Collection, Mapping
 from dataclasses import dataclass, field
 
 LINES_AROUND = 3
@@ -21,10 +21,17 @@ class Sources:
     paths: dict[str, str] = field(default_factory=dict)
     """Where each file was found, if its name does not lead there."""
 
+    tests: dict[str, str] = field(default_factory=dict)
+    """The test that each task is of, if it is of one."""
+
     def task(self, name: str) -> str:
         """The name of a task, with that of its process in full."""
         tag, line, rest = name.partition("_")
         return f"{self.processes.get(tag, tag)}{line}{rest}"
+
+    def tests_of(self, tasks: Collection[str]) -> tuple[str, ...]:
+        """The tests that these tasks are of, in the order in which they began."""
+        return tuple(dict.fromkeys(test for task, test in self.tests.items() if task in tasks))
 
     def add(self, file: str, lines: Mapping[int, str]) -> None:
         self.kept.setdefault(file, {}).update(lines)

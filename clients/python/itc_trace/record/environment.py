@@ -12,6 +12,8 @@ from .faults import Fault
 PORT, TENANT, PROCESS, JOURNAL = "ITC_TRACE_PORT", "ITC_TRACE_TENANT", "ITC_TRACE_PROCESS", "ITC_TRACE_JOURNAL"
 PARTS = "ITC_TRACE_PARTS"
 """Says that the relay divides a long run into parts, for a client that knows of them."""
+ALONE = "ITC_TRACE_ALONE"
+"""Says that the process reports beside no other one, so that another machine has no use for a header of the trace."""
 OWN_TENANT = "trace"
 MOST_PORT = 65535
 

@@ -10,7 +10,7 @@ from ..analyse.races import told_deadlocks, told_races
 from ..model.finding import DEADLOCK, POSSIBLE_DEADLOCK, POSSIBLE_RACE, RACE, Finding, Known
 from ..model.readable import readable
 from ..model.verdict import Cause, PassedOver, Unseen, Verdict, listed, verdict_of
-from .report import Report
+from .report import Report, told_kinds
 
 Key = tuple[str, str]
 
@@ -85,8 +85,7 @@ class OfTests:
             places = {(one.told_kind, one.identity, _places(one)): one for report in reports for one in report.findings}
             kinds = Counter(finding.told_kind for finding in places.values())
             if kinds:
-                told = ", ".join(f"{count} {kind}{'' if count == 1 else 's'}" for kind, count in kinds.items())
-                yield f"{told}: {test}"
+                yield f"{told_kinds(kinds)}: {test}"
 
 
 def short(findings: Iterable[Finding]) -> Iterator[str]:

@@ -2,7 +2,8 @@
 
 from __future__ import annotations
 
-from collections.abc import Iterable
+from collections import Counter
+from collections.abc import Iterable, Iterator
 from dataclasses import dataclass, field
 
 from ..analyse.benign import Looking
@@ -54,6 +55,20 @@ class Report:
         return named
 
 
+def told_kinds(kinds: Counter[str]) -> str:
+    """How many there are of each kind."""
+    return ", ".join(f"{count} {kind}{'' if count == 1 else 's'}" for kind, count in kinds.items())
+
+
+def _by_test(found: Iterable[Finding]) -> Iterator[str]:
+    """How many races each test met, a line for each that met some."""
+    tests: dict[str, Counter[str]] = {}
+    for finding in found:
+        for test in finding.tests:
+            tests.setdefault(test, Counter())[finding.told_kind] += 1
+    return (f"{told_kinds(kinds)}: {test}" for test, kinds in tests.items())
+
+
 def report_of(
     races: Races, looking: Looking | None = None, fail_on_possible: bool = False, picture: str | None = None,
     beside: Iterable[str] = (),
@@ -64,9 +79,10 @@ def report_of(
     def made(found: Iterable[Race | Deadlock]) -> list[Finding]:
         return [race.finding(races.sources) for race in found]
 
+    found = made(races.found_ones)
     return Report(
-        races.verdict(fail_on_possible), races.summary(), made(races.found_ones), made(races.meant),
+        races.verdict(fail_on_possible), races.summary(), found, made(races.meant),
         made(races.known), looking.gone(), list(races.unseen), list(dict.fromkeys(races.passed_over)),
-        [*hints(races), *looking.unfitting(), *beside],
+        [*_by_test(found), *hints(races), *looking.unfitting(), *beside],
         {"places": races.places, "things": races.things, "events": races.events, "runs": 1}, picture,
     )

@@ -7,6 +7,7 @@ public final class Field {
     private final boolean isStatic;
     private final boolean isVolatile;
     private final boolean isFinal;
+    final Row.Called called;
     /** The place of its variable among those of an object. */
     final int index;
 
@@ -16,6 +17,7 @@ public final class Field {
     public Field(Type type, String name, boolean isStatic, boolean isVolatile, boolean isFinal, int index) {
         this.type = type;
         this.name = name;
+        called = new Row.Called(name, name, null);
         this.isStatic = isStatic;
         this.isVolatile = isVolatile;
         this.isFinal = isFinal;

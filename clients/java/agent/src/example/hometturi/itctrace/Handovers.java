@@ -164,6 +164,36 @@ public final class Handovers {
         }
     }
 
+    // Room in a queue, which is locked
+
+    public static void makesRoom(Object queue) {
+        Rooms rooms = Traced.isOn() ? Rooms.of(queue) : null;
+        if (rooms != null) {
+            rooms.make(Traced.site());
+        }
+    }
+
+    public static void usesRoom(Object queue) {
+        Rooms rooms = Traced.isOn() ? Rooms.of(queue) : null;
+        if (rooms != null) {
+            rooms.use(Traced.site());
+        }
+    }
+
+    public static void usesRoomIf(boolean isPut, Object queue) {
+        if (isPut) {
+            usesRoom(queue);
+        }
+    }
+
+    /** The queue is not locked yet. */
+    public static void makesSomeRoom(Object queue) {
+        Rooms rooms = Traced.isOn() ? Rooms.of(queue) : null;
+        if (rooms != null) {
+            rooms.muddle();
+        }
+    }
+
     // Phasers
 
     private static Phases of(Phaser phaser) {

@@ -161,7 +161,7 @@ public final class Kinds {
                     "java.text.Normalizer", "java.security.KeyPair", "java.security.CodeSource", "java.security.ProtectionDomain",
                     "java.security.Permission", "java.security.cert.Certificate", "java.security.cert.CRL", "java.sql.DriverManager",
                     "java.awt.Color", "java.awt.Font", "java.beans.PropertyChangeSupport", "javax.management.ObjectName",
-                    "javax.xml.namespace.QName");
+                    "javax.xml.namespace.QName", "com.sun.net.httpserver.HttpServer");
     /** Of these packages all classes are so but those above. */
     private static final List<String> SAFE_PACKAGES =
             List.of(

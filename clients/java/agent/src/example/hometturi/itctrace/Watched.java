@@ -9,6 +9,7 @@ import java.util.ArrayDeque;
 import java.util.Date;
 import java.util.Deque;
 import java.util.List;
+import java.util.Map;
 import java.util.Properties;
 import java.util.Set;
 import java.util.concurrent.CompletableFuture;
@@ -160,6 +161,11 @@ public final class Watched {
 
     private Watched() {}
 
+    /** From here on it is known after which touches of others a task comes. */
+    public static void keepAges() {
+        Task.keepAges();
+    }
+
     /** Whether the environment names a collector. */
     public static boolean isOn() {
         return Traced.isOn();
@@ -177,18 +183,17 @@ public final class Watched {
         if (placeCount == places.length) {
             places = Arrays.copyOf(places, 2 * placeCount + 64);
         }
-        places[placeCount] = new Place(field, writes, false, new Site(file, line, function));
+        places[placeCount] = new Place(field, writes, new Site(file, line, function));
         return placeCount++;
     }
 
-    /** The number of a call of the JDK with an object of its own, or of one that it gets, which it maybe only looks into. */
-    public static synchronized int useOf(String call, boolean isOwn, boolean looksInto, boolean changes, String file, int line, String function) {
+    /** The number of a call of the JDK, and of what one of its objects is to it: OWNER, SUPER, GIVEN or LOOKED_INTO. */
+    public static synchronized int useOf(String owner, String call, String role, boolean changes, String file, int line, String function) {
         if (useCount == uses.length) {
             uses = Arrays.copyOf(uses, 2 * useCount + 64);
         }
         int end = call.indexOf('(');
-        Use.Role role = isOwn ? Use.Role.OWNER : looksInto ? Use.Role.LOOKED_INTO : Use.Role.GIVEN;
-        uses[useCount] = new Use(call.substring(0, end), call.substring(end), role, changes, new Site(file, line, function));
+        uses[useCount] = new Use(owner, call.substring(0, end), call.substring(end), Use.Role.valueOf(role), changes, new Site(file, line, function));
         return useCount++;
     }
 
@@ -284,14 +289,83 @@ public final class Watched {
         end(null, number);
     }
 
-    // What is watched as a whole
+    // Arrays. What throws has touched nothing
+
+    /** An element of an array is about to be read, or to be written. */
+    public static void element(Object array, int index, int number) {
+        if (array != null) {
+            Wholes.touchElement(array, index, uses[number]);
+        }
+    }
+
+    /** The same of an array of objects, which may be none for this one. */
+    public static void store(Object[] array, int index, Object value, int number) {
+        if (array != null && (value == null || array.getClass().getComponentType().isInstance(value))) {
+            Wholes.touchElement(array, index, uses[number]);
+        }
+    }
+
+    public static void all(Object array, int number) {
+        if (array != null) {
+            Wholes.touchRange(array, 0, Wholes.lengthOf(array), uses[number], true);
+        }
+    }
+
+    public static void range(Object array, int from, int to, int number) {
+        if (array != null) {
+            Wholes.touchRange(array, from, to, uses[number], true);
+        }
+    }
+
+    /** The elements from one on, and as many of them as there are. */
+    public static void rangeUpTo(Object array, int from, int to, int number) {
+        if (array != null) {
+            Wholes.touchRange(array, from, Math.min(to, Wholes.lengthOf(array)), uses[number], true);
+        }
+    }
+
+    /** What System.arraycopy reads and writes, by the numbers of both. It may end early if not each element fits. */
+    public static void copies(Object from, int begin, Object to, int place, int count, int reading, int writing) {
+        boolean isRight = Wholes.canCopy(from, to) && count >= 0 && begin >= 0 && place >= 0;
+        if (isRight && begin <= Wholes.lengthOf(from) - count && place <= Wholes.lengthOf(to) - count) {
+            boolean isSure = Wholes.fits(from, to);
+            Wholes.touchRange(from, begin, begin + count, uses[reading], isSure);
+            Wholes.touchRange(to, place, place + count, uses[writing], isSure);
+        }
+    }
+
+    // What is watched as a whole, or by its methods
 
     public static void whole(Object object, int number) {
         Wholes.touch(object, uses[number]);
     }
 
-    public static void element(Object array, int number) {
-        Wholes.touchArray(array, uses[number]);
+    /** An array or a collection is made. */
+    public static void made(Object object, int number) {
+        Wholes.made(object, uses[number]);
+    }
+
+    /** Whether a method of this name tells at its end what it has done. */
+    public static boolean hasEnd(String method) {
+        return Deed.hasEnd(method);
+    }
+
+    /** Gives what the end has to know. */
+    public static int begins(Object object, int number) {
+        return Wholes.begin(object, uses[number]);
+    }
+
+    public static void ends(Object given, Object object, Object key, int changes, int number) {
+        Wholes.end(object, uses[number], new Touching.End(key, changes, given, 0));
+    }
+
+    public static void ends(int given, Object object, Object key, int changes, int number) {
+        Wholes.end(object, uses[number], new Touching.End(key, changes, null, given));
+    }
+
+    /** The same of a call that is given the number of an element. */
+    public static void endsAt(Object object, int index, int number) {
+        Wholes.endAt(object, uses[number], index);
     }
 
     /** A method looks into each of what it is given. */
@@ -302,7 +376,24 @@ public final class Watched {
     }
 
     public static void derive(Object given, Object shown) {
-        Wholes.derive(given, shown);
+        Wholes.derive(given, shown, 0, false);
+    }
+
+    /** The same of a part of a list. */
+    public static void deriveFrom(Object given, Object shown, int from) {
+        Wholes.derive(given, shown, from, true);
+    }
+
+    /** The same of an entry that an iterator has given. What else it gives shows nothing. */
+    public static void deriveEntry(Object given, Object shown) {
+        if (given instanceof Map.Entry) {
+            Wholes.derive(given, shown, 0, false);
+        }
+    }
+
+    /** The same of what leaves out some elements. */
+    public static void deriveSome(Object given, Object shown) {
+        Wholes.derive(given, shown, 0, true);
     }
 
     // Classes

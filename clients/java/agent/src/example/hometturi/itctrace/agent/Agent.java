@@ -26,10 +26,12 @@ public final class Agent {
         }
         open(instrumentation);
         if (Watched.isOn()) {
+            Watched.keepAges();
             instrumentation.addTransformer(new OfTheJdk(), true);
             instrumentation.addTransformer(new OfFutures(), true);
             instrumentation.addTransformer(new OfHandovers(), true);
             instrumentation.addTransformer(new OfMonitors(), true);
+            instrumentation.addTransformer(new OfRequests(), true);
             for (Class<?> type : OfTheJdk.CLASSES) {
                 retransform(instrumentation, type);
             }
@@ -38,7 +40,7 @@ public final class Agent {
             }
             for (Class<?> type : instrumentation.getAllLoadedClasses()) {
                 String name = type.getName().replace('.', '/');
-                if (OfHandovers.isOfThese(name) || OfMonitors.isOfThese(name)) {
+                if (OfHandovers.isOfThese(name) || OfMonitors.isOfThese(name) || OfRequests.isOfThese(name)) {
                     retransform(instrumentation, type);
                 }
             }
@@ -46,13 +48,15 @@ public final class Agent {
                 Watched.unwatched("the agent does not know the classes of JDK " + Runtime.version().feature());
             } else {
                 instrumentation.addTransformer(new OfTheProgram(watching));
+                instrumentation.addTransformer(new OfTests());
             }
         }
     }
 
-    /** The agent looks for the place of a field in an object, as the JDK does. */
+    /** The agent looks for the place of a field in an object, as the JDK does, and writes a header into a request. */
     private static void open(Instrumentation instrumentation) {
-        Map<String, Set<Module>> opened = Map.of("jdk.internal.misc", Set.of(Agent.class.getModule()));
+        Set<Module> own = Set.of(Agent.class.getModule());
+        Map<String, Set<Module>> opened = Map.of("jdk.internal.misc", own, "sun.net.www", own);
         instrumentation.redefineModule(Object.class.getModule(), Set.of(), opened, Map.of(), Set.of(), Map.of());
     }
 

@@ -35,6 +35,8 @@ final class OfHandovers implements ClassFileTransformer {
     private static final String OF_ITEM = "(" + OBJECT + OBJECT + ")" + OBJECT;
     private static final String OF_A_PHASER = "(Ljava/util/concurrent/Phaser;)V";
     private static final String ARRAY_QUEUE = CONCURRENT + "ArrayBlockingQueue";
+    private static final String NODE_QUEUE = CONCURRENT + "LinkedBlockingQueue";
+    private static final String NODE_DEQUE = CONCURRENT + "LinkedBlockingDeque";
     private static final String PRIORITY_QUEUE = CONCURRENT + "PriorityBlockingQueue";
     private static final String DELAY_QUEUE = CONCURRENT + "DelayQueue";
     private static final String SYNCHRONOUS_QUEUE = CONCURRENT + "SynchronousQueue";
@@ -57,8 +59,8 @@ final class OfHandovers implements ClassFileTransformer {
     /** Those whose elements each have a node, and whether an element leaves its node while the queue is locked. */
     private static final Map<String, Boolean> OF_NODES =
             Map.of(
-                    CONCURRENT + "LinkedBlockingQueue", true,
-                    CONCURRENT + "LinkedBlockingDeque", true,
+                    NODE_QUEUE, true,
+                    NODE_DEQUE, true,
                     CONCURRENT + "ConcurrentLinkedQueue", false,
                     LINKED_DEQUE, false);
 
@@ -87,6 +89,14 @@ final class OfHandovers implements ClassFileTransformer {
     private static final List<Put> PUTS =
             List.of(
                     first(ARRAY_QUEUE, "enqueue(" + OBJECT + ")V", "puts", OF_TWO, 0, 1),
+                    first(ARRAY_QUEUE, "enqueue(" + OBJECT + ")V", "usesRoom", OF_ANY, 0),
+                    first(ARRAY_QUEUE, "dequeue()" + OBJECT, "makesRoom", OF_ANY, 0),
+                    first(ARRAY_QUEUE, "removeAt(I)V", "makesRoom", OF_ANY, 0),
+                    first(ARRAY_QUEUE, "clear()V", "makesSomeRoom", OF_ANY, 0),
+                    first(ARRAY_QUEUE, "bulkRemove(Ljava/util/function/Predicate;)Z", "makesSomeRoom", OF_ANY, 0),
+                    first(NODE_QUEUE, "enqueue(L" + NODE_QUEUE + "$Node;)V", "usesRoom", OF_ANY, 0),
+                    last(NODE_DEQUE, "linkFirst(L" + NODE_DEQUE + "$Node;)Z", "usesRoomIf", OF_AN_ANSWER, 0),
+                    last(NODE_DEQUE, "linkLast(L" + NODE_DEQUE + "$Node;)Z", "usesRoomIf", OF_AN_ANSWER, 0),
                     last(ARRAY_QUEUE, "dequeue()" + OBJECT, "took", OF_TWO, 0),
                     last(ARRAY_QUEUE, "itemAt(I)" + OBJECT, "saw", OF_TWO, 0),
                     first(ARRAY_QUEUE, "clear()V", "clears", OF_ANY, 0),
@@ -153,7 +163,7 @@ final class OfHandovers implements ClassFileTransformer {
     static {
         EDITS.put(ARRAY_QUEUE, OfHandovers::editArrayQueue);
         EDITS.put(PRIORITY_QUEUE, OfHandovers::editPriorityQueue);
-        EDITS.put(DELAY_QUEUE, (node, method) -> putIntoDrain(method));
+        EDITS.put(DELAY_QUEUE, (node, method) -> putIntoDrain(node.name, method));
         EDITS.put(SYNCHRONOUS_QUEUE, OfHandovers::editSynchronousQueue);
         EDITS.put(TRANSFER_QUEUE, OfHandovers::editTransferQueue);
         EDITS.put(EXCHANGER, OfHandovers::editExchanger);
@@ -289,6 +299,9 @@ final class OfHandovers implements ClassFileTransformer {
         }
         if (isLocked) {
             putBeforeWrites(method, type, "item", "losesItem");
+            for (FieldInsnNode access : accesses(method, Opcodes.PUTFIELD, type, "item")) {
+                method.instructions.insertBefore(access, listOf(load(0), hook("makesRoom", OF_ANY)));
+            }
         } else {
             putBehindRemoval(type, method);
         }
@@ -314,7 +327,7 @@ final class OfHandovers implements ClassFileTransformer {
             putBeforeRemoval(method, ARRAY_QUEUE, "items");
         }
         if (node.name.equals(ARRAY_QUEUE)) {
-            putIntoDrain(method);
+            putIntoDrain(node.name, method);
         }
     }
 
@@ -336,11 +349,14 @@ final class OfHandovers implements ClassFileTransformer {
     }
 
     /** What is drained is taken before somebody else has it. */
-    private static void putIntoDrain(MethodNode method) {
+    private static void putIntoDrain(String owner, MethodNode method) {
         for (AbstractInsnNode one : method.instructions.toArray()) {
             boolean isAdding = one instanceof MethodInsnNode call && call.name.equals("add");
             if (method.name.equals("drainTo") && isAdding) {
                 method.instructions.insertBefore(one, listOf(plain(Opcodes.DUP), load(0), hook("took", OF_TWO)));
+                if (owner.equals(ARRAY_QUEUE)) {
+                    method.instructions.insertBefore(one, listOf(load(0), hook("makesRoom", OF_ANY)));
+                }
             }
         }
     }

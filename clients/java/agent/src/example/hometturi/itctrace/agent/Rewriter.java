@@ -4,6 +4,8 @@ import example.hometturi.itctrace.Field;
 import example.hometturi.itctrace.Type;
 import example.hometturi.itctrace.Watched;
 import example.hometturi.itctrace.agent.Classes.Described;
+import java.util.ArrayDeque;
+import java.util.Deque;
 import java.util.HashSet;
 import java.util.List;
 import java.util.Set;
@@ -109,6 +111,7 @@ final class Rewriter {
         private final InsnList code;
         private final Calls calls;
         private final WholeCalls wholes;
+        private final ArrayCalls arrays;
         private final References references;
         private int line;
 
@@ -116,7 +119,9 @@ final class Rewriter {
             this.method = method;
             code = method.instructions;
             calls = new Calls(classes, loader, node, method);
-            wholes = new WholeCalls(method, file, described.simpleName + "." + method.name);
+            String function = described.simpleName + "." + method.name;
+            wholes = new WholeCalls(method, file, function);
+            arrays = new ArrayCalls(method, file, function);
             references = new References(node, method, calls, made -> new OfMethod(made).rewrite());
         }
 
@@ -126,24 +131,25 @@ final class Rewriter {
 
         void rewrite() {
             boolean isConstructed = !method.name.equals("<init>");
-            int open = 0;
+            Deque<AbstractInsnNode> open = new ArrayDeque<>();
             for (AbstractInsnNode one : code.toArray()) {
                 if (one instanceof LineNumberNode number) {
                     line = number.line;
                 } else if (one instanceof FieldInsnNode access) {
                     rewriteAccess(access, isConstructed);
                 } else if (one instanceof MethodInsnNode call) {
-                    if (call.name.equals("<init>")) {
-                        isConstructed |= open-- == 0;
-                    }
                     String owner = classes.ofTheJdk(loader, call.owner);
+                    if (call.name.equals("<init>")) {
+                        isConstructed |= open.isEmpty();
+                        rewriteMaking(call, owner, open.poll());
+                    }
                     if (owner == null && call.getOpcode() == Opcodes.INVOKEINTERFACE) {
                         owner = classes.interfaceOfTheJdk(loader, call.owner);
                     }
                     if (owner != null) {
                         wholes.rewrite(call, owner, classes.declares(loader, call.owner, call.name + call.desc), line);
                     } else if (call.owner.startsWith("[")) {
-                        wholes.rewriteClone(call, line);
+                        arrays.rewriteClone(call, line);
                     } else if (call.owner.equals("java/lang/Object")) {
                         wholes.rewriteOfAny(call, line);
                     }
@@ -157,9 +163,11 @@ final class Rewriter {
                     }
                     wholes.rewrite(call, line);
                 } else if (isElement(one.getOpcode())) {
-                    wholes.rewriteElement(one, line);
+                    arrays.rewriteElement(one, line);
                 } else if (one.getOpcode() == Opcodes.NEW) {
-                    open++;
+                    open.push(one);
+                } else if (isMakingArray(one.getOpcode())) {
+                    arrays.rewriteMaking(one, line);
                 } else if (one.getOpcode() == Opcodes.MONITORENTER) {
                     code.insertBefore(one, plain(Opcodes.DUP));
                     code.insert(one, hook("entered", OF_ANY));
@@ -173,6 +181,18 @@ final class Rewriter {
             }
             rewriteHandlers();
             code.insert(numbered());
+        }
+
+        /** A collection is made, and stands on the stack if it was put there twice. */
+        private void rewriteMaking(MethodInsnNode call, String owner, AbstractInsnNode beginning) {
+            boolean isTwice = beginning != null && beginning.getNext() != null && beginning.getNext().getOpcode() == Opcodes.DUP;
+            if (isTwice && owner != null && CollectionTypes.has(owner)) {
+                arrays.rewriteMaking(call, line);
+            }
+        }
+
+        private static boolean isMakingArray(int opcode) {
+            return opcode == Opcodes.NEWARRAY || opcode == Opcodes.ANEWARRAY || opcode == Opcodes.MULTIANEWARRAY;
         }
 
         private static boolean isElement(int opcode) {

@@ -11,7 +11,6 @@ import java.util.Set;
 import org.objectweb.asm.Handle;
 import org.objectweb.asm.Opcodes;
 import org.objectweb.asm.Type;
-import org.objectweb.asm.tree.AbstractInsnNode;
 import org.objectweb.asm.tree.FieldInsnNode;
 import org.objectweb.asm.tree.InsnList;
 import org.objectweb.asm.tree.InsnNode;
@@ -21,9 +20,10 @@ import org.objectweb.asm.tree.MethodInsnNode;
 import org.objectweb.asm.tree.MethodNode;
 import org.objectweb.asm.tree.VarInsnNode;
 
-/** Puts hooks where a method calls the JDK with what is watched as a whole: arrays, collections and their like. */
+/** Puts hooks where a method calls the JDK with what is watched by its methods or as a whole: arrays, collections and their like. */
 final class WholeCalls {
     private static final String OBJECT = "Ljava/lang/Object;";
+    private static final String LOOKED_INTO = "LOOKED_INTO";
     private static final List<String> CHANGING =
             List.of(
                     "add", "put", "remove", "set", "clear", "push", "pop", "poll", "offer", "sort", "replace", "merge", "compute", "retain",
@@ -46,8 +46,21 @@ final class WholeCalls {
     private static final List<String> FILLING =
             List.of("read", "getChars", "getBytes", "nextBytes", "toArray", "inflate", "deflate", "digest", "doFinal", "fill", "receive");
 
+    /** What gives a view of a collection or an array. */
+    private static final Set<String> SHOWING =
+            Set.of(
+                    "subList", "keySet", "values", "entrySet", "navigableKeySet", "descendingKeySet", "descendingMap", "descendingSet", "subMap",
+                    "headMap", "tailMap", "subSet", "headSet", "tailSet", "asList", "asLifoQueue", "newSetFromMap", "enumeration", "next", "previous");
+    private static final List<String> SHOWING_BEGINNINGS = List.of("unmodifiable", "checked");
+    /** What such a view is. */
+    private static final List<String> SHOWN = List.of("Iterator;", "Spliterator;", "Stream;", "Enumeration;", "OfInt;", "OfLong;", "OfDouble;");
+    /** Of these not each element of what is shown comes out. */
+    private static final Set<String> CUTTING =
+            Set.of("limit", "skip", "takeWhile", "dropWhile", "flatMap", "subMap", "headMap", "tailMap", "subSet", "headSet", "tailSet");
+
     private final MethodNode method;
     private final InsnList code;
+    private final ArrayCalls arrays;
     private final String file;
     private final String function;
 
@@ -56,6 +69,7 @@ final class WholeCalls {
         code = method.instructions;
         this.file = file;
         this.function = function;
+        arrays = new ArrayCalls(method, file, function);
     }
 
     /** Whether the objects of this class of the JDK may be watched as a whole. */
@@ -88,24 +102,81 @@ final class WholeCalls {
         Kept kept = Kept.of(method, call, call.desc, isOnWhole);
         InsnList before = new InsnList();
         InsnList behind = new InsnList();
-        boolean mayDoMore = call.desc.contains("Ljava/util/function/") || call.desc.contains("Ljava/util/Comparator;");
+        boolean isDoneTwice = mayDoMore(call) || owner.startsWith("java/util/stream/");
         for (int place : touched) {
-            before.add(touch(kept, call, owner, place, line));
-            if (mayDoMore || owner.startsWith("java/util/stream/")) {
-                behind.add(touch(kept, call, owner, place, line));
+            if (place < 0 && CollectionTypes.has(owner) && Watched.hasEnd(call.name)) {
+                rewriteEnding(kept, call, owner, line, before, behind);
+            } else {
+                before.add(touch(kept, call, owner, place, line));
+                if (isDoneTwice) {
+                    behind.add(touch(kept, call, owner, place, line));
+                }
             }
         }
-        if (!isMaking && mayShow(Type.getReturnType(call.desc).getDescriptor())) {
-            behind.add(new InsnNode(Opcodes.DUP));
-            behind.add(kept.load(touched.get(0)));
-            behind.add(hook("derive", "(" + OBJECT + OBJECT + ")V"));
+        if (!isMaking && mayShow(owner, call)) {
+            behind.add(derive(kept, call, touched.get(0)));
         }
         code.insertBefore(call, before);
         code.insert(call, behind);
     }
 
-    /** Whether what a call gives may be a part of what it was given. */
-    private static boolean mayShow(String result) {
+    /** Whether a call does something with an object after the program has done something in it. */
+    private static boolean mayDoMore(MethodInsnNode call) {
+        boolean isOfObjects = call.owner.equals("java/util/Arrays") && call.name.endsWith("ort") && call.desc.startsWith("([L");
+        return isOfObjects || call.desc.contains("Ljava/util/function/") || call.desc.contains("Ljava/util/Comparator;");
+    }
+
+    /** A call of a collection that says at its end what it has done. */
+    private void rewriteEnding(Kept kept, MethodInsnNode call, String owner, int line, InsnList before, InsnList behind) {
+        Type[] given = Type.getArgumentTypes(call.desc);
+        boolean isByNumber = given.length > 0 && given[0].getSort() == Type.INT;
+        LdcInsnNode number = number(owner, call.name + call.desc, roleOf(call), changes(owner, call.name), line);
+        if (isByNumber && (call.name.equals("get") || call.name.equals("set"))) {
+            before.add(listOf(kept.load(-1), number, hook("whole", "(" + OBJECT + "I)V")));
+            behind.add(listOf(kept.load(-1), kept.load(0), new LdcInsnNode(number.cst), hook("endsAt", "(" + OBJECT + "II)V")));
+            return;
+        }
+        int changes = method.maxLocals++;
+        before.add(listOf(kept.load(-1), number, hook("begins", "(" + OBJECT + "I)I"), new VarInsnNode(Opcodes.ISTORE, changes)));
+        boolean hasKey = given.length > 0 && given[0].getSort() == Type.OBJECT;
+        Type result = Type.getReturnType(call.desc);
+        boolean isObject = result.getSort() == Type.OBJECT;
+        boolean isNumber = result.getSort() == Type.INT || result.getSort() == Type.BOOLEAN;
+        behind.add(
+                listOf(
+                        new InsnNode(isObject || isNumber ? Opcodes.DUP : Opcodes.ICONST_1),
+                        kept.load(-1),
+                        hasKey ? kept.load(0) : new InsnNode(Opcodes.ACONST_NULL),
+                        new VarInsnNode(Opcodes.ILOAD, changes),
+                        new LdcInsnNode(number.cst),
+                        hook("ends", "(" + (isObject ? OBJECT : "I") + OBJECT + OBJECT + "II)V")));
+    }
+
+    private static String roleOf(MethodInsnNode call) {
+        return call.getOpcode() == Opcodes.INVOKESPECIAL ? "SUPER" : "OWNER";
+    }
+
+    /** What the call has given shows this one of what it was given. */
+    private static InsnList derive(Kept kept, MethodInsnNode call, int shown) {
+        InsnList list = listOf(new InsnNode(Opcodes.DUP), kept.load(shown));
+        if (call.name.equals("subList") && call.desc.startsWith("(II)")) {
+            list.add(listOf(kept.load(0), hook("deriveFrom", "(" + OBJECT + OBJECT + "I)V")));
+        } else {
+            boolean isStep = call.name.equals("next") || call.name.equals("previous");
+            String name = isStep ? "deriveEntry" : CUTTING.contains(call.name) ? "deriveSome" : "derive";
+            list.add(hook(name, "(" + OBJECT + OBJECT + ")V"));
+        }
+        return list;
+    }
+
+    /** Whether what a call gives may show what it was given, or a part of it. */
+    private static boolean mayShow(String owner, MethodInsnNode call) {
+        String result = Type.getReturnType(call.desc).getDescriptor();
+        boolean isOfCollections = CollectionTypes.has(owner) || owner.equals("java/util/Collections") || owner.equals("java/util/Arrays");
+        if (isOfCollections || owner.startsWith("java/util/stream/")) {
+            boolean isNamed = SHOWING.contains(call.name) || SHOWING_BEGINNINGS.stream().anyMatch(call.name::startsWith);
+            return isNamed || SHOWN.stream().anyMatch(result::endsWith);
+        }
         return result.startsWith("L") && (result.equals(OBJECT) || isWhole(nameOf(result))) || result.startsWith("[") && result.length() == 2;
     }
 
@@ -131,7 +202,7 @@ final class WholeCalls {
         }
         if (!touched.isEmpty()) {
             Kept kept = Kept.of(method, call, call.desc, false);
-            touched.forEach(place -> code.insertBefore(call, touch(kept, place, "toString()", false, true, false, line)));
+            touched.forEach(place -> code.insertBefore(call, touch(kept, place, "", "toString()", LOOKED_INTO, false, line)));
         }
     }
 
@@ -143,7 +214,7 @@ final class WholeCalls {
                         listOf(
                                 new VarInsnNode(Opcodes.ALOAD, 0),
                                 new FieldInsnNode(Opcodes.GETFIELD, handle.getOwner(), handle.getName(), handle.getDesc()),
-                                number("toString()", false, true, false, line),
+                                number("", "toString()", LOOKED_INTO, false, line),
                                 hook("whole", "(" + OBJECT + "I)V")));
             }
         }
@@ -194,14 +265,21 @@ final class WholeCalls {
     private InsnList touch(Kept kept, MethodInsnNode call, String owner, int place, int line) {
         String named = call.name + call.desc;
         if (place < 0) {
-            return touch(kept, place, named, true, false, changes(owner, call.name), line);
+            return touch(kept, place, owner, named, roleOf(call), changes(owner, call.name), line);
         }
         Type given = Type.getArgumentTypes(call.desc)[place];
         String descriptor = given.getDescriptor();
         boolean looksInto = LOOKING.contains(owner) || descriptor.equals(OBJECT) || descriptor.equals("Ljava/lang/CharSequence;") || descriptor.equals("L" + owner + ";");
-        InsnList list = touch(kept, place, named, false, looksInto, changesGiven(owner, call.name, place, given), line);
+        boolean isArray = descriptor.startsWith("[");
+        String role = looksInto && !isArray ? LOOKED_INTO : "GIVEN";
+        InsnList list = new InsnList();
+        if (!ArrayCalls.isKnown(owner, call.name)) {
+            list.add(touch(kept, place, owner, named, role, changesGiven(owner, call.name, place, given), line));
+        } else if (place == 0) {
+            list.add(arrays.touch(kept, call, owner, line));
+        }
         if (looksIntoEach(owner, call.name, descriptor)) {
-            list.add(listOf(kept.load(place), number(named, false, true, false, line), hook("elements", "([" + OBJECT + "I)V")));
+            list.add(listOf(kept.load(place), number(owner, named, LOOKED_INTO, false, line), hook("elements", "([" + OBJECT + "I)V")));
         }
         return list;
     }
@@ -212,12 +290,12 @@ final class WholeCalls {
         return isOfObjects && (isOfArrays || LOOKING_INTO_EACH.contains(owner));
     }
 
-    private InsnList touch(Kept kept, int place, String named, boolean isOwn, boolean looksInto, boolean changes, int line) {
-        return listOf(kept.load(place), number(named, isOwn, looksInto, changes, line), hook("whole", "(" + OBJECT + "I)V"));
+    private InsnList touch(Kept kept, int place, String owner, String named, String role, boolean changes, int line) {
+        return listOf(kept.load(place), number(owner, named, role, changes, line), hook("whole", "(" + OBJECT + "I)V"));
     }
 
-    private LdcInsnNode number(String named, boolean isOwn, boolean looksInto, boolean changes, int line) {
-        return new LdcInsnNode(Watched.useOf(named, isOwn, looksInto, changes, file, line, function));
+    private LdcInsnNode number(String owner, String named, String role, boolean changes, int line) {
+        return new LdcInsnNode(Watched.useOf(owner, named, role, changes, file, line, function));
     }
 
     /** The copy of an object reads all of its fields. */
@@ -225,12 +303,6 @@ final class WholeCalls {
         code.insertBefore(call, new InsnNode(Opcodes.DUP));
         int place = Watched.placeOf(null, false, file, line, function);
         code.insert(call, listOf(new InsnNode(Opcodes.SWAP), new LdcInsnNode(place), hook("cloned", "(" + OBJECT + OBJECT + "I)" + OBJECT)));
-    }
-
-    /** The copy of an array reads all of it. */
-    void rewriteClone(MethodInsnNode call, int line) {
-        code.insertBefore(call, new InsnNode(Opcodes.DUP));
-        code.insertBefore(call, elementHook(false, line));
     }
 
     /** A read or a write of a field that the JDK has declared. */
@@ -244,48 +316,6 @@ final class WholeCalls {
         } else {
             code.insertBefore(access, listOf(new InsnNode(Opcodes.DUP2), new InsnNode(Opcodes.POP)));
         }
-        code.insertBefore(access, listOf(number(access.name + "()", false, !writes, writes, line), hook("whole", "(" + OBJECT + "I)V")));
-    }
-
-    /** A read or a write of an element. */
-    void rewriteElement(AbstractInsnNode access, int line) {
-        int opcode = access.getOpcode();
-        boolean writes = opcode >= Opcodes.IASTORE && opcode <= Opcodes.SASTORE;
-        InsnList before = new InsnList();
-        if (!writes) {
-            before.add(new InsnNode(Opcodes.DUP2));
-            before.add(new InsnNode(Opcodes.POP));
-        } else if (opcode == Opcodes.LASTORE || opcode == Opcodes.DASTORE) {
-            // array, index, value: the value goes below the others, and comes back behind them.
-            before.add(new InsnNode(Opcodes.DUP2_X2));
-            before.add(new InsnNode(Opcodes.POP2));
-            before.add(new InsnNode(Opcodes.DUP2_X2));
-            before.add(new InsnNode(Opcodes.POP));
-        } else {
-            int value = method.maxLocals++;
-            boolean isReference = opcode == Opcodes.AASTORE;
-            rewriteByLocal(access, value, isReference, opcode == Opcodes.FASTORE, line);
-            return;
-        }
-        before.add(elementHook(writes, line));
-        code.insertBefore(access, before);
-    }
-
-    private void rewriteByLocal(AbstractInsnNode access, int value, boolean isReference, boolean isFloat, int line) {
-        Type type = isReference ? Type.getObjectType("java/lang/Object") : isFloat ? Type.FLOAT_TYPE : Type.INT_TYPE;
-        InsnList before = new InsnList();
-        before.add(new VarInsnNode(type.getOpcode(Opcodes.ISTORE), value));
-        before.add(new InsnNode(Opcodes.DUP2));
-        before.add(new InsnNode(Opcodes.POP));
-        before.add(elementHook(true, line));
-        before.add(new VarInsnNode(type.getOpcode(Opcodes.ILOAD), value));
-        code.insertBefore(access, before);
-    }
-
-    private InsnList elementHook(boolean writes, int line) {
-        InsnList list = new InsnList();
-        list.add(number("element()", true, false, writes, line));
-        list.add(hook("element", "(" + OBJECT + "I)V"));
-        return list;
+        code.insertBefore(access, listOf(number(access.owner, access.name + "()", writes ? "GIVEN" : LOOKED_INTO, writes, line), hook("whole", "(" + OBJECT + "I)V")));
     }
 }

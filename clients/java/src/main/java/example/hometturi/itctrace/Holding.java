@@ -63,7 +63,7 @@ final class Holding {
     /** The same locks, without where they were acquired. Null if there is none. */
     static Held locks(Holding holding) {
         if (holding != null && holding.locks == null) {
-            holding.locks = new Held(holding.lock.lock(), locks(holding.others));
+            holding.locks = new Held(holding.lock.lock(), holding.lock.isShared(), locks(holding.others));
         }
         return holding == null ? null : holding.locks;
     }

@@ -33,9 +33,28 @@ final class Keyed<V> {
         }
     }
 
+    /** What finds the key of an object. */
+    private static final class Sought {
+        private final Object object;
+
+        Sought(Object object) {
+            this.object = object;
+        }
+
+        @Override
+        public boolean equals(Object other) {
+            return other instanceof Key key && key.refersTo(object);
+        }
+
+        @Override
+        public int hashCode() {
+            return System.identityHashCode(object);
+        }
+    }
+
     /** Null if nothing is kept of the object. */
     V known(Object object) {
-        return values.get(new Key(object, null));
+        return values.get(new Sought(object));
     }
 
     V of(Object object, Supplier<V> make) {

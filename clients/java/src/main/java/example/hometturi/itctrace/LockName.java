@@ -91,6 +91,9 @@ final class LockName {
     Noted release(Place here, Noted last, int turns) {
         name();
         Gives gives = gives();
+        if (isGuard) {
+            here.keepAges();
+        }
         Place.Slot slot = here.slot(gives.kind());
         if (turns < FEW_TURNS || last == null) {
             slot.noted = new Noted(gives, Traced.site(), Row.now());

@@ -2,6 +2,7 @@ package example.hometturi.itctrace;
 
 import example.hometturi.itctrace.Row.Handed;
 import example.hometturi.itctrace.Row.Site;
+import example.hometturi.itctrace.Task.Ages;
 import java.util.List;
 import java.util.concurrent.atomic.AtomicIntegerFieldUpdater;
 
@@ -55,8 +56,20 @@ final class Place {
     /** How many places of the task were sent up to this one. It is 0 as long as it is not sent. */
     volatile long position;
 
+    /** What whoever comes after it by more than luck comes after. Null if nobody can. */
+    private volatile Ages ages;
+
     Place(Task task) {
         this.task = task;
+    }
+
+    /** Somebody may come after it by more than luck. */
+    void keepAges() {
+        ages = task.growOlder();
+    }
+
+    Ages ages() {
+        return ages;
     }
 
     Slot slot(Kind kind) {
@@ -105,6 +118,9 @@ final class Place {
             this.place = place;
             this.noted = noted;
             place.addMark();
+            if (noted.gives().kind() != Kind.LUCK) {
+                place.keepAges();
+            }
         }
 
         /** Nobody comes after it any more. */

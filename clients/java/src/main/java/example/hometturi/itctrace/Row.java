@@ -15,8 +15,8 @@ import java.util.stream.IntStream;
 /**
  * What a journal says of one event, or of one of the touches that an event stands for. A thing is what was touched, else null. The time
  * is that of the event, in microseconds since 1970. It is 0 if another row tells it. Of a lock that was waited for with others held,
- * {@code acquired} has all of them, and that one last. The name is what a person calls the thing, if that is not enough to tell it
- * from others.
+ * {@code acquired} has all of them, and that one last. It is {@code called} what a person calls it, if that is not enough to
+ * tell it from others.
  */
 record Row(
         String task,
@@ -28,13 +28,16 @@ record Row(
         Handed handed,
         List<HeldLock> acquired,
         long time,
-        String name) {
+        Called called) {
     /** The last line of a journal whose process reported all that it noted. */
     static final String END = "{\"end\":true}\n";
 
     private static final long MICROSECONDS = 1_000_000;
     private static final int DIGITS = 6;
     private static final int NANOSECONDS = 1_000;
+
+    /** What a person calls a thing, what things of its kind are called, and what has made it. Null if nobody knows what has. */
+    record Called(String name, String group, String made) {}
 
     /** An event, by its number in its part of the trace. */
     record Event(int number, int part) {
@@ -53,6 +56,7 @@ record Row(
     record Site(String file, int line, String function) {
         static final Site NONE = new Site(null, 0, "");
         private static final String OWN_PACKAGE = Site.class.getPackageName() + ".";
+        private static final List<String> OF_THE_JDK = List.of("java.", "jdk.", "com.sun.", "sun.");
         private static final StackWalker WALKER = StackWalker.getInstance(StackWalker.Option.RETAIN_CLASS_REFERENCE);
         private static final ClassValue<Map<Place, Site>> SITES =
                 new ClassValue<>() {
@@ -120,7 +124,7 @@ record Row(
         }
 
         private static boolean isOfProgram(String name) {
-            return !name.startsWith(OWN_PACKAGE) && !name.startsWith("java.") && !name.startsWith("jdk.") && !name.startsWith("com.sun.");
+            return !name.startsWith(OWN_PACKAGE) && OF_THE_JDK.stream().noneMatch(name::startsWith);
         }
 
         /** The line alone. */
@@ -146,7 +150,7 @@ record Row(
 
     /** The same row, at this time. */
     Row withTime(long then) {
-        return new Row(task, thing, kind, site, label, held, handed, acquired, then, name);
+        return new Row(task, thing, kind, site, label, held, handed, acquired, then, called);
     }
 
     /** By the clock of this process. */
@@ -169,8 +173,11 @@ record Row(
         if ((thing != null || !acquired.isEmpty()) && !site.function.isEmpty()) {
             text.append(",\"function\":").append(quoted(site.function));
         }
-        if (name != null) {
-            text.append(",\"name\":").append(quoted(name)).append(",\"group\":").append(quoted(name));
+        if (called != null) {
+            text.append(",\"name\":").append(quoted(called.name)).append(",\"group\":").append(quoted(called.group));
+        }
+        if (called != null && called.made != null) {
+            text.append(",\"made\":").append(quoted(called.made));
         }
         if (!held.isEmpty()) {
             text.append(held.stream().map(Row::quoted).collect(Collectors.joining(",", ",\"held\":[", "]")));
@@ -226,6 +233,11 @@ record Row(
     /** The line that names what is done at this place, which nobody looks into. */
     static String passedOver(String what, Site site) {
         return "{\"passed_over\":" + quoted(what) + ",\"place\":" + quoted(site.toString()) + "}\n";
+    }
+
+    /** The line that says that a task is of this test. */
+    static String ofTest(String task, String test) {
+        return "{\"test\":" + quoted(test) + ",\"task\":" + quoted(task) + "}\n";
     }
 
     static String quoted(String text) {

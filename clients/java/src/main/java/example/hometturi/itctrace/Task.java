@@ -3,6 +3,7 @@ package example.hometturi.itctrace;
 import example.hometturi.itctrace.Place.Kind;
 import example.hometturi.itctrace.Place.Mark;
 import java.util.ArrayList;
+import java.util.Arrays;
 import java.util.Collections;
 import java.util.HashMap;
 import java.util.IdentityHashMap;
@@ -22,8 +23,12 @@ final class Task {
     private static final int MANY = 32;
     /** So many tasks are known at most. What is forgotten may be told once more. */
     private static final int MOST_KNOWN = 512;
+    /** Of later tasks nobody knows who comes after them. */
+    private static final int MOST_AGES = 8192;
 
     private static int numbers;
+    /** Whether somebody asks for ages. */
+    private static volatile boolean hasAges;
 
     final String name;
     final int number;
@@ -52,6 +57,13 @@ final class Task {
     Gone.Watched watched;
     /** How many stretches between two synchronizations it had. Only the task's own thread changes it. */
     long stretches;
+    /** The test that it is of. Null if it is of none. */
+    String test;
+
+    /** How often somebody else could come after it by more than luck. Only the task's own thread changes it. */
+    private int age = 1;
+    /** Up to which age of each other task, by its number, it comes after that by more than luck. It is replaced as a whole. */
+    private int[] ages = {};
 
     private int many = MANY;
     private Map<Integer, Long> meant = new HashMap<>();
@@ -70,6 +82,43 @@ final class Task {
     /** What tells one of the things that a task did from the others. */
     sealed interface Deed permits Touch, Acquisition {}
 
+    /** What whoever comes after a place comes after, but for what luck has ordered: an age of its task, and those of others. */
+    record Ages(Task of, int age, int[] others) {}
+
+    /** From here on each task knows after which ages of others it comes. An agent asks for that, and a program that marks does not. */
+    static void keepAges() {
+        hasAges = true;
+    }
+
+    int age() {
+        return age;
+    }
+
+    /** What whoever comes after this place comes after. What the task does from here on is of another age. Null if nobody asks for ages. */
+    Ages growOlder() {
+        return hasAges ? new Ages(this, age++, ages) : null;
+    }
+
+    /** Whether it comes after what the other one did at that age. It may be that nobody knows. */
+    boolean comesAfter(Task other, int then) {
+        int[] known = ages;
+        return other.number < known.length && known[other.number] >= then;
+    }
+
+    /** From now on it comes after these. */
+    void comeAfter(Ages met) {
+        if (met == null || comesAfter(met.of, met.age)) {
+            return;
+        }
+        int number = met.of.number < MOST_AGES ? met.of.number : 0;
+        int[] known = Arrays.copyOf(ages, Math.max(ages.length, Math.max(met.others.length, number + 1)));
+        for (int one = 0; one < met.others.length; one++) {
+            known[one] = Math.max(known[one], met.others[one]);
+        }
+        known[number] = number == 0 ? 0 : met.age;
+        ages = known;
+    }
+
     /** A read or a write. */
     record Touch(String thing, boolean writes, boolean isAcross, Row.Site site, Held held) implements Deed {}
 
@@ -80,7 +129,36 @@ final class Task {
     record HeldLock(String lock, Row.Site site, boolean isShared) {}
 
     /** The locks that a task holds, the last one first. */
-    record Held(String lock, Held others) {
+    record Held(String lock, boolean isShared, Held others) {
+        /** Whether both have a lock that only one task can have at once. */
+        static boolean shareOne(Held one, Held other) {
+            for (Held mine = one; mine != null; mine = mine.others) {
+                if (!mine.isShared && has(other, mine)) {
+                    return true;
+                }
+            }
+            return false;
+        }
+
+        /** Whether the one has each lock of the other. */
+        static boolean hasAllOf(Held one, Held other) {
+            for (Held wanted = other; wanted != null; wanted = wanted.others) {
+                if (!has(one, wanted)) {
+                    return false;
+                }
+            }
+            return true;
+        }
+
+        private static boolean has(Held all, Held wanted) {
+            for (Held one = all; one != null; one = one.others) {
+                if (one.isShared == wanted.isShared && one.lock.equals(wanted.lock)) {
+                    return true;
+                }
+            }
+            return false;
+        }
+
         List<String> inOrder() {
             List<String> locks = new ArrayList<>();
             for (Held one = this; one != null; one = one.others) {
@@ -269,6 +347,7 @@ final class Task {
         guards.putAll(parent.guards);
         luck.putAll(parent.luck);
         learn(parent, parent.position, Kind.MEANT);
+        comeAfter(parent.growOlder());
     }
 
     /** It does nothing more. */

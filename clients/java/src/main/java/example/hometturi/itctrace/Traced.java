@@ -42,6 +42,9 @@ import java.util.concurrent.locks.StampedLock;
  * error says so, and the program goes on.
  */
 public final class Traced {
+    /** What the end of the process does first. */
+    private static volatile Runnable beforeEnd = () -> {};
+
     private static final Gives BEFORE = Gives.order("mark", "before", "after");
     private static final Tracer TRACER = begin();
     private static final ThreadLocal<Own> OWN = ThreadLocal.withInitial(Own::new);
@@ -111,9 +114,6 @@ public final class Traced {
         Held held() {
             return Holding.locks(holding);
         }
-
-        /** What the agent keeps of what the thread has touched last. */
-        Object recent;
 
         /** What the agent keeps of what the thread reads on trust. Null if it does not. */
         Object trusting;
@@ -251,7 +251,7 @@ public final class Traced {
                 return null;
             }
             Tracer tracer = new Tracer(environment.get());
-            Runtime.getRuntime().addShutdownHook(new Thread(() -> tracer.finish(true), "itctrace end"));
+            Runtime.getRuntime().addShutdownHook(new Thread(() -> finish(tracer), "itctrace end"));
             return tracer;
         } catch (IOException failure) {
             System.err.println("itc_trace: nothing is traced: " + failure.getMessage());
@@ -260,6 +260,16 @@ public final class Traced {
             System.err.println("itc_trace: nothing is traced: the first call came when the program was ending");
             return null;
         }
+    }
+
+    private static void finish(Tracer tracer) {
+        beforeEnd.run();
+        tracer.finish(true);
+    }
+
+    /** The end of the process does this first. */
+    static void beforeEnd(Runnable body) {
+        beforeEnd = body;
     }
 
     /** This thread reads or writes the thing, which is of this process, at the line that calls this. */

@@ -346,7 +346,7 @@ final class Tracer {
     }
 
     /** What was touched in a program that is watched as it is, what a person calls it, and how it was touched. */
-    record Watching(String thing, String name, String kind) {}
+    record Watching(String thing, Row.Called called, String kind) {}
 
     /** In the stretch the task has touched the thing, which is of this process. */
     synchronized void touched(Task task, Stretch stretch, Watching what, Site site, Held held) {
@@ -354,8 +354,8 @@ final class Tracer {
             return;
         }
         List<String> locks = held == null ? List.of() : held.inOrder();
-        String label = what.kind() + " " + what.name();
-        Row row = new Row(task.name, what.thing() + " of " + process, what.kind(), site, label, locks, null, List.of(), 0, what.name());
+        String label = what.kind() + " " + what.called().name();
+        Row row = new Row(task.name, what.thing() + " of " + process, what.kind(), site, label, locks, null, List.of(), 0, what.called());
         Touches told = stretch.add(row);
         if (told != null) {
             grows(told);
@@ -499,6 +499,9 @@ final class Tracer {
             return;
         }
         task.learn(place.task, place.position, kind);
+        if (kind != Kind.LUCK) {
+            task.comeAfter(place.ages());
+        }
         leave(task);
         Row row = Row.of(task.name, "recv", site, noted.gives().taking(), noted.gives().handed());
         tell(task, "recv " + task.name + " " + slot.message, row, Refusable.RECEIVED, null);
@@ -528,11 +531,26 @@ final class Tracer {
         nurseries.start(parent, child, site, () -> freshMessage(Nurseries.MESSAGE));
         child.begin(parent);
         live.add(child);
+        isOf(child, parent.test);
         if (hasParts) {
             child.watched = gone.watch(child);
         }
         done(parent);
         return child;
+    }
+
+    /** The task of a test of this name. What it starts is of the test, too. */
+    synchronized Task spawnTest(Task parent, String test) {
+        Task task = spawn(parent, test.replaceAll("\\(.*", "").replaceAll(".*[.]", ""), Site.NONE);
+        isOf(task, test);
+        return task;
+    }
+
+    private void isOf(Task task, String test) {
+        if (test != null && stage != Stage.OVER) {
+            task.test = test;
+            unwritten.append(Row.ofTest(task.name, test));
+        }
     }
 
     /** The task of a thread that nobody was seen to start. */
@@ -602,6 +620,7 @@ final class Tracer {
             gone.forget(child.watched);
             ended.remove(child);
             task.learn(child, child.position, Kind.MEANT);
+            task.comeAfter(child.growOlder());
             leave(task);
             Row row = Row.of(task.name, "join", site, "join " + child.name, null);
             tell(task, "join " + task.name + " " + child.name, row, Refusable.NEVER, null);
