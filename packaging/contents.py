@@ -1,4 +1,4 @@
-"""What the packages hold: the package of Python with the released program and the picture in it, and who it is by."""
+"""What the packages hold: the package of Python with the released program, the picture and the agent of Java in it, and who it is by."""
 
 from __future__ import annotations
 
@@ -9,6 +9,8 @@ import sys
 from collections.abc import Iterator
 from pathlib import Path
 from typing import NamedTuple
+
+import agent
 
 TOP = Path(__file__).resolve().parent.parent
 PACKAGE = "itc_trace"
@@ -40,7 +42,7 @@ def released_program() -> bytes:
 
 
 def files() -> Iterator[File]:
-    """The package of Python, and beside its modules what it looks for in a repository: the program and the picture."""
+    """The package of Python, and beside its modules what it looks for in a repository: the program, the picture and the agent of Java."""
     source = TOP / "clients" / "python" / PACKAGE
     for path in sorted(source.rglob("*")):
         if path.suffix in (".py", ".c") or path.name == "py.typed":
@@ -49,6 +51,15 @@ def files() -> Iterator[File]:
     yield File(f"{PACKAGE}/picture", (TOP / "picture").read_bytes(), is_command=True)
     yield File(f"{PACKAGE}/browser/picture.html", (TOP / "browser" / "picture.html").read_bytes())
     yield File(f"{PACKAGE}/crates.txt", (TOP / "crates.txt").read_bytes())
+    jar = agent.built()
+    if jar is not None:
+        yield File(f"{PACKAGE}/{agent.NAME}", jar)
+
+
+def licenses() -> dict[str, bytes]:
+    """The licence of the package, and those of others whose work is in it, by the names of their files."""
+    of_others = {} if agent.built() is None else {agent.LICENSE.name: agent.LICENSE.read_bytes()}
+    return {"LICENSE": (TOP / "LICENSE").read_bytes(), **of_others}
 
 
 def version() -> str:

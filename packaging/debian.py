@@ -1,6 +1,7 @@
-"""Writes the Debian package: the program, its manual and completions, the package of Python, and the command `itc-trace`.
+"""Writes the Debian package: the program, its manual and completions, the package of Python, the agent of Java, and `itc-trace`.
 
-Usage: packaging/debian.py FOLDER. It wants dpkg-deb, and writes where the package is.
+Usage: packaging/debian.py FOLDER. It wants dpkg-deb, and writes where the package is. Without javac and ASM the agent is left out, which
+a line says.
 """
 
 from __future__ import annotations
@@ -12,9 +13,10 @@ import sys
 import tempfile
 from pathlib import Path
 
+import agent
 import completions
 import manual
-from contents import MAINTAINER, SUMMARY, TOP, files, folder_typed, glibc, released_program, version
+from contents import MAINTAINER, PACKAGE, SUMMARY, files, folder_typed, glibc, licenses, released_program, version
 from words import of_the_command, of_the_program
 
 MODULES = "usr/lib/python3/dist-packages"
@@ -23,9 +25,10 @@ DATE = "315532800"
 
 
 def control(kilobytes: int) -> str:
+    suggested = "" if agent.built() is None else "Suggests: default-jre-headless (>= 2:1.17)\n"
     return (
         f"Package: itc-trace\nVersion: {version()}\nArchitecture: amd64\nMaintainer: {MAINTAINER}\nInstalled-Size: {kilobytes}\n"
-        f"Depends: libc6 (>= {glibc()}), python3 (>= 3.11)\nSection: devel\nPriority: optional\nDescription: {SUMMARY}\n"
+        f"Depends: libc6 (>= {glibc()}), python3 (>= 3.11)\n{suggested}Section: devel\nPriority: optional\nDescription: {SUMMARY}\n"
         " The collector takes what tasks do, and answers which of their events are in order.\n"
         " The package of Python runs a program with tracing on, and lists its races.\n"
     )
@@ -41,8 +44,14 @@ def contents() -> dict[str, tuple[bytes, int]]:
         held[f"usr/share/bash-completion/completions/{line.name}"] = (completions.bash(line).encode(), 0o644)
         held[f"usr/share/zsh/vendor-completions/_{line.name}"] = (completions.zsh(line).encode(), 0o644)
         held[f"usr/share/fish/vendor_completions.d/{line.name}.fish"] = (completions.fish(line).encode(), 0o644)
-    held["usr/share/doc/itc-trace/copyright"] = ((TOP / "LICENSE").read_bytes(), 0o644)
+    held["usr/share/doc/itc-trace/copyright"] = (copyright().encode(), 0o644)
     return held
+
+
+def copyright() -> str:
+    """The licence of the package. What others have licensed follows it, with the file that has it."""
+    own, *of_others = (text.decode() for text in licenses().values())
+    return "".join([own, *(f"\n{'-' * 80}\n\nOf classes in /{MODULES}/{PACKAGE}/{agent.NAME}:\n\n{text}" for text in of_others)])
 
 
 def write(target: Path) -> Path:
@@ -64,3 +73,4 @@ def write(target: Path) -> Path:
 
 if __name__ == "__main__":
     print(write(folder_typed(sys.argv, "package of Debian")))
+    agent.tell_if_left_out()

@@ -1,8 +1,8 @@
-"""Writes the wheel: the package of Python with the collector's program, the picture and the command `itc-trace`.
+"""Writes the wheel: the package of Python with the collector's program, the picture, the agent of Java and the command `itc-trace`.
 
 A wheel is a zip with some files about itself, so it needs nothing but the standard library. Two of the same sources are the same file.
 
-Usage: packaging/wheel.py FOLDER. It writes where the wheel is.
+Usage: packaging/wheel.py FOLDER. It writes where the wheel is. Without javac and ASM the agent is left out, which a line says.
 """
 
 from __future__ import annotations
@@ -13,10 +13,13 @@ import sys
 import zipfile
 from pathlib import Path
 
-from contents import ENTRY, MAINTAINER, PACKAGE, SUMMARY, TOP, File, files, folder_typed, glibc, version
+import agent
+from contents import ENTRY, MAINTAINER, PACKAGE, SUMMARY, File, files, folder_typed, glibc, licenses, version
 
 DATE = (1980, 1, 1, 0, 0, 0)
 MODE, COMMAND_MODE = 0o100644, 0o100755
+LICENSES = {"LICENSE": "Apache-2.0", agent.LICENSE.name: "BSD-3-Clause"}
+"""The licences by their files, as SPDX names them."""
 
 
 def tag() -> str:
@@ -29,12 +32,13 @@ def about() -> list[File]:
     maintainer, mail = MAINTAINER.rstrip(">").split(" <")
     metadata = (
         f"Metadata-Version: 2.1\nName: itc-trace\nVersion: {version()}\nSummary: {SUMMARY}\nMaintainer: {maintainer}\nMaintainer-email: {mail}\n"
-        "License: Apache-2.0\nClassifier: Programming Language :: Python :: 3\nClassifier: Typing :: Typed\nRequires-Python: >=3.11\n"
+        f"License: {' AND '.join(LICENSES[name] for name in licenses())}\nClassifier: Programming Language :: Python :: 3\nClassifier: Typing :: Typed\nRequires-Python: >=3.11\n"
     )
     wheel = f"Wheel-Version: 1.0\nGenerator: itc_trace\nRoot-Is-Purelib: false\nTag: {tag()}\n"
     entries = f"[console_scripts]\nitc-trace = {ENTRY}\n\n[pytest11]\nitc_trace = itc_trace.pytest_plugin\n"
-    texts = {"METADATA": metadata, "WHEEL": wheel, "entry_points.txt": entries, "LICENSE": (TOP / "LICENSE").read_text()}
-    return [File(f"{folder()}/{path}", text.encode()) for path, text in texts.items()]
+    texts = {"METADATA": metadata, "WHEEL": wheel, "entry_points.txt": entries}
+    held = {**{path: text.encode() for path, text in texts.items()}, **licenses()}
+    return [File(f"{folder()}/{path}", content) for path, content in held.items()]
 
 
 def folder() -> str:
@@ -71,3 +75,4 @@ def write(target: Path) -> Path:
 
 if __name__ == "__main__":
     print(write(folder_typed(sys.argv, "wheel")))
+    agent.tell_if_left_out()
