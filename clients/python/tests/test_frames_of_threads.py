@@ -2,6 +2,7 @@
 
 from __future__ import annotations
 
+import sys
 import unittest
 
 from .support import PACKAGE, ProgramCase, run_python
@@ -103,6 +104,96 @@ SEEN = """0 {'made'} True
 None None made
 None True ['a'] False
 """
+LEFT_MEANWHILE = """
+import _thread, sys
+from itc_trace.model.frames_of_threads import locals_of
+go, left, ready = [_thread.allocate_lock() for _ in range(3)]
+for lock in (go, left, ready): lock.acquire()
+looking, ran_in = _thread.get_ident(), []
+class Thing:
+    def __del__(self):  # If the one who looks lets it go, the thread leaves the frame meanwhile, and ends.
+        ran_in.append(_thread.get_ident() == looking)
+        if ran_in[-1]:
+            go.release()
+            left.acquire()
+def inner(depth):
+    thing = Thing()
+    others = [depth]
+    more = {depth: others}
+    ready.release()
+    go.acquire()
+    del thing
+    ready.release()
+    go.acquire()
+def deep(depth):
+    one = other = third = fourth = depth * "text"
+    if depth: deep(depth - 1)
+def run():
+    inner(3)
+    deep(9)
+    left.release()
+found = []
+for turn in range(20):
+    thread = _thread.start_new_thread(run, ())
+    ready.acquire()
+    frame = sys._current_frames()[thread]
+    while frame.f_code.co_name != "inner": frame = frame.f_back
+    found.append(list(locals_of(frame)))
+    go.release()
+    ready.acquire()
+    found.append(list(locals_of(frame)))
+    if not ran_in[-1]:
+        go.release()
+        left.acquire()
+    del frame
+print(len(ran_in), any(ran_in), found == [["depth", "thing", "others", "more"], ["depth", "others", "more"]] * 20)
+"""
+FOLLOWED = """
+import sys, threading
+from itc_trace.model import frames_of_threads
+go, ready, found = threading.Lock(), threading.Lock(), []
+go.acquire()
+ready.acquire()
+def follow(frame, event, argument):
+    if event == "line" and frame.f_code.co_name == "inner" and "total" in frame.f_locals:
+        ready.release()
+        go.acquire()
+    return follow
+def inner(one):
+    total = one + 1
+    return one, total
+def run():
+    if sys.argv[1] == "sys": sys.settrace(follow)
+    found.append(inner(1))
+if sys.argv[1] == "threading": threading.settrace(follow)
+thread = threading.Thread(target=run)
+thread.start()
+ready.acquire()
+frame = sys._current_frames()[thread.ident]
+while frame.f_code.co_name != "inner": frame = frame.f_back
+found.append(dict(frames_of_threads.locals_of(frame)))
+go.release()
+thread.join()
+print(found)
+"""
+HAS_COPY = """
+import sys
+from itc_trace.model.frames_of_threads import are_followed, locals_of
+def inner(one):
+    frame = sys._getframe()
+    has_copy = frame.f_locals
+    first = locals_of(frame)
+    print(first is has_copy, list(has_copy))
+    del has_copy, first
+    found = locals_of(frame)
+    one = None
+    print(found["one"], locals_of(frame)["one"])
+inner(1)
+class Body:
+    here = 1
+    locals_of(sys._getframe())
+print(locals_of(sys._getframe()) is globals(), Body.here, are_followed())
+"""
 LOOKED = "processes/waits.py", "watch/begun_loops.py"
 """The modules that look at frames of other threads."""
 
@@ -117,6 +208,24 @@ class Frames(ProgramCase):
     def test_no_garbage_is_collected_while_one_that_waits_is_looked_at(self) -> None:
         ran = run_python(self.program(SUSPENDED))
         self.assertEqual((ran.returncode, ran.stdout), (0, SEEN), ran.stderr)
+
+    def test_no_finalizer_runs_while_one_is_looked_at(self) -> None:
+        ran = run_python(self.program(LEFT_MEANWHILE))
+        self.assertEqual((ran.returncode, ran.stdout), (0, "20 False True\n"), ran.stderr)
+
+    def test_a_thread_that_a_debugger_follows_keeps_its_variables(self) -> None:
+        seen = "[{'one': 1, 'total': 2}, (1, 2)]\n"
+        program = self.program(FOLLOWED)
+        for words in ([program, "threading"], ["-m", "itc_trace", "run", program, "sys"]):
+            with self.subTest(words[-1]):
+                ran = run_python(*words)
+                self.assertEqual(ran.stdout, seen, ran.stderr)
+
+    @unittest.skipIf(sys.version_info >= (3, 13), "the variables of a frame are no copy")
+    def test_the_copy_that_the_program_has_stays(self) -> None:
+        ran = run_python(self.program(HAS_COPY))
+        seen = "True ['one', 'frame', 'has_copy']\n1 None\nTrue 1 False\n"
+        self.assertEqual((ran.returncode, ran.stdout), (0, seen), ran.stderr)
 
     def test_no_module_looks_at_them_otherwise(self) -> None:
         for name in LOOKED:

@@ -257,6 +257,33 @@ class BothForms(ProgramCase):
         ran = run_traced(self.program(textwrap.dedent(text)))
         self.assertEqual((ran.returncode, ran.stdout), (0, "3\n"), ran.stderr)
 
+    def test_a_comparison_of_keys_may_have_all_decided_anew(self) -> None:
+        text = """
+            import threading
+            class Shop:
+                pass
+            class Key:
+                def __hash__(self):
+                    return hash("left")
+                def __eq__(self, other):
+                    if names:
+                        setattr(Shop, names.pop(), 1)
+                    return False
+            names, table, one = [], {Key(): 0}, 1
+            table["left"] = 1
+            def sell():
+                for turn in range(5):
+                    names.append(f"name{turn}")
+                    table["left"] += one
+            thread = threading.Thread(target=sell)
+            thread.start()
+            thread.join()
+            print(table["left"])
+        """
+        for form in FORMS.values():
+            ran = run_traced(self.program(textwrap.dedent(text)), ITC_TRACE_PURE=form)
+            self.assertEqual((ran.returncode, ran.stdout), (0, "6\n"), ran.stderr)
+
 
 @unittest.skipUnless(HAS_HELPER, NO_HELPER)
 class OtherInterpreters(unittest.TestCase):

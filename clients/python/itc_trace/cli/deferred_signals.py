@@ -15,6 +15,7 @@ from _thread import get_ident
 from types import FrameType
 from typing import Any
 
+from ..model.frames_of_threads import follows
 from ..record import plain
 from ..record.noting import without_own_frame
 from ..record.own_threads import start_thread
@@ -169,6 +170,7 @@ def _look_at(frame: FrameType | None) -> bool:
     if frame is None or _trace_of() is not None:
         return frame is None or _trace_of() is _is_called
     _looked_at[:] = [frame]
+    follows(_is_called.__name__)
     frame.f_trace = _goes_on
     _set_trace(_is_called)
     return True

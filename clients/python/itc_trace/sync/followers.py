@@ -11,6 +11,7 @@ from collections.abc import Callable
 from types import FrameType
 from typing import Any
 
+from ..model.frames_of_threads import follows
 from .base import STAND_INS, Patches, like, named_like
 
 PACKAGE = os.path.dirname(os.path.dirname(os.path.abspath(__file__))) + os.sep
@@ -117,6 +118,8 @@ def _is_aside(frame: FrameType) -> bool:
 def _without_frames(kind: type[Follower]) -> Callable[[Any], Any]:
     def make(original: Any) -> Any:
         def follow(function: Any, /) -> None:
+            if function is not None:
+                follows(kind.__name__)
             original(function if function is None else kind(function))
 
         return follow

@@ -15,6 +15,7 @@ from types import (
 from typing import Any, NamedTuple
 
 from ..model.frames import INTERNAL, INTERNAL_MODULES, is_internal
+from ..model.frames_of_threads import are_followed
 from ..record.raised_within import is_of_library
 from ..record.tuple_items import c_types, put_item
 
@@ -191,10 +192,13 @@ def _locals_with(frame: FrameType, value: object, new: object = None) -> list[st
 
 @contextmanager
 def _locals_of(frame: FrameType) -> Iterator[dict[str, Any]]:
-    """The variables of a function's frame. If they are a copy that nobody else has, it holds nothing any more."""
+    """The variables of a function's frame. If they are a copy that nobody else has, it holds nothing any more.
+
+    It stays if a debugger may have the interpreter take the variables from it.
+    """
     variables = frame.f_locals
     yield variables
-    if IS_COPY and sys.getrefcount(variables) <= OF_FRAME_ALONE:
+    if IS_COPY and sys.getrefcount(variables) <= OF_FRAME_ALONE and not are_followed():
         variables.clear()
 
 

@@ -5,8 +5,8 @@ No code of the program is run. So the look is followed no further than it surely
 
 from __future__ import annotations
 
-from builtins import any, id, issubclass, len, list, type, zip
-from collections import deque
+from builtins import any, dict, frozenset, id, issubclass, len, list, set, type, zip
+from collections import Counter, OrderedDict, defaultdict, deque
 from collections.abc import Iterator
 from itertools import islice
 from typing import Any, NamedTuple
@@ -15,6 +15,8 @@ from .decisions import is_made, is_watched_class, value_of_field
 from .keys import SIMPLE
 
 MOST_COMPARED = 256
+_BY_LENGTH = frozenset((list, dict, defaultdict, OrderedDict, set, deque))
+"""Types whose values are surely not equal if their lengths differ, which are compared first."""
 EQUAL = "__eq__"
 
 
@@ -37,7 +39,7 @@ def compared_in(container: Any, value: Any, fields: list[str], is_counting: bool
         return
     for one in list(islice(base.__iter__(container), MOST_COMPARED)):
         if type(one) is kind and one is not value:
-            is_by_length = kind is list and len(one) != len(value)
+            is_by_length = kind in _BY_LENGTH and len(one) != len(value)
             yield Compared(one, is_by_length)
             if not is_counting and not is_by_length and not _differ(one, value, fields):
                 return
@@ -53,7 +55,7 @@ def class_of_elements(container: Any) -> Any:
 
 def _is_compared_by_language(kind: type) -> bool:
     """Whether values of this type are compared by the language, or by code that `dataclass` made."""
-    return kind is list or is_watched_class(kind) and is_made(kind, EQUAL)
+    return kind in _BY_LENGTH or kind is Counter or is_watched_class(kind) and is_made(kind, EQUAL)
 
 
 def _differ(one: Any, value: Any, fields: list[str]) -> bool:

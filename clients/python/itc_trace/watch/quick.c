@@ -1160,7 +1160,8 @@ static inline int has_fields(PyObject *one)
 
 static PyObject *left_to_whole(PyObject *one, PyObject *site, int is_own)
 {
-    return ended(one, PyObject_CallFunctionObjArgs(given.whole, one, site, is_own ? Py_True : Py_False, NULL));
+    PyObject *back = PyObject_CallFunctionObjArgs(given.whole, one, site, is_own ? Py_True : Py_False, NULL);
+    return back == NULL || back == Py_None ? ended(one, back) : back;
 }
 
 static PyObject *touch_whole(PyObject *one, PyObject *site, Py_ssize_t limit)
@@ -1269,15 +1270,26 @@ static int what_of_key(PyObject *one, PyObject *key, int what)
     return value == NULL || !is_plain_value(value) ? OTHER : what == DICT_IN_PLACE ? OF_DICT : OF_LIST;
 }
 
-/* A key that is looked up without any code of the program. */
-static int saw_key(PyObject *one, PyObject *key, PyObject *site, PyObject *mark, Decision *decision, int what)
+/* A key that is looked up without any code of the program, unless that compares keys. */
+static int saw_key(
+    PyObject *one, PyObject *key, PyObject *site, PyObject *mark, PyObject *made, PyObject *name, int what)
 {
     int is_repeated = 1;
-    PyObject *made = Py_NewRef(decision->late), *name = Py_NewRef(decision->name);
     PyObject *late = what == OF_DICT
         ? late_of_key(one, key, site, made, &is_repeated) : late_of_index(key, site, made);
     int result = late == NULL ? -1 : see_as(one, mark, late, name, is_repeated);
     Py_XDECREF(late);
+    return result;
+}
+
+/* Notes an element, unless the key is not plain: then it gives 1, and Python has to note it. */
+static int note_key(PyObject *one, PyObject *key, PyObject *site, PyObject *mark, Decision *decision)
+{
+    /* What compares keys may have it decided anew. */
+    PyObject *made = Py_NewRef(decision->late), *name = Py_NewRef(decision->name);
+    int what = what_of_key(one, key, decision->what);
+    int is_plain = what == OF_DICT || (what == OF_LIST && _PyLong_Sign(key) >= 0);
+    int result = is_plain ? saw_key(one, key, site, mark, made, name, what) : 1;
     Py_DECREF(made);
     Py_DECREF(name);
     return result;
@@ -1312,10 +1324,7 @@ static PyObject *touch_keyed(PyObject *one, PyObject *key, PyObject *site, Py_ss
             result = -1;
         else if (owner != NULL && (owner = find_owner(one)) != NULL && is_seen_at(owner, decision, mark, key))
             result = 0;
-        else if ((what = what_of_key(one, key, decision->what)) == OF_DICT
-                 || (what == OF_LIST && _PyLong_Sign(key) >= 0))
-            result = saw_key(one, key, site, mark, decision, what);
-        else
+        else if ((result = note_key(one, key, site, mark, decision)) > 0)
             Py_CLEAR(mark);
     }
     if (mark == NULL)
