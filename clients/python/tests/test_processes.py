@@ -329,8 +329,8 @@ if __name__ == "__main__":
     del thing
 """
 MAKERS = (
-    "multiprocessing.Barrier(1, print)", "multiprocessing.Barrier(17)", "multiprocessing.Array('i', 5000)", "shared_memory.ShareableList(range(5000))", "__import__('multiprocessing.managers').managers.SyncManager().get_server()", "__import__('mmap').mmap(-1, 1)", "(lambda pipe: pipe[0].send_bytes(b'x') or pipe)(multiprocessing.Pipe())",
-    "shared_memory.ShareableList([1]).shm", "shared_memory.SharedMemory(create=True, size=1)", "bool(shared_memory.ShareableList([1]).shm.buf)",
+    "multiprocessing.Barrier(1, print)", "multiprocessing.Barrier(17)", "multiprocessing.Array('i', 5000)", "shared_memory.ShareableList(range(5000))", "__import__('multiprocessing.managers').managers.SyncManager().get_server()", "__import__('mmap').mmap(-1, 1)", "(lambda pipe: pipe[0].fileno() and pipe[0].send_bytes(b'x') or pipe)(multiprocessing.Pipe())",
+    "bool(shared_memory.ShareableList([1]).shm.buf)",
     "multiprocessing.RawArray(type('S', (__import__('ctypes').Structure,), {'_fields_': [('x', __import__('ctypes').c_int)]}), 2)",
 )
 LATER = """
@@ -391,7 +391,7 @@ class Messages(ProgramCase):
 
     def test_what_is_used_later_and_is_not_followed_is_no_all_clear(self) -> None:
         for use, give, told in (
-            ("pipe.recv_bytes()", "here.send_bytes(b'x')", "recv_bytes was used at"), ("pipe.recv()", "pass", "the end of a pipe was used at"),
+            ("pipe.recv_bytes()", "here.send_bytes(b'x')", ""), ("pipe.fileno(); pipe.recv_bytes()", "here.send_bytes(b'x')", "recv_bytes was used at"), ("pipe.recv()", "pass", "the end of a pipe was used at"),
             ("multiprocessing.Array('i', 5000)", "pass", "shared memory"), ("pipe.send(1); pipe.recv()", "here.recv(); here.send(multiprocessing.Lock)", ""),
         ):
             with self.subTest(use=use):

@@ -39,12 +39,18 @@ class Sending:
         self._where = where
 
     @staticmethod
-    def begin(frame: FrameType | None, words: str = "to another process") -> Sending | None:
-        """Sends a message from here, which carries what the words say. None where tracing is off."""
+    def begin(
+        frame: FrameType | None, words: str = "to another process", message: str | None = None,
+    ) -> Sending | None:
+        """Sends a message from here, which carries what the words say. None where tracing is off.
+
+        It has a name of its own, unless it is given one that nobody else has.
+        """
         note, tracer = state.note, state.tracer
         if note is None or tracer is None:
             return None
-        message, waiter, where = tracer.fresh_message(), Waiter(), place(frame)
+        waiter, where = Waiter(), place(frame)
+        message = message or tracer.fresh_message()
         note((SEND, current(), message, f"send {words}", waiter, *where))
         tracer.look_after(waiter)
         return Sending(message, waiter, tracer, where)

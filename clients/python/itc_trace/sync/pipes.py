@@ -7,6 +7,7 @@ not disturbed.
 from __future__ import annotations
 
 import contextlib
+import io
 import pickle
 import threading
 from collections.abc import Callable, Iterator
@@ -17,6 +18,7 @@ from ..record import following
 from ..model.lines import state
 from ..model.frames import frame_at
 from ..record.messages import Sending, incoming_at
+from . import counted_pipes
 from .base import Patches, like
 from .later import once_imported
 from .processes import trace_permits
@@ -70,12 +72,19 @@ def _named(pickled: Any, sending: Sending | None) -> Any:
 def _loads(data: Any, **named: Any) -> Any:
     told = pickle.loads(data, **named)
     if state.note is not None:
-        end = bytes(data[-_LENGTH:])
-        if end.startswith(MARK_OF_NAME) and end.endswith(END_OF_NAME):
-            _own.is_named = True
-            if not _is_silent():
-                incoming_at(end[len(MARK_OF_NAME):].decode("ascii", "replace").strip(), following.frame_of_start(1))
+        _hear(data)
     return told
+
+
+def _hear(data: Any) -> bool:
+    """The current task receives the message whose name lies behind a pickle, if one does. Says whether one does."""
+    end = bytes(data[-_LENGTH:])
+    is_named = end.startswith(MARK_OF_NAME) and end.endswith(END_OF_NAME)
+    if is_named:
+        _own.is_named = True
+        if not _is_silent():
+            incoming_at(end[len(MARK_OF_NAME):].decode("ascii", "replace").strip(), following.frame_of_start(2))
+    return is_named
 
 
 def _begin() -> Sending | None:
@@ -216,31 +225,133 @@ def _on_error(original: Any) -> Any:
 
 def _put_connections(patches: Patches, module: ModuleType) -> None:
     kind: Any = vars(module)["_ConnectionBase"]
-    for name in ("send_bytes", "recv_bytes", "recv_bytes_into"):
-        patches.wrap(kind, name, _tells_of_bytes)
-    patches.wrap(kind, "recv", _recv)
+    patches.wrap(kind, "send", _send)
+    patches.wrap(kind, "send_bytes", _send_bytes)
+    for name in ("recv", "recv_bytes", "recv_bytes_into"):
+        patches.wrap(kind, name, _receiving)
+    patches.wrap(kind, "fileno", _fileno)
+    patches.wrap(vars(module)["Connection"], "_recv_bytes", _recv_bytes)
+    patches.wrap(module, "Pipe", _pipe)
 
 
-def _tells_of_bytes(original: Any) -> Any:
-    """Bytes carry no name."""
+def _pipe(original: Any) -> Any:
+    def Pipe(duplex: bool = True) -> Any:
+        told = original(duplex)
+        if duplex:
+            counted_pipes.made(*told)
+        return told
 
-    def method(self: Any, *words: Any, **named: Any) -> Any:
-        if not following.is_of_library(frame_at(1)):
+    return Pipe
+
+
+def _send(original: Any) -> Any:
+    """The name of the message lies behind the pickle. It is counted, as bytes may be sent beside."""
+
+    def send(self: Any, obj: Any) -> None:
+        end = None if following.is_of_library(frame_at(1)) else counted_pipes.end_of(self, counted_pipes.SENDING)
+        if end is None:
+            original(self, obj)
+            return
+        number, is_sent = end.begin(), False
+        try:
+            original(self, obj)
+            is_sent = True
+        finally:
+            end.end(number if is_sent else None)
+
+    return send
+
+
+def _send_bytes(original: Any) -> Any:
+    """Bytes carry no name, so it follows from their number."""
+
+    def send_bytes(self: Any, buf: Any, offset: int = 0, size: int | None = None) -> None:
+        if following.is_of_library(frame_at(1)) or not following.is_there():
+            original(self, buf, offset, size)
+            return
+        end = counted_pipes.end_of(self, counted_pipes.SENDING)
+        number, is_sent = None if end is None else end.begin(), False
+        if end is None or number is None or not _begins(end.message(number)):
             following.is_not_followed(original.__name__)
-        return original(self, *words, **named)
+        try:
+            original(self, buf, offset, size)
+            is_sent = True
+        finally:
+            if end is not None:
+                end.end(number if is_sent else None)
 
-    return method
+    return send_bytes
 
 
-def _recv(original: Any) -> Any:
+def _begins(message: str) -> bool:
+    """Sends a message of this name. Says whether it is there."""
+    sending = Sending.begin(following.frame_of_start(2), message=message)
+    return sending is None or sending.name() is not None
+
+
+def _receiving(original: Any) -> Any:
     """Whoever sees the end of a pipe comes after those who have closed it, and nobody knows these."""
 
-    def recv(self: Any) -> Any:
+    def receive(self: Any, *words: Any, **named: Any) -> Any:
+        if following.is_of_library(frame_at(1)):
+            return original(self, *words, **named)
+        end, is_received = counted_pipes.end_of(self, counted_pipes.RECEIVING), False
+        number = None if end is None else end.begin()
+        begin_to_listen()
+        _own.wants_bytes = original.__name__ != RECV
         try:
-            return original(self)
+            told = original(self, *words, **named)
+            is_received = True
         except EOFError:
-            if not following.is_of_library(frame_at(1)):
-                following.is_not_followed("the end of a pipe")
+            following.is_not_followed("the end of a pipe")
             raise
+        finally:
+            _own.wants_bytes = False
+            number = None if end is None else end.end(number if is_received else None)
+        if not has_heard():
+            _receive_counted(end, number, original.__name__)
+        return told
 
-    return recv
+    return receive
+
+
+RECV = "recv"
+
+
+def _receive_counted(end: counted_pipes.End | None, number: int | None, how: str) -> None:
+    """The current task has received what has brought no name. An object may come from a process that is not traced."""
+    if end is not None and number is not None:
+        incoming_at(end.message(number), following.frame_of_start(2))
+    elif end is not None or how != RECV:
+        following.is_not_followed(how)
+
+
+def _recv_bytes(original: Any) -> Any:
+    """An object may be received as bytes. What lies behind its pickle is none of the program's."""
+
+    def _recv_bytes(self: Any, maxsize: int | None = None) -> Any:
+        if not getattr(_own, "wants_bytes", False):
+            return original(self, maxsize)
+        found = original(self, None if maxsize is None else maxsize + _LENGTH)
+        data = None if found is None else found.getvalue()
+        if data is not None and _hear(data):
+            data, found = data[:-_LENGTH], io.BytesIO()
+            found.write(data)
+        return None if data is None or maxsize is not None and len(data) > maxsize else found
+
+    return _recv_bytes
+
+
+def _fileno(original: Any) -> Any:
+    """What a program does to a pipe by the system's own calls is not counted."""
+
+    def fileno(self: Any) -> int:
+        caller = frame_at(1)
+        if caller is not None and following.watches(str(caller.f_globals.get("__name__"))):
+            for side in (counted_pipes.SENDING, counted_pipes.RECEIVING):
+                end = counted_pipes.end_of(self, side)
+                if end is not None:
+                    end.lose()
+        return int(original(self))
+
+    return fileno

@@ -10,7 +10,7 @@ from types import FrameType, ModuleType
 from typing import Any
 
 from ..model.conflicts import READ, WRITE
-from ..model.frames import frame_at, place_of
+from ..model.frames import place_of
 from ..model.lines import state
 from ..model.stretches import Across
 from ..record import following
@@ -21,8 +21,9 @@ from .later import once_imported
 from .values import MOST_ELEMENTS, making, user
 
 _MODULE = "multiprocessing.shared_memory"
+OF_LISTS = "list"
 _labels: dict[str, str] = {}
-"""Where this process has made the lists, by the names of their memory."""
+"""Where this process has made what lies in shared memory, by what it is and the name of its memory."""
 _counts: dict[str, int] = {}
 
 
@@ -31,12 +32,11 @@ def put(patches: Patches) -> None:
 
 
 def _put_lists(patches: Patches, module: ModuleType) -> None:
-    kind, block = vars(module)["ShareableList"], vars(module)["SharedMemory"]
+    kind = vars(module)["ShareableList"]
     patches.wrap(kind, "__init__", _making_of)
     patches.wrap(kind, "__getitem__", _get)
     patches.wrap(kind, "__setitem__", _set)
     patches.put(kind, "format", _watched_format(vars(kind)["format"]))
-    patches.put(block, "buf", _watched_memory(vars(block)["buf"]))
 
 
 def _making_of(original: Any) -> Any:
@@ -48,34 +48,39 @@ def _making_of(original: Any) -> Any:
             following.is_not_followed("ShareableList")
             return
         if sequence is not None or name is None:
-            _keep_label(memory, following.frame_of_start(1))
+            keep_label(OF_LISTS, memory, following.frame_of_start(1))
         self.shm._itc_is_of_list = True
-        self._itc_label = _label_of(memory)
+        self._itc_label = label_of(OF_LISTS, memory) or memory
         following.follow_memory(memory)
 
     return __init__
 
 
-def _keep_label(memory: str, frame: FrameType | None) -> None:
-    """Keeps where a list was made, for each process that gets it by the name of its memory."""
+def keep_label(what: str, memory: str, frame: FrameType | None) -> None:
+    """Keeps where something was made, for each process that gets it by the name of its memory."""
     tracer = state.tracer
     maker = "" if tracer is None or not tracer.prefix else f" by {tracer.prefix.rstrip('_')}"
     place = "?" if frame is None else f"{os.path.basename(frame.f_code.co_filename)}:{frame.f_lineno}{maker}"
-    number = _counts[place] = _counts.get(place, 0) + 1
+    key, of_place = f"{what} {memory}", f"{what} {place}"
+    number = _counts[of_place] = _counts.get(of_place, 0) + 1
     label = place if number == 1 else f"{place}, number {number}"
-    _labels[memory] = label
+    if len(label) > LONGEST_NAME or not label.isascii():
+        label = memory[:LONGEST_NAME]
+    _labels[key] = label
     names = following.shared_names()
-    slot = None if names is None else names.slot_of(f"list {memory}")
+    slot = None if names is None else names.slot_of(key)
     if names is not None and slot is not None:
-        names.put(slot, label if len(label) <= LONGEST_NAME and label.isascii() else memory[:LONGEST_NAME])
-        _labels[memory] = names.name_at(slot)
+        names.put(slot, label)
+    elif names is not None:
+        _labels[key] = memory[:LONGEST_NAME]  # No other process would be told the place.
 
 
-def _label_of(memory: str) -> str:
-    names = following.shared_names()
-    slot = None if names is None else names.slot_of(f"list {memory}")
+def label_of(what: str, memory: str) -> str:
+    """Where it was made. Nothing, if nobody has said so."""
+    key, names = f"{what} {memory}", following.shared_names()
+    slot = None if names is None else names.slot_of(key)
     told = "" if names is None or slot is None else names.name_at(slot)
-    return told or _labels.get(memory) or memory
+    return told or _labels.get(key, "")
 
 
 def _get(original: Any) -> Any:
@@ -106,17 +111,6 @@ def _watched_format(plain: Any) -> property:
     def get(self: Any) -> Any:
         for position in range(self._list_len):
             _touch(self, position, READ)
-        return plain.__get__(self)
-
-    return property(get, doc=plain.__doc__)
-
-
-def _watched_memory(plain: Any) -> property:
-    def get(self: Any) -> Any:
-        caller = frame_at(1)
-        is_of_module = caller is not None and caller.f_globals.get("__name__") == _MODULE
-        if getattr(self, "_itc_is_of_list", False) and not is_of_module:
-            following.is_not_followed("the memory of a ShareableList")
         return plain.__get__(self)
 
     return property(get, doc=plain.__doc__)

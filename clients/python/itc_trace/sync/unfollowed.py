@@ -24,15 +24,6 @@ def _telling(patches: Patches, kind: str, tells: Callable[[Any], Any]) -> Callab
     return lambda module: patches.wrap(vars(module)[kind], "__init__", tells)
 
 
-def _tells_of_block(original: Any) -> Any:
-    def __init__(self: Any, *words: Any, **named: Any) -> None:
-        if not is_making():
-            following.is_not_followed(type(self).__name__)
-        original(self, *words, **named)
-
-    return __init__
-
-
 def _tells_of_memory(original: Any) -> Any:
     def __init__(self: Any, size: int) -> None:
         if not is_making():
@@ -56,6 +47,5 @@ def _tells_of_queue(original: Any) -> Any:
 _MAKING = (
     ("multiprocessing.heap", "BufferWrapper", _tells_of_memory),
     ("multiprocessing.queues", "Queue", _tells_of_queue),
-    ("multiprocessing.shared_memory", "SharedMemory", _tells_of_block),
 )
 """The modules and classes by which a program makes such things, or gets them from another process, and what tells."""

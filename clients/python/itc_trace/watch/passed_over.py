@@ -51,8 +51,7 @@ FOLLOWED_METHODS = frozenset(
 """Methods that call what they are given and say so, or only keep it."""
 REPLACING = ("unittest.mock.patch", "mock.patch", "importlib.reload")
 """Functions that replace what others use. While there is one task nobody else does."""
-_MODULES = frozenset(("ctypes", "numpy", "pandas", "multiprocessing.shared_memory"))
-_FOLLOWED_OF_MODULES = frozenset(("multiprocessing.shared_memory.ShareableList",))
+_MODULES = frozenset(("ctypes", "numpy", "pandas"))
 _WITH_TASKS = frozenset("greenlet eventlet anyio curio stackless cffi".split())
 """Libraries with tasks of their own, or with threads that no code of Python starts."""
 _LOADED = ("gevent", "eventlet", "curio", "stackless", "twisted.internet")
@@ -206,6 +205,7 @@ _BY_CODE = frozenset((
 """Attributes that the interpreter looks at by itself."""
 PAST_HOOKS = frozenset((
     "cell_contents", "__globals__", "f_globals", "f_locals", "f_builtins", "__builtins__", "__set__", "__delete__",
+    "__setstate__",
 ))
 """Attributes by which variables and fields are reached past all hooks."""
 
@@ -232,15 +232,10 @@ def look_at_import(node: ast.Import | ast.ImportFrom, learned: Learned) -> None:
     """Keeps an import of a module whose arrays and fields are not looked at."""
     names = [one.name for one in node.names] if isinstance(node, ast.Import) else [node.module or "", *_parts(node)]
     for name in names:
-        if name in _MODULES and not _is_followed_by_name(node):
+        if name in _MODULES:
             learned.passed_over.append((name, node.lineno))
     with_tasks = {one for one in map(_with_tasks, names) if one}
     learned.passed_over.extend((f"{TASKS_OF}{one}", node.lineno) for one in sorted(with_tasks))
-
-
-def _is_followed_by_name(node: ast.Import | ast.ImportFrom) -> bool:
-    """Whether nothing is imported but what is followed."""
-    return isinstance(node, ast.ImportFrom) and _FOLLOWED_OF_MODULES.issuperset(_parts(node))
 
 
 def _with_tasks(name: str) -> str:
