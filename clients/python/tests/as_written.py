@@ -331,8 +331,8 @@ class Server(threading.Thread):
         self.stop, self.stopped, self.answered = threading.Event(), threading.Event(), 0
     def run(self):
         while True:
-            if self.stop.wait(0.001): break
             self.answered += 1  # race
+            if self.stop.wait(0.001): break
         self.stopped.set()
 def run():
     server = Server()

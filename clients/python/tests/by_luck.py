@@ -340,6 +340,60 @@ def first():
 def second():
     with jobs.not_empty: jobs.not_empty.notify_all()
     LOOK
+## a permit that is waited for only so long
+done = threading.Semaphore(0)
+def first():
+    CHANGE
+    done.release()
+def second():
+    done.acquire(timeout=0.001)
+    LOOK
+## a permit that somebody else gives, too
+done = threading.Semaphore(0)
+def first():
+    CHANGE
+    done.release()
+def second():
+    other = threading.Thread(target=done.release)
+    other.start()
+    done.acquire()
+    other.join()
+    LOOK
+## two permits that three give
+done = threading.Semaphore(0)
+def first():
+    CHANGE
+    done.release()
+def second():
+    done.release()
+    other = threading.Thread(target=done.release)
+    other.start()
+    done.acquire()
+    done.acquire()
+    other.join()
+    LOOK
+## a permit that its task might have taken from those that were there
+permits = threading.Semaphore(2)
+def first():
+    CHANGE
+    permits.acquire()
+    permits.release()
+    permits.acquire()
+def second():
+    permits.acquire()
+    LOOK
+## a permit of three, two of which are given at once
+done = threading.Semaphore(0)
+def first():
+    CHANGE
+    done.release()
+def second():
+    other = threading.Thread(target=done.release, args=(2,))
+    other.start()
+    done.acquire()
+    done.acquire()
+    other.join()
+    LOOK
 ## a permit of a pool of permits that grows
 permits = threading.Semaphore(1)
 def first():
@@ -498,6 +552,25 @@ def first():
     done.cancel()
 def second():
     told = "gone" if done.cancelled() else "at work"
+    LOOK
+## a callback that is added to a future, which may be done
+from concurrent.futures import Future
+done = Future()
+def first():
+    CHANGE
+    done.set_result(1)
+def second():
+    done.add_done_callback(lambda future: None)
+    LOOK
+## a callback that may be called at once, by who has added it
+from concurrent.futures import Future
+done = Future()
+def change(future):
+    CHANGE
+def first():
+    done.set_result(1)
+def second():
+    done.add_done_callback(change)
     LOOK
 ## a future that is waited for only so long
 from concurrent.futures import Future, wait
@@ -773,8 +846,91 @@ def second():
     wait([done], timeout=1)
     done.result()
     shop.left
+## a callback is added to a future whose result was taken
+from concurrent.futures import Future
+done = Future()
+def change(future): shop.left -= 1
+def first():
+    shop.left -= 1
+    done.set_result(1)
+def second():
+    done.result()
+    done.add_done_callback(change)
+    shop.left
+## a callback is added behind an event that tells of the result
+from concurrent.futures import Future
+done, told = Future(), threading.Event()
+def change(future): shop.left -= 1
+def first():
+    shop.left -= 1
+    done.set_result(1)
+    told.set()
+def second():
+    told.wait()
+    done.add_done_callback(change)
+    shop.left
+## a callback is added by who has given the result
+from concurrent.futures import Future
+def change(future): shop.left -= 1
+def first(): pass
+def second():
+    done = Future()
+    done.set_result(1)
+    done.add_done_callback(change)
+    shop.left
+## a permit that stands for what was done
+done = threading.Semaphore(0)
+def first():
+    shop.left -= 1
+    done.release()
+def second():
+    done.acquire()
+    shop.left
+## permits of all who have done something
+done, shop.right = threading.Semaphore(0), 1
+def change(name):
+    setattr(shop, name, 2)
+    done.release()
+workers = [threading.Thread(target=change, args=(name,)) for name in ("left", "right")]
+def first():
+    for worker in workers: worker.start()
+def second():
+    for worker in workers: done.acquire()
+    shop.left, shop.right
+## a permit for each item
+done, cells = threading.Semaphore(0), [0, 0, 0]
+def first():
+    for place in range(3):
+        cells[place] += 1
+        done.release()
+def second():
+    for place in range(3):
+        done.acquire()
+        cells[place]
+## permits that are given at once, for several who wait
+done = threading.Semaphore(0)
+def look():
+    done.acquire()
+    shop.left
+def first():
+    shop.left -= 1
+    done.release(2)
+def second():
+    lookers = [threading.Thread(target=look) for _ in range(2)]
+    for looker in lookers: looker.start()
+    for looker in lookers: looker.join()
+## one permit more than were there
+permits = threading.Semaphore(2)
+def first():
+    shop.left -= 1
+    permits.release()
+def second():
+    permits.acquire()
+    permits.acquire()
+    permits.acquire()
+    shop.left
 """
-"""Nothing is told or counted: what looks is behind a yes."""
+"""Nothing is told or counted: what looks is behind a yes, or behind a permit that nobody else could have given."""
 
 MEANT = """
 ## whoever comes later has waited for the flag
@@ -810,14 +966,6 @@ def first():
     with guard: shop.left -= 1
 def second():
     with guard: shop.left
-## a permit that stands for what was done
-done = threading.Semaphore(0)
-def first():
-    shop.left -= 1
-    done.release()
-def second():
-    done.acquire()
-    shop.left
 ## a lock that another thread lets go of
 gate = threading.Lock()
 gate.acquire()

@@ -99,6 +99,29 @@ def steps():
 def kept(n): return n
 generator = steps()
 """
+RAISED = """
+import contextlib
+fault, cause = ValueError(1), OSError(2, 'a')
+class Holder: pass
+holder = Holder()
+holder.fault = fault
+def fail(one, because):
+    with contextlib.suppress(ValueError): raise one from because
+def fail_by_field(one):
+    with contextlib.suppress(ValueError): raise one.fault from cause
+def fail_by_variable():
+    with contextlib.suppress(ValueError): raise fault from cause
+def fail_alone(one):
+    with contextlib.suppress(ValueError): raise one
+def fail_within(one):
+    with contextlib.suppress(ValueError):
+        try: 1 / 0
+        except ZeroDivisionError: raise one
+def fail_new(because):
+    with contextlib.suppress(ValueError):
+        new = ValueError(2)
+        raise new from because
+"""
 LIBRARY = """
 import asyncio, codecs, contextlib, copyreg, csv, decimal, faulthandler, gc, importlib, io, linecache, locale, logging
 import logging.config, mimetypes, multiprocessing, os, random, re, resource, signal, socket, sqlite3, sys, threading
@@ -118,6 +141,120 @@ expression = re.compile("x")
 class Plain:
     left = 1
 plain = Plain()
+"""
+OF_CLASSES = """
+import threading, typing
+class Mine(threading.local):
+    count = 0
+    table = {}
+    def look(self): return self.count
+    @classmethod
+    def add(cls): cls.count += 1
+class Begun(threading.local):
+    count = hidden = 0
+    def __init__(self): self.own = self.hidden = 1
+class Lower(Begun): pass
+mine, begun, lower = Mine(), Begun(), Lower()
+T = typing.TypeVar("T")
+class Box(typing.Generic[T]):
+    count = 0
+    def get(self): return self.count
+class Sub(Box[int]): pass
+alias = Box[int]
+box, sub = Box(), Sub()
+"""
+SETTINGS = """
+import argparse, calendar, cmd, configparser, csv, decimal, difflib, email.message, email.generator, gettext, html.parser, http.client, io
+import json, logging, mimetypes, optparse, pprint, reprlib, sched, shlex, smtplib, socketserver, sqlite3, ssl, string, tarfile, textwrap
+import urllib.request, zipfile, ftplib, imaplib, fileinput, mailbox, time
+import xml.etree.ElementTree as tree
+import xml.etree.ElementTree
+from decimal import Decimal
+wrapper = textwrap.TextWrapper()
+context = decimal.Context()
+parser = argparse.ArgumentParser(add_help=False)
+month = calendar.TextCalendar()
+shell = cmd.Cmd()
+config = configparser.ConfigParser()
+sniffer = csv.Sniffer()
+differ = difflib.Differ()
+letter = email.message.Message()
+generator = email.generator.Generator(io.StringIO())
+reader = html.parser.HTMLParser()
+connection = http.client.HTTPConnection("localhost")
+encoder, decoder = json.JSONEncoder(), json.JSONDecoder()
+formatter, handler = logging.Formatter(), logging.NullHandler()
+record = logging.makeLogRecord({"msg": "a"})
+types_of = mimetypes.MimeTypes()
+options = optparse.OptionParser()
+short = reprlib.Repr()
+scheduler = sched.scheduler()
+lexer = shlex.shlex("a b c d e f g")
+base = sqlite3.connect(":memory:", check_same_thread=False)
+cursor = base.cursor()
+secure = ssl.SSLContext(ssl.PROTOCOL_TLS_CLIENT)
+template = string.Template("a")
+request = urllib.request.Request("http://localhost")
+opener = urllib.request.build_opener()
+archive = zipfile.ZipFile(io.BytesIO(), "w")
+info = zipfile.ZipInfo("a")
+tar = tarfile.open(fileobj=io.BytesIO(), mode="w")
+element = tree.Element("a")
+class Mine(textwrap.TextWrapper):
+    def fill(self, text): return text
+mine = Mine()
+class Box:
+    width = 1
+    def wrap(self, text): return text
+box = Box()
+def width(n): wrapper.width = n
+"""
+UPDATED = """
+count, other = 1, 2
+table, shared = {"count": 5}, {"a": 1, "b": 2}
+class One: pass
+one = One()
+one.left = one.right = 1
+fields, named = one.__dict__, globals()
+def update(fields, more): fields |= more
+def write_other():
+    global other
+    other = 3
+def write_count():
+    global count
+    count = 3
+"""
+PARTIAL = """
+import functools, threading
+def work(*words, **named): return len(words)
+part = functools.partial(work, 1, n=2)
+outer = functools.partial(part, 2)
+class Own(functools.partial): pass
+class Holder: pass
+own, holder = Own(work, 1, n=2), Holder()
+holder.part = part
+"""
+GONE_THROUGH = """
+import functools, itertools, operator, threading
+from collections import Counter, UserDict, UserList, deque
+one, two = Counter(a=1), Counter(b=2)
+rows, more = [1], [2]
+table, other = {"a": 1}, {"a": 2}
+marks, line = {1}, deque([1])
+ones, tables, sets, lines = [one], [table], [marks], [line]
+user, wrapped = UserDict(a=1), UserList([1])
+class Sized:
+    def __init__(self, left): self.left = left
+    def __add__(self, other): return Sized(self.left + other.left)
+    def __radd__(self, other): return self
+    def __lt__(self, other): return self.left < other.left
+    def __eq__(self, other): return self.left == other.left
+    def __hash__(self): return hash(self.left)
+    def __len__(self): return self.left
+    def __index__(self): return self.left
+    def __iter__(self): return iter([self.left])
+    def __format__(self, form): return str(self.left)
+sized, larger = Sized(1), Sized(2)
 """
 
 CHAPTERS = (
@@ -231,7 +368,21 @@ no thing | timeit.timeit(lambda: 1, number=1) | work()
 no thing | work() | work()
 no thing | work.__module__ | work.__module__
 """),
-    Chapter("exceptions", "fault, cause = ValueError(1), OSError(2, 'a')", """
+    Chapter("exceptions", RAISED, """
+seen | fail(fault, cause) | fail(fault, cause)
+seen | fail(fault, cause) | fault.__cause__
+seen | fail(fault, cause) | fault.__suppress_context__
+seen | fail(fault, None) | fault.__cause__
+seen | fail_by_field(holder) | fault.__cause__
+seen | fail_by_variable() | fault.__cause__
+seen | fail_by_variable() | fault.__cause__ = None
+seen | fail_alone(fault) | fault.__traceback__
+seen | fail_within(fault) | fault.__context__
+no thing | fail_alone(fault) | fault.__context__
+no thing | fail_alone(fault) | fault.__cause__
+no thing | fail(ValueError, cause) | fail(ValueError, cause)
+no thing | fail_new(cause) | fail_new(cause)
+no thing | fail(fault, cause) | cause.__cause__
 seen | fault.args = (2,) | fault.args
 seen | fault.args = (2,) | str(fault)
 seen | fault.args = (2,) | f"{fault!r}"
@@ -360,6 +511,222 @@ starred | functools.lru_cache(items.append) | len(items)
 starred | functools.cmp_to_key(items.remove) | len(items)
 no thing | items.append | items.append
 """),
+    Chapter("what hands attributes on to a class", OF_CLASSES, """
+seen | Mine.count = 2 | Mine.count
+seen | Mine.count = 2 | mine.count
+seen | Mine.count = 2 | mine.look()
+seen | Mine.count = 2 | mine.count += 1
+seen | Mine.count = 2 | Mine().count
+seen | Mine.count = 2 | getattr(mine, "count")
+seen | Mine.count = 2 | hasattr(mine, "count")
+seen | setattr(Mine, "count", 2) | mine.count
+seen | type(mine).count = 3 | mine.count
+seen | mine.__class__.count = 3 | mine.count
+seen | mine.add() | mine.add()
+seen | mine.add() | mine.count
+seen | Mine.table["a"] = 1 | mine.table["a"] = 2
+seen | del Mine.count | getattr(mine, "count", 0)
+seen | Mine.new = 2 | getattr(mine, "new", 0)
+seen | Begun.count = 2 | begun.count
+seen | Begun.count = 2 | lower.count
+seen | Lower.count = 2 | lower.count
+no thing | Begun.hidden = 2 | begun.hidden
+no thing | begun.own = 2 | begun.own
+no thing | mine.count = 2 | mine.count
+no thing | mine.count = 2 | Mine.count
+no thing | mine.count += 1 | mine.count += 1
+seen | Box[int].count = 1 | Box.count
+seen | Box[int].count = 1 | Box.count = 2
+seen | Box[int].count = 1 | Box[str].count
+seen | Box[int].count = 1 | Box[str].count = 3
+seen | Box[int].count += 1 | Box[int].count += 1
+seen | Box[int].newer = 1 | getattr(box, "newer", 0)
+seen | alias.count = 1 | Box.count
+seen | alias.count = 1 | box.count
+seen | alias.count = 1 | sub.count
+seen | Box.count = 1 | alias.count
+seen | Box.count = 1 | Box[int].count
+seen | setattr(alias, "count", 2) | Box.count
+seen | getattr(alias, "count") | Box.count = 2
+seen | Box.get = len | Box[int].get
+seen | alias.get = len | box.get
+no thing | Box[int].count | Box[str].count
+no thing | alias.__origin__ | alias.__args__
+"""),
+    Chapter("settings of objects of the library", SETTINGS, """
+seen | wrapper.width = 5 | wrapper.wrap("a b")
+seen | wrapper.width = 5 | wrapper.fill("a b")
+seen | wrapper.width = 5 | wrapper.width = 6
+starred | wrapper.initial_indent = "a" | wrapper.fill("a b")
+starred | wrapper.tabsize = 5 | wrapper.wrap("a b")
+starred | wrapper.placeholder = "" | wrapper.wrap("a b")
+seen | width(5) | wrapper.wrap("a")
+seen | mine.width = 5 | mine.wrap("a")
+no thing | mine.width = 5 | mine.fill("a")
+no thing | wrapper.width = 5 | wrapper.tabsize = 5
+no thing | wrapper.wrap("a") | wrapper.wrap("a")
+no thing | box.width = 5 | box.wrap("a")
+no thing | wrapper.width | wrapper.wrap("a")
+seen | context.prec = 5 | context.divide(Decimal(1), Decimal(3))
+seen | context.prec = 5 | context.sqrt(Decimal(3))
+seen | context.prec = 5 | context.add(Decimal(1), Decimal(3))
+seen | context.prec = 5 | context.subtract(Decimal(1), Decimal(3))
+seen | context.rounding = decimal.ROUND_UP | context.quantize(Decimal(1), Decimal(3))
+seen | context.prec = 5 | context.create_decimal("1")
+starred | context.Emax = 5 | context.add(Decimal(1), Decimal(3))
+starred | context.clamp = 1 | context.multiply(Decimal(1), Decimal(3))
+starred | context.capitals = 1 | context.to_sci_string(Decimal(1))
+seen | context.prec += 1 | context.divide(Decimal(1), Decimal(3))
+seen | setattr(context, "prec", 4) | context.divide(Decimal(1), Decimal(3))
+starred | parser.prog = "a" | parser.parse_args([])
+starred | parser.prefix_chars = "+" | parser.parse_known_args([])
+starred | parser.epilog = "a" | parser.format_help()
+starred | parser.usage = "a" | parser.format_usage()
+starred | month.firstweekday = 1 | month.formatmonth(2026, 1)
+starred | config.default_section = "a" | config.getint("DEFAULT", "a", fallback=1)
+starred | config.default_section = "a" | config.sections()
+starred | sniffer.preferred = [","] | sniffer.sniff("a,b")
+starred | differ.linejunk = None | list(differ.compare(["a"], ["a"]))
+starred | letter.policy = letter.policy | letter.as_string()
+starred | letter.epilogue = "a" | letter.as_string()
+starred | generator.maxheaderlen = 5 | generator.flatten(letter)
+starred | reader.convert_charrefs = True | reader.feed("a")
+starred | connection.timeout = 5 | connection.set_tunnel("a")
+starred | connection.debuglevel = 0 | connection.set_tunnel("a")
+starred | encoder.indent = 2 | encoder.encode([1])
+starred | encoder.sort_keys = True | encoder.encode({"a": 1})
+starred | encoder.ensure_ascii = True | encoder.iterencode([1])
+starred | decoder.strict = False | decoder.decode("[1]")
+starred | decoder.object_hook = None | decoder.raw_decode("[1]")
+starred | formatter.datefmt = "a" | formatter.formatTime(record)
+starred | formatter.default_time_format = "%Y" | formatter.formatTime(record)
+starred | handler.formatter = None | handler.handle(record)
+starred | types_of.types_map = ({}, {}) | types_of.guess_type("a.txt")
+starred | options.prog = "a" | options.get_prog_name()
+starred | options.epilog = "a" | options.format_help()
+starred | short.maxlist = 2 | short.repr([1, 2, 3])
+starred | short.maxstring = 2 | short.repr("abc")
+starred | short.maxlevel = 2 | short.repr1([1], 2)
+starred | scheduler.timefunc = time.time | scheduler.run()
+starred | lexer.whitespace = " " | lexer.get_token()
+starred | lexer.commenters = "#" | lexer.get_token()
+starred | base.row_factory = None | base.cursor()
+starred | base.isolation_level = None | base.commit()
+starred | cursor.arraysize = 2 | cursor.fetchmany()
+starred | secure.check_hostname = False | secure.get_ciphers()
+starred | secure.options = 0 | secure.wrap_bio(ssl.MemoryBIO(), ssl.MemoryBIO(), server_hostname="a")
+starred | template.template = "b" | template.is_valid()
+starred | template.template = "b" | template.safe_substitute({})
+starred | request.data = b"a" | request.get_method()
+starred | request.host = "a" | request.has_proxy()
+starred | opener.addheaders = [] | opener.add_handler(urllib.request.BaseHandler())
+starred | archive.compression = 0 | archive.writestr("a", "b")
+starred | archive.pwd = b"a" | archive.namelist()
+starred | info.comment = b"" | info.is_dir()
+starred | tar.dereference = True | tar.getmembers()
+starred | tar.debug = 0 | tar.getnames()
+starred | element.tag = "b" | element.findall("c")
+starred | element.text = "b" | list(element.itertext())
+"""),
+    Chapter("updates of fields", UPDATED, """
+seen | globals().update(count=2) | write_count()
+seen | globals().update({"count": 2}) | count
+seen | globals().update([("count", 2)]) | count
+seen | globals().update(table) | count
+seen | named.update(count=2) | count
+seen | named.update({"count": 2}) | count
+seen | named.__ior__({"count": 2}) | count
+seen | fields.update(left=2) | one.left
+seen | fields.update({"left": 2}) | one.left
+seen | fields.__ior__({"left": 2}) | one.left
+seen | one.__dict__.__ior__({"left": 2}) | one.left
+seen | update(fields, {"left": 2}) | one.left
+seen | update(fields, [("left", 2)]) | one.left
+seen | update(named, table) | count
+seen | shared.update({"a": 2}) | shared["b"] = 3
+starred | update(fields, zip(["left"], [2])) | one.left
+no thing | globals().update(count=2) | write_other()
+no thing | globals().update({"count": 2}) | write_other()
+no thing | globals().update([("count", 2)]) | write_other()
+no thing | named.update({"count": 2}) | write_other()
+no thing | named.update(count=2) | write_other()
+no thing | named.__ior__({"count": 2}) | write_other()
+no thing | fields.update({"left": 2}) | one.right = 3
+no thing | one.__dict__.__ior__({"left": 2}) | one.right = 3
+no thing | update(fields, {"left": 2}) | one.right = 3
+no thing | update(named, table) | write_other()
+"""),
+    Chapter("partial", PARTIAL, """
+seen | part.keywords["n"] = 3 | part()
+seen | part.keywords["n"] = 3 | part(4)
+seen | part.keywords["z"] = 3 | part()
+seen | part.keywords.update(n=3) | part()
+seen | part.keywords["n"] = 3 | part.keywords["n"]
+seen | part.keywords["n"] = 3 | dict(part.keywords)
+seen | part.keywords["n"] = 3 | repr(part)
+seen | part.keywords["n"] = 3 | f"{part}"
+seen | part.keywords["n"] = 3 | list(map(part, [1]))
+seen | part.keywords["n"] = 3 | threading.Timer(0, part).run()
+seen | part.keywords["n"] = 3 | holder.part()
+seen | outer.keywords["n"] = 3 | outer()
+seen | part.left = 1 | part.left = 2
+seen | part.left = 1 | getattr(part, "left", 0)
+seen | own.left = 1 | getattr(own, "left", 0)
+starred | part.__setstate__((work, (2,), {}, {})) | part()
+starred | part.__setstate__((work, (2,), {}, {})) | part.args
+no thing | part.args | part()
+no thing | part() | part()
+no thing | part.keywords["n"] | part()
+no thing | part.keywords["n"] = 3 | outer()
+no thing | part.left = 1 | part()
+"""),
+    Chapter("functions that go through what they are given", GONE_THROUGH, """
+seen | one["a"] += 1 | sum([one, two], Counter())
+seen | one["a"] += 1 | sum([one, two], start=Counter())
+seen | one["a"] += 1 | sum({1: one, 2: two}.values(), Counter())
+seen | rows[0] = 3 | sum([rows, more], [])
+seen | rows.append(1) | sum((rows, more), start=[])
+seen | wrapped.append(1) | sum([wrapped, wrapped], UserList())
+seen | rows[0] = 3 | max(rows, more)
+seen | rows.append(1) | min(more, rows)
+seen | rows[0] = 3 | max([rows], [more])
+seen | rows[0] = 3 | max([rows, more])
+seen | rows.append(3) | max(rows, more, key=len)
+seen | one["a"] += 1 | sorted([one, two], key=Counter.total)
+seen | one["a"] += 1 | max([one, two], key=Counter.total)
+seen | one["a"] += 1 | list(map(Counter.most_common, [one, two]))
+seen | threading.Timer(0, one.update, ({"a": 1},)).run() | one["a"]
+seen | threading.Timer(0, one.subtract, ({"a": 1},)).run() | one["a"]
+seen | list(map(one.update, [{"a": 1}])) | one["a"]
+seen | list(map(user.get, "a")) | user["a"] = 2
+seen | list(map(user.pop, "a")) | user.get("a")
+seen | list(map(wrapped.append, [1])) | len(wrapped)
+seen | functools.reduce(Counter.__add__, [one, two]) | one["a"] += 1
+seen | functools.reduce(operator.sub, [one, two]) | one["a"] += 1
+seen | list(map(operator.add, [rows], [more])) | rows[0] = 2
+seen | list(map(operator.add, [one], [two])) | one["a"] += 1
+seen | one["a"] += 1 | two in ones
+seen | table["a"] = 3 | other in tables
+seen | table["a"] = 3 | tables.count(other)
+seen | marks.add(3) | {1} in sets
+seen | line.append(3) | deque([1]) in lines
+seen | one["z"] = 1 | any([one, two])
+seen | one["z"] = 1 | all([one, two])
+seen | sized.left = 2 | sum([sized, larger])
+seen | sized.left = 2 | max(sized, larger)
+seen | sized.left = 2 | sorted([sized, larger])
+seen | sized.left = 2 | {sized: 1}
+seen | sized.left = 2 | sized in [larger]
+seen | sized.left = 2 | range(sized)
+seen | sized.left = 2 | list(sized)
+seen | sized.left = 2 | any([sized])
+seen | sized.left = 2 | f"{sized}"
+no thing | one["a"] += 1 | one in ones
+no thing | one["a"] += 1 | any([one, two])
+no thing | rows[0] = 3 | max(rows, more, key=len)
+no thing | rows[0] = 3 | sum(range(3), len(rows))
+no thing | rows.append(1) | functools.reduce(lambda first, last: first, [rows, more])
+"""),
     Chapter("what others have made", "from array import array\nimport types\nnames = types.SimpleNamespace(left=1)", """
 seen | names.left = 2 | names.left
 seen | names.left = 2 | repr(names)
@@ -387,8 +754,9 @@ def answers() -> tuple[list[tuple[Row, str]], list[str]]:
     for batch in _batches(every):
         chosen = [pairs[number] for number in batch]
         before = len(passed_over.found)
-        plain, _ = races_of(chosen, "", faults)
-        starred = {one.place.partition(".")[0] for one in list(passed_over.found)[before:]}
+        plain, races = races_of(chosen, "", faults)
+        named = [*list(passed_over.found)[before:], *races.passed_over]
+        starred = {one.place.partition(".")[0] for one in named}
         locked, _ = races_of(chosen, "lock", faults)
         passed_over.found.clear()
         for place, number in enumerate(batch):

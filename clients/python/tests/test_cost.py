@@ -51,6 +51,36 @@ async def main():
     tell()
 asyncio.run(main())
 """
+HAND_OVERS = f"""
+import asyncio, cProfile, os, time
+import itc_trace
+from itc_trace.model.lines import state
+from itc_trace.record.tracer import Tracer
+profile, folder, plain = cProfile.Profile(), os.path.dirname(itc_trace.__file__), Tracer._report_some
+def report_some(tracer):
+    profile.enable()
+    plain(tracer)
+    profile.disable()
+def wait():
+    while state.tracer.reported is None:
+        time.sleep(0.001)
+totals, lock = {{"left": 0}}, asyncio.Lock()
+async def turns():
+    for _ in range({TURNS} // 10):
+        async with lock:
+            totals["left"] += 1
+            await asyncio.sleep(0)
+async def main():
+    await asyncio.gather(*(turns() for _ in range(10)))
+    wait()
+    BEGIN
+    await asyncio.gather(*(turns() for _ in range(10)))
+    wait()
+    END
+    files = [(one.callcount, getattr(one.code, "co_filename", "")) for one in profile.getstats()]
+    print(sum(count for count, file in files if file.startswith(folder)) // {TURNS})
+asyncio.run(main())
+"""
 FIELDS = """
 import gc, threading
 class Point:
@@ -109,6 +139,16 @@ class Calls(ProgramCase):
     @unittest.skipIf(quick is None, NO_HELPER)
     def test_a_turn_of_a_loop_takes_few(self) -> None:
         self.assertLess(self.calls_of(LOOP), 4)
+
+    @unittest.skipIf(quick is None, NO_HELPER)
+    def test_a_lock_of_asyncio_that_another_task_acquires_is_noted_by_few(self) -> None:
+        """All of the package count, and the tasks that are begun and awaited."""
+        program = HAND_OVERS.replace("BEGIN", "profile.enable()").replace("END", "profile.disable()")
+        self.assertLess(self.calls_of(program), 28)
+
+    def test_a_hand_over_of_a_lock_is_reported_by_few(self) -> None:
+        program = HAND_OVERS.replace("BEGIN", "Tracer._report_some = report_some").replace("END", "")
+        self.assertLess(self.calls_of(program), 60)
 
     @unittest.skipIf(quick is None, NO_HELPER)
     def test_an_object_whose_field_is_changed_in_place_gets_no_dictionary(self) -> None:

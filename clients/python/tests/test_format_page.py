@@ -66,13 +66,15 @@ OF_OTHER_RUNS = {
     "asked": '{"event":7,"task":"root","thing":null,"kind":"recv","file":"a","line":1,"label":"x","asked":"is_set"}',
     "behind": '{"event":7,"task":"root","thing":null,"kind":"recv","file":"a","line":1,"label":"x","behind":["a",1,9,[[2,3]],["f"]]}',
     "again": '{"event":7,"task":"root","thing":null,"kind":"local","file":"a","line":1,"label":"x","again":"send event_1"}',
+    "permit": '{"event":7,"task":"root","thing":null,"kind":"send","file":"a","line":1,"label":"x","permit":["4",2]}',
+    **dict.fromkeys(("permits", "begun", "given"), '{"permits":"4","begun":0,"given":{"root":1}}'),
     "undoes": '{"event":7,"task":"root","thing":"x","kind":"addition","file":"a","line":1,"label":"x","undoes":"key"}',
     "aside": '{"aside":"t","name":"t","group":"t","made":"","rows":[[7,1,"root","read","s",[],0,0]]}',
     "rows": '{"aside":"t","name":"t","group":"t","made":"","rows":[[7,1,"root","read","s",[],0,0]]}',
     "site": '{"site":"s","file":"a","line":1,"function":"f"}', "unseen": '{"unseen":"full","text":"it is"}', "text": '{"unseen":"full","text":"it is"}',
     "border": '{"border":2,"positions":[[7,1]],"tasks":[7]}', "positions": '{"border":2,"positions":[[7,1]],"tasks":[7]}',
     "tasks": '{"border":2,"positions":[[7,1]],"tasks":[7]}', "process": '{"process":"store","tag":"store_"}', "tag": '{"process":"store","tag":"store_"}',
-    "signal": '{"signal":"k"}', "path": '{"source":"a","lines":{"1":"x"},"path":"b/a"}', "part": '{"event":7,"task":"root","thing":null,"kind":"local","file":"a","line":1,"label":"x","part":2}',
+    "signal": '{"signal":"k"}', "test": '{"test":"ShopTest.sells()","task":"a"}', "path": '{"source":"a","lines":{"1":"x"},"path":"b/a"}', "part": '{"event":7,"task":"root","thing":null,"kind":"local","file":"a","line":1,"label":"x","part":2}',
     **dict.fromkeys(("deadlock", "holds", "held_at", "wanted_at"), '{"deadlock":[{"task":"a","holds":"k","held_at":"a:1","wants":"m","wanted_at":"a:2"}]}'),
 }
 """Keys that the run below does not tell, each in a line that has it."""

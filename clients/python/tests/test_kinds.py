@@ -5,12 +5,14 @@ from __future__ import annotations
 
 import collections
 import importlib
+import pkgutil
+import sys
 import unittest
 import zlib
 from typing import Any
 
 from itc_trace.model.conflicts import CONFLICTING
-from itc_trace.model import kinds
+from itc_trace.model import kinds, settings
 from itc_trace.watch.both_languages import header
 from itc_trace.watch.decisions import family_of, field_inside
 
@@ -100,6 +102,12 @@ class Tables(unittest.TestCase):
         types = {names: type_of(names) for names in kinds.TYPES_BY_NAME}
         self.assertEqual({names for names, kind in types.items() if kind is None}, set())
         self.assertEqual([names for names, kind in types.items() if family_of(kind) != kinds.TYPES_BY_NAME[names]], [])
+
+    def test_each_class_with_settings_has_its_methods(self) -> None:
+        lacking = {path: names - set(dir(pkgutil.resolve_name(path))) for path, names in settings.METHODS_OF_CLASSES.items()}
+        later = sys.version_info >= (3, 12)
+        self.assertEqual({path for path, names in lacking.items() if names and not later}, set())
+        self.assertEqual([path for path, names in lacking.items() if names == settings.METHODS_OF_CLASSES[path]], [])
 
     def test_the_source_in_c_is_given_all_numbers(self) -> None:
         lines = header().splitlines()

@@ -3,6 +3,7 @@
 from __future__ import annotations
 
 import contextlib
+import itertools
 import os
 import random
 import unittest
@@ -20,6 +21,7 @@ from itc_trace.record.dividing import Border, Divider, Limits, Report
 from itc_trace.record.journal import Row
 from itc_trace.record.reports import Outstanding
 from itc_trace.record.tracer import Tracer
+from itc_trace.record.tracer_parts import Parts
 from itc_trace.record.waiting import Waiter
 from itc_trace.analyse.divided_journal import Part
 from itc_trace.analyse.in_part import collected, one_by_one
@@ -169,6 +171,39 @@ class Reachability(unittest.TestCase):
         self.assertGreater(len(most), 20)
         self.assertLessEqual(max(most), len(tasks))
         self.assertEqual(listed(parts), {})
+
+
+class Full(unittest.TestCase):
+    def test_a_part_is_left_at_the_report_that_fills_it(self) -> None:
+        """Of several parts, each of which comes to have too many events, tasks, messages or new tasks."""
+        reasons, most_parts = set(), 0
+        for seed in range(40):
+            chance, numbers = random.Random(seed), itertools.count(1)
+            limits = Limits(chance.randint(20, 5000), chance.randint(5, 1400), chance.randint(5, 1400))
+            kinds = chance.choices(("local", "spawn", "send"), k=2)
+            parts = Parts(lambda: 0, limits)
+            for _ in range(3000):
+                kind = chance.choice(kinds)
+                name = "" if kind == "local" else f"{kind}_{next(numbers)}"
+                parts.divider.report((kind, dividing.ROOT, name))
+                if kind == "spawn":
+                    parts.divider.report(("end", name, ""))
+                reached = self.reached(parts)
+                self.assertEqual(parts.is_full, any(reached), (seed, reached))
+                if any(reached):
+                    reasons.add(reached.index(True))
+                    parts.divide(lambda line: False)
+            most_parts = max(most_parts, parts.number)
+        self.assertEqual(reasons, {0, 1, 2, 3})
+        self.assertGreater(most_parts, 5)
+
+    def reached(self, parts: Parts) -> list[bool]:
+        """Which limits the part has come to, counted plainly."""
+        now, limits = parts.divider, parts._limits
+        return [
+            now.events >= limits.events, now.tasks >= limits.tasks, now.messages >= limits.messages,
+            now.tasks - now.tasks_before >= dividing.MOST_NEW_TASKS,
+        ]
 
 
 class Turns(unittest.TestCase):

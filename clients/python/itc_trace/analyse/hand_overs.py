@@ -13,7 +13,7 @@ from collections.abc import Iterable, Mapping
 from ..model.answers import Behind
 from ..model.lines import SEMAPHORE
 from ..model.lock_identity import POLL
-from ..record.journal import Row
+from ..record.journal import PermitsTold, Row
 from .trace import Events, Trace, lock_events
 
 NO_LOCK = "# "
@@ -49,10 +49,43 @@ def name_of_poll(row: Row) -> str:
     return f"{NO_LOCK}{row.asked} at {row.place}"
 
 
+def needed_of(rows: Iterable[Row], told: Iterable[PermitsTold]) -> dict[int, list[int]]:
+    """The events by which permits are taken, each with the releases that it comes after in each run.
+
+    An acquire that is the tenth one of its task needs ten permits. If all others give seven, it needs three of a task.
+    """
+    by_name = {one.semaphore: one for one in told}
+    given: dict[tuple[str, str], list[tuple[int, int]]] = defaultdict(list)
+    taken = []
+    for row in rows:
+        if row.permit is not None and row.permit[0] in by_name:
+            if row.kind == "send":
+                given[row.permit[0], row.task].append((row.permit[1], row.event))
+            else:
+                taken.append(row)
+    needed = {}
+    for row in taken:
+        assert row.permit is not None
+        semaphore, number = row.permit
+        one = by_name[semaphore]
+        lacking = number - one.begun_with - sum(one.given.values())
+        ones = [_last_up_to(given[semaphore, task], lacking + count) for task, count in one.given.items()]
+        needed[row.event] = [event for event in ones if 0 < event < row.event]
+    return needed
+
+
+def _last_up_to(given: list[tuple[int, int]], number: int) -> int:
+    """The last event of a task at which it has given no more than so many permits. 0 if there is none."""
+    return max((event for first, event in given if first <= number), default=0)
+
+
 class Known:
     """What comes before each touch if hand-overs give no order, and polls one of what only a yes leads to."""
 
-    def __init__(self, trace: Trace, hand_overs: Iterable[int], polls: Mapping[int, Row], rows: Iterable[Row]) -> None:
+    def __init__(
+        self, trace: Trace, hand_overs: Iterable[int], polls: Mapping[int, Row], rows: Iterable[Row],
+        needed: Mapping[int, list[int]],
+    ) -> None:
         self._before: list[Events] = [0]
         self._polls: dict[str, dict[Behind, _Seen]] = defaultdict(lambda: defaultdict(_Seen))
         """Of each task what it has seen by polls."""
@@ -69,6 +102,8 @@ class Known:
             for one in event.follows:
                 if one != left_out:
                     known |= (self._before if trace[one].task == event.task else told)[one] | 1 << one
+            for one in needed.get(event.number, ()):
+                known |= told[one] | 1 << one
             number = again.get(event.number, left_out)
             by_source = told[number] | 1 << number if number else 0
             poll = polls.get(event.number)

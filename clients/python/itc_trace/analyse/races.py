@@ -19,9 +19,9 @@ from ..model.conflicts import CONFLICTING, INNER_READ, INNER_WRITE, MAKING, WRIT
 from ..model.finding import POSSIBLE_RACE, RACE, Finding, FoundSide, Story, runs_in_words
 from .deadlocks import Deadlock, TooMany, deadlocks_told, find_deadlocks, has_cycle
 from .fast_track import deciding_pairs
-from .hand_overs import NO_LOCK, Known, hand_overs_of, name_of_poll, polls_of
+from .hand_overs import NO_LOCK, Known, hand_overs_of, name_of_poll, needed_of, polls_of
 from .looks import looks_of
-from ..record.journal import Journal, Row, read_whole
+from ..record.journal import Journal, PermitsTold, Row, read_whole
 from .kept_sources import sources_of
 from ..model.lock_identity import ANSWER, POLL, REQUEST
 from .order import Order
@@ -75,6 +75,11 @@ class Race:
     is_of_further_run: bool = False
     """Whether the run that is told of had it not, and its events are those of another one."""
     story: Story = Story()
+    tasks: set[str] = field(default_factory=set, compare=False)
+    """Those of the examples of all that are listed as this one."""
+
+    def __post_init__(self) -> None:
+        self.tasks.update(row.task for row in self.example)
 
     @property
     def key(self) -> object:
@@ -112,11 +117,13 @@ class Race:
 
     def finding(self, sources: Sources | None = None) -> Finding:
         """The value that each format is written of."""
-        sides = [_found_side(row, side, sources or Sources()) for row, side in zip(self.example, self.sides)]
+        kept = sources or Sources()
+        sides = [_found_side(row, side, kept) for row, side in zip(self.example, self.sides)]
         return Finding(
             POSSIBLE_RACE if self.is_possible else RACE, self.thing,
             tuple(replace(side, event=0) if self.is_of_further_run else side for side in sides),
-            self.why, self.times, self.example[0].made, self.is_possible, self.is_confirmed, story=self.story,
+            self.why, self.times, self.example[0].made, self.is_possible, self.is_confirmed,
+            tests=kept.tests_of(self.tasks), story=self.story,
         )
 
     def __str__(self) -> str:
@@ -317,7 +324,7 @@ def races_of(
         left=list(whole.left), touches=len(touches),
         events=len({row.event for row in rows}),
     )
-    found.sources = sources_of(whole.sources, whole.processes)
+    found.sources = sources_of(whole.sources, whole.processes, whole.tests)
     found.places = len({(row.thing, row.place) for row in touches})
     found.things = len({row.thing for row in touches})
     things = [thing for thing in _things_of(rows) if thing.may_race]
@@ -328,7 +335,7 @@ def races_of(
             if bar is not None:
                 asked = Shown(view, bar)
             trace = LazyTrace(asked, events)
-            finder = _Finder(trace, rows, found, strict)
+            finder = _Finder(trace, rows, found, strict, whole.permits)
             finder.find(things)
             finder.find_deadlocks(whole.signals)
             found.questions += trace.questions
@@ -359,8 +366,11 @@ def _things_of(rows: list[Row]) -> list[_Thing]:
 class _Finder:
     """Looks for the races of things, and for those that are possible."""
 
-    def __init__(self, trace: LazyTrace, rows: list[Row], found: Races, is_strict: bool) -> None:
+    def __init__(
+        self, trace: LazyTrace, rows: list[Row], found: Races, is_strict: bool, permits: Iterable[PermitsTold] = (),
+    ) -> None:
         self._asked = trace
+        self._permits = permits
         self._found = found
         self._is_strict = is_strict
         self._locks = {row.event: row.lock for row in rows if row.lock is not None}
@@ -469,7 +479,7 @@ class _Finder:
         if not hand_overs and not polls:
             return
         trace = self._trace
-        known = Known(trace, hand_overs, polls, self._rows)
+        known = Known(trace, hand_overs, polls, self._rows, needed_of(self._rows, self._permits))
         told = {race.key for race in (*self._found.races, *self._found.possible)}
         listed: dict[object, Race] = {}
         for thing in things:
@@ -639,6 +649,7 @@ def add_race(race: Race, listed: dict[object, Race]) -> bool:
     if known is race:
         return True
     known.times += race.times
+    known.tasks |= race.tasks
     tells_more = _tells_more(*race.example, known.example)
     if tells_more:
         known.sides, known.example, known.why = race.sides, race.example, race.why

@@ -32,7 +32,7 @@ _PAIRS = (
     *((REMOVAL, kind) for kind in (REMOVAL, READ, WRITE, LOOKUP, LENGTH, ITERATION, ADDITION, REPLACEMENT, REWRITE)),
     *((REPLACEMENT, kind) for kind in (READ, WRITE, ITERATION, REWRITE)),
     *((INNER_WRITE, kind) for kind in (INNER_WRITE, INNER_READ, WRITE, READ)),
-    (INNER_READ, WRITE),
+    (INNER_READ, WRITE), (INNER_READ, REPLACEMENT),
 )
 
 CONFLICTING: dict[str, frozenset[str]] = {

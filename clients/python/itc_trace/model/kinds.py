@@ -74,11 +74,12 @@ A writer of rows has what it writes to.
 
 SHOWN, WRITTEN, COMPARED, ORDERED, HASHED, RANKED = "shown", "written", "compared", "ordered", "hashed", "ranked"
 DECLARED, STATE, FIELDS, EACH, TRUTH, CONTENT = "declared", "state", "fields", "each", "truth", "content"
+SUMMED = "summed"
 """How deep a function looks at what it is given: at all that its text has, or its text for a programmer, at what is
 compared for being equal or greater, at each element as far as another one is less, at all fields that its class
-declares, at all of its state, at its own fields, at each element, at whether each has elements, or at all that
-containers have inside, and at no field of an object."""
-OF_ELEMENTS = frozenset((EACH, TRUTH, RANKED))
+declares, at all of its state, at its own fields, at each element, at whether each has elements, at all that
+containers have inside, and at no field of an object, or at all that each element has, as it is added to others."""
+OF_ELEMENTS = frozenset((EACH, TRUTH, RANKED, SUMMED))
 BY_FIELDS = frozenset((SHOWN, WRITTEN, COMPARED, ORDERED, HASHED, RANKED, DECLARED, STATE, FIELDS))
 DEEP = (BY_FIELDS - {FIELDS}) | OF_ELEMENTS | {CONTENT}
 
@@ -136,6 +137,7 @@ _METHODS = (
     Methods((LIST,), "__contains__", KEY, "c"),
 
     Methods((DICT,), f"{_OF_ALL} items values most_common elements total __or__ __ror__", ITSELF, ITERATION),
+    Methods((DICT,), "__add__ __sub__ __and__ __pos__ __neg__", ITSELF, ITERATION),
     Methods((DICT,), "keys __iter__ __reversed__", ITSELF, KEYS),
     Methods((DICT,), "popitem", ITSELF, REMOVAL),
     Methods((DICT,), "update", ITSELF, REWRITE, when=LATE),

@@ -8,6 +8,7 @@ from __future__ import annotations
 import itertools
 import weakref
 from collections.abc import Callable, Hashable, Iterable
+from functools import partial
 from itertools import islice
 from types import CodeType
 from typing import Any, NamedTuple, Protocol
@@ -25,6 +26,7 @@ FIRST_OF_THREADS = 1 << 19
 """Before the numbers of threads, which are told apart from those of loops."""
 
 _numbers = itertools.count(1)
+_serials = itertools.count(1)
 
 
 class What:
@@ -39,6 +41,30 @@ class What:
         self.hint = hint
         self.giving = giving
         self.taking = taking
+
+
+class CountedPermits:
+    """What a release of one semaphore stands for, and how many permits each task has given to it and taken.
+
+    An acquire comes after a release in each run if all other releases together give too few permits for it.
+    """
+
+    __slots__ = ("serial", "begun_with", "given", "taken", "block")
+
+    hint, giving, taking = "permit", "release semaphore", "acquire semaphore"
+    lock = None
+
+    def __init__(self) -> None:
+        self.serial = next(_serials)
+        self.begin(0, 0)
+
+    def begin(self, begun_with: int, block: int) -> None:
+        """From here on those of a block of tracing are counted."""
+        self.given: dict[Line, int] = {}
+        self.taken: dict[Line, int] = {}
+        """How many each task has waited for, and was given."""
+        self.begun_with = begun_with
+        self.block = block
 
 
 NOTIFY = What("notify", "notify", "wake up")
@@ -103,6 +129,9 @@ class Reporter(Protocol):
 
     def tell_signal(self, lock: LockIdentity) -> None:
         """The lock was acquired with others held, and is a signal, as was found out."""
+
+    def count_permits(self, permits: CountedPermits) -> None:
+        """From here on this process counts who gives and takes the permits of a semaphore."""
 
     def fail(self, fault: Exception) -> None:
         """A hook in the program's own thread failed."""
@@ -228,7 +257,9 @@ class Token:
         "line", "what", "code", "instruction", "last_taker", "last_asked", "count", "message", "time", "__weakref__",
     )
 
-    def __init__(self, line: Line, what: What | LockOrAsking | Signal, code: CodeType | None, instruction: int) -> None:
+    def __init__(
+        self, line: Line, what: What | CountedPermits | LockOrAsking | Signal, code: CodeType | None, instruction: int,
+    ) -> None:
         self.line = line
         self.what = what
         self.code = code
@@ -241,6 +272,20 @@ class Token:
         self.message: str | None = None
         self.time = 0.0
         """When it was noted, in seconds since 1970, once the note is looked at."""
+
+
+class PermitToken(Token):
+    """The place of a release of a semaphore whose permits are counted."""
+
+    __slots__ = ("permits", "number", "takers")
+
+    def __init__(self, line: Line, what: CountedPermits, code: CodeType | None, instruction: int) -> None:
+        super().__init__(line, what, code, instruction)
+        self.permits = what
+        self.number = what.given.get(line, 0) + 1
+        """Which of the permits that its task gives is the first one of it."""
+        self.takers: dict[Line, int] = {}
+        """Which of the permits that each task has waited for was the first one of it."""
 
 
 class Held(NamedTuple):
@@ -296,6 +341,8 @@ class Touch(NamedTuple):
     """The number of a pool's job that is no task of its own."""
 
 
+_new_touch: Any = partial(tuple.__new__, Touch)
+"""Makes one of its fields, without a call of Python."""
 _threads: dict[int, int] = {}
 
 
@@ -352,12 +399,12 @@ class TouchEvent:
         """Takes over what was touched in one of its stretches."""
         held, loop, turn = stretch.held, stretch.loop, stretch.turn
         job = stretch.line.number if isinstance(stretch.line, LateJob) else 0
-        when = held, loop, turn, job
+        when, known = (held, loop, turn, job), self.touches
         for key, (thing, kind, site) in touches:
-            touch = Touch(thing, kind, site, held, loop, turn, job)
+            touch: Touch = _new_touch((thing, kind, site, held, loop, turn, job))
             if not loop and getattr(thing, "identity", 0) == stretch.thread:
                 touch = touch._replace(loop=number_of_thread(stretch.thread))
-            self.touches[key, when] = touch
+            known[key, when] = touch
 
 
 class Section:

@@ -45,7 +45,7 @@ class LockIdentity:
     __slots__ = (
         "serial", "kind", "code", "instruction", "number", "signal", "is_of_condition", "is_inside", "encloses_tasks",
         "taken_by", "taken_at", "is_nested", "is_crossed", "outlived", "is_tried", "across", "times", "block", "_name",
-        "_hint", "_found_as", "_found_in",
+        "_hint", "_giving", "_taking", "_found_as", "_found_in",
     )
 
     def __init__(self, kind: str, frame: FrameType | None) -> None:
@@ -66,7 +66,7 @@ class LockIdentity:
         """What several processes know it by, if they share it."""
         self.times = 0
         """How often this process has acquired it, if processes share it."""
-        self._name = self._hint = self._found_as = self._found_in = ""
+        self._name = self._hint = self._giving = self._taking = self._found_as = self._found_in = ""
         if frame is not None:
             code = self.code = frame.f_code
             self.instruction = frame.f_lasti
@@ -138,11 +138,15 @@ class LockIdentity:
 
     @property
     def giving(self) -> str:
-        return f"{'put into' if self.is_queue else 'release'} {self.name}"
+        if not self._giving:
+            self._giving = f"{'put into' if self.is_queue else 'release'} {self.name}"
+        return self._giving
 
     @property
     def taking(self) -> str:
-        return f"{'wait for' if self.is_queue else 'acquire'} {self.name}"
+        if not self._taking:
+            self._taking = f"{'wait for' if self.is_queue else 'acquire'} {self.name}"
+        return self._taking
 
     def become_signal(self) -> Signal:
         if self.signal is None:

@@ -22,7 +22,10 @@ class BitFilter:
     def may_have(self, number: int) -> bool:
         """Whether it was added. If it was not, this is true of few."""
         bits = self._bits
-        return bits is not None and all(bits[place >> 3] >> (place & 7) & 1 for place in self._places(number))
+        if bits is None:
+            return False
+        first, second = self._places(number)
+        return bool(bits[first >> 3] >> (first & 7) & bits[second >> 3] >> (second & 7) & 1)
 
     def _places(self, number: int) -> tuple[int, int]:
         mixed, last = (number ^ number >> 48) * ODD, self._size - 1

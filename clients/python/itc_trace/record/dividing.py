@@ -88,8 +88,8 @@ class Divider:
         self.tasks = self.tasks_before = 1
         self.messages = 0
 
-    def report(self, report: Report) -> int:
-        """Takes over a report, and gives the number of its event."""
+    def report(self, report: tuple[str, str, str]) -> int:
+        """Takes over a report by its kind, task and name, and gives the number of its event."""
         self.events += 1
         kind, task, name = report
         self._last[task] = self.events
@@ -116,9 +116,10 @@ class Divider:
     def is_full(self, limits: Limits) -> bool:
         return self.events >= limits.events or self.tasks >= limits.tasks or self.messages >= limits.messages
 
-    @property
-    def has_many_new_tasks(self) -> bool:
-        return self.tasks - self.tasks_before >= MOST_NEW_TASKS
+    def room(self, limits: Limits) -> int:
+        """So many reports may come until the part has to be left. Each adds at most one task and one message."""
+        new_tasks = MOST_NEW_TASKS - (self.tasks - self.tasks_before)
+        return min(limits.events - self.events, limits.tasks - self.tasks, limits.messages - self.messages, new_tasks)
 
     def divide(self, may_be_received: Callable[[str], bool], may_be_joined: Callable[[str], bool]) -> Border:
         """Begins a new part: with each live task, each message that may be received,

@@ -17,7 +17,7 @@ from ..model.conflicts import CHANGING
 from .dividing import Border
 from ..model.file_names import name_of_file
 from ..model.frames import line_of
-from ..model.lines import Acquisition, Touch, TouchEvent
+from ..model.lines import Acquisition, CountedPermits, Touch, TouchEvent
 from ..model.lock_identity import Asking, LockOrAsking
 from ..model.stretches import SITES, Across
 from ..model.verdict import BREAKS_OFF, Cause, Left, PassedOver, Unseen
@@ -30,6 +30,8 @@ MOST_ASIDE = 1 << 20
 """So many characters of what is put aside are kept in memory, and then in a file."""
 MOST_NAMED = 4096
 """So many texts of things and of locks are kept, not to make each anew."""
+MOST_TOLD = 1024
+"""So many texts of what rows tell of touches are kept, which are longer."""
 
 
 class Row(NamedTuple):
@@ -84,6 +86,8 @@ class Row(NamedTuple):
     """What only a yes to that leads to."""
     again: str = ""
     """What the task has taken in before by such a question: `send` with a message, or `end` with a task."""
+    permit: tuple[str, int] | None = None
+    """The semaphore whose permits a release gives or an acquire takes, and which permit of its task that is."""
 
     @property
     def is_touch(self) -> bool:
@@ -116,6 +120,8 @@ class Journal(NamedTuple):
     processes: tuple[ProcessTold, ...] = ()
     deadlocks: tuple[DeadlockTold, ...] = ()
     left: tuple[Left, ...] = ()
+    permits: tuple[PermitsTold, ...] = ()
+    tests: tuple[OfTest, ...] = ()
 
 
 class NoJournal(Exception):
@@ -169,6 +175,8 @@ class Besides:
     _processes: list[ProcessTold] = field(default_factory=list)
     _deadlocks: list[DeadlockTold] = field(default_factory=list)
     _left: list[Left] = field(default_factory=list)
+    _permits: list[PermitsTold] = field(default_factory=list)
+    _tests: list[OfTest] = field(default_factory=list)
     _children: Children = field(default_factory=lambda: Children())
     _count: Count = field(default_factory=lambda: Count())
 
@@ -197,6 +205,8 @@ class Besides:
             self._sources.append(read)
         elif isinstance(read, ProcessTold):
             self._processes.append(read)
+        elif isinstance(read, OfTest):
+            self._tests.append(read)
         elif isinstance(read, SiteTold):
             self.known.add_site(read)
         elif isinstance(read, Unseen):
@@ -211,6 +221,8 @@ class Besides:
             self._deadlocks.append(read)
         elif isinstance(read, SignalTold):
             self._signals.add(read.lock)
+        elif isinstance(read, PermitsTold):
+            self._permits.append(read)
         elif isinstance(read, End):
             pass
         elif isinstance(read, Begun) and self.borders is not None:
@@ -238,6 +250,8 @@ class Besides:
         return Journal(
             rows, [*self.unseen, *unseen], self.missing, self._passed_over, frozenset(self._signals),
             tuple(self._sources), tuple(self._processes), tuple(self._deadlocks), tuple(self._left),
+            tuple(self._permits),
+            tuple(self._tests),
         )
 
 
@@ -444,6 +458,14 @@ class SignalTold(NamedTuple):
     lock: str
 
 
+class PermitsTold(NamedTuple):
+    """How many permits a semaphore began with, and how many each task has given to it."""
+
+    semaphore: str
+    begun_with: int
+    given: dict[str, int]
+
+
 class ProcessTold(NamedTuple):
     """The whole name of a process, and what the names of its tasks begin with."""
 
@@ -517,8 +539,13 @@ def read_line(line: str) -> Read | None:
             return DeadlockTold(tuple(read["deadlock"]))
         if "signal" in read:
             return SignalTold(str(read["signal"]))
+        if "permits" in read:
+            given = {str(task): int(count) for task, count in read["given"].items()}
+            return PermitsTold(str(read["permits"]), int(read["begun"]), given)
         if "process" in read:
             return ProcessTold(str(read["tag"]), str(read["process"]))
+        if "test" in read:
+            return OfTest(str(read["task"]), str(read["test"]))
         if "source" in read:
             kept = {int(one): str(text) for one, text in read["lines"].items()}
             return SourceText(str(read["source"]), kept, str(read.get("path", "")))
@@ -537,6 +564,9 @@ def _row_of(read: dict[str, Any]) -> Row:
         known["shared"] = tuple(map(int, known["shared"]))
     if "at" in known:
         known["at"] = tuple((file, int(line), str(function)) for file, line, function in known["at"])
+    if known.get("permit") is not None:
+        semaphore, number = known["permit"]
+        known["permit"] = str(semaphore), int(number)
     if "behind" in known:
         known["behind"] = _behind_of(*known["behind"])
     row = Row(**known)
@@ -549,6 +579,13 @@ def _behind_of(file: Any, first: Any, last: Any, lines: Any, names: Any) -> Behi
     return Behind(
         str(file), int(first), int(last), tuple((int(one), int(other)) for one, other in lines), tuple(map(str, names)),
     )
+
+
+class OfTest(NamedTuple):
+    """A task is of a test, as the agent of Java tells."""
+
+    task: str
+    test: str
 
 
 def border_row(number: int, border: Border) -> str:
@@ -566,7 +603,7 @@ class Begun(NamedTuple):
 
 Read = (
     Row | Aside | SiteTold | Unseen | PassedOver | Left | SourceText | ChildTold | DeadlockTold | SignalTold |
-    ProcessTold | Begun | End
+    PermitsTold | ProcessTold | OfTest | Begun | End
 )
 """What a line of a journal says."""
 
@@ -604,6 +641,8 @@ class TouchTexts:
         self._named: dict[tuple[Any, ...], str] = {}
         """Of things that the program has named."""
         self._things: dict[int, str] = {}
+        self._told: dict[tuple[int, str, int], str] = {}
+        """What rows tell of a thing that was found, the kind of a touch and its site."""
         self._sites: dict[int, str] = {}
         self._told_sites: set[int] = set()
         self._locks: dict[int, str] = {}
@@ -620,10 +659,17 @@ class TouchTexts:
         if isinstance(thing, str):
             told = self._touch_of_named(thing, kind, *site)
         else:
-            told = f'{self._thing(thing)},"kind":"{kind}",{self._site(site)},"label":{text_of(f"{kind} {thing.name}")}'
+            told = self._told.get((thing.number, kind, site)) or self._touch_of_found(thing, kind, site)
         locks = f',"held":[{",".join([self.lock(one) for one in held])}]' if held else ""
         when = f',"loop":{self._loop(loop)},"turn":{turn}' if loop else ""
         return f"{told}{locks}{when}}}\n"
+
+    def _touch_of_found(self, thing: Any, kind: str, site: int) -> str:
+        if len(self._told) >= MOST_TOLD:
+            self._told.clear()
+        text = f'{self._thing(thing)},"kind":"{kind}",{self._site(site)},"label":{text_of(f"{kind} {thing.name}")}'
+        self._told[thing.number, kind, site] = text
+        return text
 
     def _acquisition(self, acquisition: Acquisition) -> str:
         """A lock that was waited for with others held, or a queue that was waited for or given to so."""
@@ -659,6 +705,7 @@ class TouchTexts:
         """Forgets the texts of things and locks, which may be no more."""
         self._named.clear()
         self._things.clear()
+        self._told.clear()
         self._locks.clear()
 
     def lock(self, lock: LockOrAsking) -> str:
@@ -670,6 +717,10 @@ class TouchTexts:
             number = f"{self._prefix}{lock.serial}" if isinstance(lock, Asking) or not lock.across else lock.across
             text = self._locks[lock.serial] = json.dumps(f"#{number} {lock.name}")
         return text
+
+    def permits(self, permits: CountedPermits) -> str:
+        """The name of the permits of a semaphore, which tells them from others."""
+        return f"{self._prefix}{permits.serial}"
 
     def name_of(self, thing: Any) -> str:
         """What tells the thing from all others, as JSON."""
@@ -691,7 +742,7 @@ class TouchTexts:
             if site not in self._told_sites:
                 self._told_sites.add(site)
                 sites.append(f'{{"site":"{self._prefix}{site}",{self._site(site)}}}\n')
-            locks = ",".join([self.lock(one) for one in held])
+            locks = ",".join([self.lock(one) for one in held]) if held else ""
             told = f'{event.event},{event.part},"{event.task}","{kind}","{self._prefix}{site}"'
             rows.append(f"[{told},[{locks}],{self._loop(loop)},{turn}]")
         names = f'"name":{text_of(thing.name)},"group":{text_of(thing.group)},"made":{text_of(thing.made)}'

@@ -12,7 +12,10 @@ from typing import Any, NamedTuple
 
 from ..model.conflicts import MAKING, READ, WRITE
 from ..model.frames import frame_at, place, place_of
-from ..model.lines import MARK, RESULT, SPAWN, TAKE, TOUCH, Line, Note, Section, Stretch, Token, Touched, What, state
+from ..model.lines import (
+    MARK, RESULT, SPAWN, TAKE, TOUCH, CountedPermits, Line, Note, PermitToken, Section, Stretch, Token, Touched, What,
+    state,
+)
 from ..model.lock_identity import Poll
 from ..model.loop_runs import number_of_loop, take_step
 from ..model.verdict import Cause, Unseen
@@ -274,7 +277,7 @@ def lost(fault: Exception) -> None:
     LOST[where] = LOST.get(where, 0) + 1
 
 
-def mark(what: What, depth: int = 2) -> Token | None:
+def mark(what: What | CountedPermits, depth: int = 2, kind: Callable[..., Token] = Token) -> Token | None:
     """A token for the place where the current task is now, for others to take. None where tracing is off.
 
     A task that has done nothing since its last token, and comes to the same line for the same, is still at the place of
@@ -296,13 +299,33 @@ def mark(what: What, depth: int = 2) -> Token | None:
                 return token
         leave()
         line.section = None
-        token = Token(line, what, code, instruction)
+        token = kind(line, what, code, instruction)
         note((MARK, token))
         line.section = Section(token, None)
         return token
     except Exception as fault:
         failed(fault)
         return None
+
+
+def mark_permits(permits: CountedPermits, amount: int) -> Token | None:
+    """A token for so many permits that the current task gives."""
+    token = mark(permits, 3, PermitToken)
+    if token is not None:
+        if not permits.given and state.tracer is not None:
+            state.tracer.count_permits(permits)
+        permits.given[token.line] = permits.given.get(token.line, 0) + amount
+    return token
+
+
+def take_permit(permits: CountedPermits, token: Token | None, is_sure: bool) -> None:
+    """The current task has taken a permit, and would have waited for it for ever if it is sure."""
+    if is_sure and state.note is not None:
+        line = line_of_now()
+        number = permits.taken[line] = permits.taken.get(line, 0) + 1
+        if type(token) is PermitToken:
+            token.takers.setdefault(line, number)
+    take(token, 3)
 
 
 def take(token: Token | None, depth: int = 2) -> None:

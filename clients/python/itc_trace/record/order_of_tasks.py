@@ -9,7 +9,8 @@ from sys import getrefcount
 from types import CodeType
 
 from ..model.lines import (
-    END, END_OF_PROCESS, GONE, JOIN, MOST_PENDING, POLLED, RESULT, TAKE, TAKE_END, Line, Note, Reporter, Token,
+    END, END_OF_PROCESS, GONE, JOIN, MOST_PENDING, POLLED, RESULT, TAKE, TAKE_END, Line, Note, PermitToken, Reporter,
+    Token,
 )
 from ..model.lock_identity import Asking, LockIdentity, LockOrAsking, Poll
 from ..model.loop_runs import STOPS, LoopRun
@@ -143,21 +144,25 @@ class OrderOfTasks:
         """
         message = f"{self._reporter.prefix}{token.what.hint}_{next(self._message_numbers)}"
         lock = token.what.lock
-        self._reports.report(line, "send", message, token.code, token.instruction, token.what.giving, lock, token.time)
+        report = self._reports.report(
+            line, "send", message, token.code, token.instruction, token.what.giving, lock, token.time,
+        )
+        if isinstance(token, PermitToken):
+            report.permit = token.permits, token.number
         self._sent(line, message, lock)
 
     def _sent(self, line: Line, message: str, lock: LockOrAsking | None) -> None:
         line.message, line.lock = message, lock
+        sent = [token for token in line.pending if token.what.lock is lock]
+        if len(sent) == len(line.pending):
+            line.pending = []
+        else:
+            line.pending = [token for token in line.pending if token.what.lock is not lock]
         if self._parts is not None:
-            self._parts.sent(message, lock, [token for token in line.pending if token.what.lock is lock])
-        others = []
-        for token in line.pending:
-            if token.what.lock is lock:
-                token.message = message
-                token.count = line.count
-            else:
-                others.append(token)
-        line.pending = others
+            self._parts.sent(message, lock, sent)
+        for token in sent:
+            token.message = message
+            token.count = line.count
 
     def leave(self, line: Line) -> None:
         """Before the line goes on: where somebody may still take one of its tokens, they become a message."""
@@ -173,10 +178,13 @@ class OrderOfTasks:
     def _receive(
         self, line: Line, token: Token, code: CodeType | None, instruction: int, poll: Poll | None = None,
     ) -> None:
-        self.leave(line)
+        if line.pending:
+            self.leave(line)
         assert token.message is not None
         lock = token.what.lock
-        self._take_in(line, "recv", token.message, code, instruction, token.what.taking, lock, poll)
+        report = self._take_in(line, "recv", token.message, code, instruction, token.what.taking, lock, poll)
+        if isinstance(token, PermitToken) and line in token.takers:
+            report.permit = token.permits, token.takers[line]
         self._learns(line, token.line, token.count, poll or lock)
 
     def _take_in(
@@ -187,6 +195,8 @@ class OrderOfTasks:
 
         Once it has done so by a poll, it knows more by a local event.
         """
+        if not isinstance(poll, Poll) and not self._received:
+            return self._reports.report(line, kind, name, code, instruction, label, lock)
         source = f"{SOURCES[kind]}{name}"
         is_again = (line, source) in self._received
         if is_again:
@@ -224,7 +234,9 @@ class OrderOfTasks:
             return
         if token is source.end_token and _is_thread_to_end(source):
             self._end_thread_for(line, source, poll)
-        elif token.message is None and not source.has_ended and self._is_last_taker(source, token):
+        elif source.is_finished and token.message is None and not source.has_ended and self._is_last_taker(
+            source, token
+        ):
             self.leave(source)
             self.end(source, token.what.giving)
         is_to_join = token is source.end_token and source.joined_by is None
@@ -248,14 +260,14 @@ class OrderOfTasks:
 
     def _knows_by_lock(self, line: Line, token: Token, poll: Poll | None) -> bool:
         """Whether the line has taken the lock from the other one since, or has asked the same."""
-        return self._knows_by_luck(line, token.line, poll or token.what.lock, token.count)
+        return bool(line.known_by_locks) and self._knows_by_luck(line, token.line, poll or token.what.lock, token.count)
 
     def _knows_by_luck(self, line: Line, source: Line, lock: LockOrAsking | Poll | None, count: int) -> bool:
         return lock is not None and line.known_by_locks.get((source, lock), -1) >= count
 
     def _is_last_taker(self, source: Line, token: Token) -> bool:
-        """Whether the task is finished, and nobody but whoever asks now can wait for it."""
-        is_at_end = source.is_finished and token is source.end_token and token.count == source.count
+        """Whether the task, which is finished, is at its end, and nobody but whoever asks now can wait for it."""
+        is_at_end = token is source.end_token and token.count == source.count
         return is_at_end and not self.may_be_asked_for(source) and not _is_for_pool(source)
 
     def take_end(
@@ -333,9 +345,15 @@ class OrderOfTasks:
 
     def join(
         self, line: Line, child: Line, code: CodeType | None, instruction: int, poll: Asking | Poll | bool = False,
+        result: Token | None = None,
     ) -> None:
-        """The line has joined the other one, or has seen by a poll that it is over."""
+        """The line has joined the other one, or has seen by a poll that it is over.
+
+        If it comes after the result that it has asked for, it was told nothing by that.
+        """
         self._is_waited_for(child)
+        if result is not None and self._knows(line, result.line, result.count):
+            poll = False
         if child.is_process:
             child.has_ended, child.count = True, 1
         count, luck = max(child.count, 1), None if isinstance(poll, bool) else poll

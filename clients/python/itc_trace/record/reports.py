@@ -6,10 +6,9 @@ import contextlib
 from collections import deque
 from types import CodeType
 
-from ..model.lines import Line, TouchEvent
+from ..model.lines import Line, CountedPermits, TouchEvent
 from ..model.lock_identity import LockIdentity, LockOrAsking, Poll
 from .connection import Connection
-from .dividing import Report, request
 from .touch_journal import TouchJournal
 from .tracer_parts import Parts
 from .waiting import Waiter
@@ -20,7 +19,7 @@ class Outstanding:
 
     __slots__ = (
         "text", "task", "kind", "name", "code", "instruction", "label", "lock", "time", "touches", "waiter",
-        "may_be_refused", "guard", "poll", "again",
+        "may_be_refused", "guard", "poll", "again", "permit",
     )
 
     def __init__(self, text: str, task: str, kind: str, name: str, code: CodeType | None, instruction: int, label: str,
@@ -43,6 +42,8 @@ class Outstanding:
         """By what the program has asked for it."""
         self.again = ""
         """The message or the end that its task has taken in before, by a poll."""
+        self.permit: tuple[CountedPermits, int] | None = None
+        """The permits of a semaphore that it is of, and which one of its task."""
 
 
 class Reports:
@@ -63,9 +64,10 @@ class Reports:
                 lock: LockOrAsking | None = None, time: float = 0.0) -> Outstanding:
         if line.touches is not None:
             self.touches.end_event(line)
-        report = self.put(kind, line.name, name, code, instruction, label, lock, time or self.time)
+        task = line.name
+        report = self.put(kind, task, name, code, instruction, label, lock, time or self.time)
         if self.parts is not None:
-            self.parts.divider.report(Report(kind, line.name, name))
+            self.parts.divider.report((kind, task, name))
         line.count += 1
         line.message = None
         return report
@@ -73,7 +75,7 @@ class Reports:
     def put(self, kind: str, task: str, name: str, code: CodeType | None, instruction: int, label: str,
              lock: LockOrAsking | None = None, time: float = 0.0) -> Outstanding:
         """Has a report sent with the next ones."""
-        text = f"{request(kind, task, name)}\n"
+        text = f"{kind} {task} {name}\n" if name else f"{kind} {task}\n"
         report = Outstanding(text, task, kind, name, code, instruction, label, lock, time)
         self.outstanding.append(report)
         self.texts.append(text)

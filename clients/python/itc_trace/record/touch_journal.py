@@ -57,7 +57,8 @@ class TouchJournal:
 
     def add(self, event: TouchEvent, stretch: Stretch) -> None:
         """From here on the event stands for the stretch too. It is called with `writing` held."""
-        self._read(event)
+        if event.stretches:
+            self._read(event)
         event.stretches.append(stretch)
         stretch.events = (*stretch.events, event)
         if self._touches > MOST_TOUCHES:

@@ -4,6 +4,7 @@ from __future__ import annotations
 
 import contextlib
 import errno
+import functools
 import itertools
 import json
 import sys
@@ -12,11 +13,14 @@ import time
 from _thread import get_ident
 from collections import deque
 from collections.abc import Callable, Hashable
+from operator import itemgetter
 from random import Random
 from types import CodeType
 from typing import Protocol
 
-from ..model.lines import FINISH, GONE, SPAWN, STOP, TOUCH, LateJob, Line, Note, Stretch, Touched, Waiting, state
+from ..model.lines import (
+    FINISH, GONE, SPAWN, STOP, TOUCH, LateJob, Line, Note, CountedPermits, Stretch, Touched, Waiting, state,
+)
 from ..model.lock_identity import LockIdentity
 from ..model.stretches import STRETCHES
 from ..model.verdict import Cause, Unseen, child_ended_row, end_row
@@ -51,6 +55,8 @@ TOUCHES_AFTER = 2048
 """Behind so many notes or touches it is looked how many others wait."""
 NOTES_LOOKED_AT = 256
 """So many of those that wait are looked at, by chance: what comes at each turn of a loop would be missed else."""
+STEP_OF_PLACES = 128
+"""Which ones are looked at is drawn for each number of notes that is a multiple of it."""
 _chance = Random(1)
 LONGEST_SLOW_NOTE = 2.0
 """In seconds. A thread that holds up the reporting by what it does meanwhile goes on then."""
@@ -60,6 +66,8 @@ REST = 0.02
 Whoever waits for an answer ends the rest.
 """
 END_WAIT = 60.0
+MOST_SEMAPHORES = 4096
+"""Of so many it is told who has given their permits. What others put in order is counted as luck."""
 GONE_COLLECTOR = "the collector is gone"
 CLOSED_CONNECTION = "the program has closed the connection to the collector"
 _outside_numbers = itertools.count(1)
@@ -72,6 +80,12 @@ NOT_MINE = {405, 407, 408, 409}
 
 A process was killed, or joined before.
 """
+
+
+@functools.lru_cache(32)
+def _places_among(count: int) -> Callable[[list[tuple[float, Note]]], tuple[tuple[float, Note], ...]]:
+    """Gives those of so many notes, or a few more, that are looked at. They are drawn once, as that is dear."""
+    return itemgetter(*sorted(_chance.choices(range(count), k=NOTES_LOOKED_AT)))
 
 
 def _say(text: str) -> None:
@@ -111,6 +125,8 @@ class Tracer:
         self._shaking = shaking
         self._note: Callable[[Note], object] = self._note_now if shaking is None else self._note_shaken
         self._places = Places()
+        self._permits: list[CountedPermits] = []
+        """Of semaphores whose permits are counted."""
         self._missed: dict[str, object] = {}
         """What was not seen of the run, while tracing went on, and something of whoever told of it."""
         self._all_sent = False
@@ -229,6 +245,7 @@ class Tracer:
         self.connection.close()
         self._touches.write(is_last=True)
         if not self._reports.is_over:
+            self._tell_permits()
             written = self._journal.lines
             self._journal_row(
                 end_row(written) if self._child is None else child_ended_row(self._child.tag, written + 1)
@@ -302,6 +319,19 @@ class Tracer:
         if not self._reports.is_over and state.tracer is self:
             self._journal_row(f'{{"signal":{self._texts.lock(lock)}}}\n')
 
+    def count_permits(self, permits: CountedPermits) -> None:
+        """From here on this process counts who gives and takes the permits of a semaphore."""
+        if len(self._permits) < MOST_SEMAPHORES:
+            self._permits.append(permits)
+
+    def _tell_permits(self) -> None:
+        """Tells how many permits each task has given, of the semaphores of which all are counted."""
+        for one in self._permits:
+            if one.block == state.block:
+                given = {line.name: count for line, count in one.given.items()}
+                told = {"permits": self._texts.permits(one), "begun": one.begun_with, "given": given}
+                self._journal_row(f"{json.dumps(told, separators=(',', ':'))}\n")
+
     def _hand_over(self, report: Outstanding) -> str:
         """How a row tells of the lock that a message hands over.
 
@@ -316,6 +346,8 @@ class Tracer:
             return again
         if report.guard is not None:
             return f',"guard":{self._texts.lock(report.guard)}'
+        if report.permit is not None:
+            return f',"permit":["{self._texts.permits(report.permit[0])}",{report.permit[1]}]'
         if report.lock is None:
             return ""
         return f',"{"lock" if report.lock.is_luck else "guard"}":{self._texts.lock(report.lock)}'
@@ -395,10 +427,11 @@ class Tracer:
     def _look_how_many_wait(self) -> None:
         """Looks at notes that wait, and at the touches that they stand for. The others are taken for alike."""
         waiting = list(self.notes)
-        some = waiting if len(waiting) <= NOTES_LOOKED_AT else _chance.choices(waiting, k=NOTES_LOOKED_AT)
-        each = 1 + sum(len(note[1]) for _, note in some if note[0] == TOUCH) / max(1, len(some))
+        count = len(waiting)
+        some = waiting if count <= NOTES_LOOKED_AT else _places_among(count - count % STEP_OF_PLACES)(waiting)
+        each = 1 + sum([len(note[1]) for _, note in some if note[0] == TOUCH]) / max(1, len(some))
         self._few_waiting = int(FEW_WAITING / each)
-        self._hold_back(int(len(waiting) * each))
+        self._hold_back(int(count * each))
         most = 0 if self._touches.unanswered > MOST_UNANSWERED_TOUCHES else MOST_UNANSWERED
         if len(self._reports.outstanding) > most:
             self._reports.flush()
@@ -437,7 +470,8 @@ class Tracer:
         line = stretch.line.line if isinstance(stretch.line, LateJob) else stretch.line
         if line.has_ended:
             return
-        self._order.leave(line)
+        if line.pending:
+            self._order.leave(line)
         with self._touches.writing:
             event = line.touches
             if event is None:

@@ -54,12 +54,20 @@ class Parts:
         self.number = 1
         self.divider = Divider()
         self._asked_for = self._limits = limits
+        self._looked_at_from = 0
+        """With fewer events the part cannot be full."""
         self._lines: dict[str, Line] = {}
         self._messages: dict[str, _Message] = {}
 
     @property
     def is_full(self) -> bool:
-        return not self.is_shared and (self.divider.is_full(self._limits) or self.divider.has_many_new_tasks)
+        """It is counted once a part has as many events as it can be full with."""
+        divider = self.divider
+        if divider.events < self._looked_at_from:
+            return False
+        room = divider.room(self._limits)
+        self._looked_at_from = divider.events + room
+        return room <= 0 and not self.is_shared
 
     def shared_port(self) -> int:
         """Where several processes may report to this part."""
@@ -100,6 +108,7 @@ class Parts:
             del self._messages[message]
         border = self.divider.divide(self._may_be_received, joinable.__contains__)
         self._limits = self._limits_behind(self.divider.events)
+        self._looked_at_from = 0
         self.number += 1
         kept = {report.name for report in border.reports if report.kind == "send"}
         self._messages = {message: known for message, known in self._messages.items() if message in kept}

@@ -751,8 +751,14 @@ def _put_timeouts(patches: Patches) -> None:
         patches.wrap(timeout, "__aexit__", _leave_timeout)
 
 
+_are_there_timeouts = False
+"""Whether a task has ever been within one."""
+
+
 def _enter_timeout(original: Any) -> Any:
     async def __aenter__(self: Any) -> Any:
+        global _are_there_timeouts
+        _are_there_timeouts = True
         entered = await original(self)
         task: Any = _current_task()
         if hasattr(task, "_itc_timeouts"):
@@ -778,6 +784,8 @@ def _leave_timeout(original: Any) -> Any:
 
 def _has_limit() -> bool:
     """Whether a timeout ends what the current task waits for."""
+    if not _are_there_timeouts:
+        return False
     timeouts = getattr(_current_task(), "_itc_timeouts", ())
     return bool(timeouts) and any(one.when() is not None for one in timeouts)
 

@@ -18,7 +18,7 @@ from types import BuiltinMethodType
 from typing import Any, NamedTuple
 from weakref import getweakrefcount, ref
 
-from ..model.lines import state
+from ..model.lines import CountedPermits, state
 from ..model.verdict import Cause, Unseen
 from ..record import plain
 from ..record.tuple_items import c_types
@@ -282,6 +282,7 @@ def _follow_semaphore(semaphore: Any) -> None:
     own = vars(semaphore)
     if "_itc_permits" not in own and "_itc_permit" not in own and own["_value"] <= MOST_PERMITS:
         own["_itc_permits"] = deque([None] * own["_value"])
+        own["_itc_counted"] = CountedPermits()
 
 
 def _leave(one: Any, what: str) -> None:

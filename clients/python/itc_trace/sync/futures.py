@@ -15,9 +15,12 @@ from types import CodeType
 from typing import Any
 
 from .handed_on import called, handed_at, watched_place
-from ..model.lines import CALLBACK, FINISH, RESULT, SPAWN, SUBMIT, TAKE_END, WORKER, LateJob, Line, Token, state
+from ..model.lines import CALLBACK, FINISH, JOIN, RESULT, SPAWN, SUBMIT, TAKE_END, WORKER, LateJob, Line, Token, state
 from ..model.answers import NOTHING, YES
-from ..record.noting import current, enter, joining, local, mark, starting, take, take_asked, without_own_frame
+from ..record.noting import (
+    are_in_place, come_back, current, enter, joining, leave_task, line_of_now, local, mark, starting, take, take_asked,
+    without_own_frame,
+)
 from ..model.frames import frame_at, is_internal, place
 from ..model.lock_identity import Poll
 from ..record.messages import incoming_at
@@ -189,6 +192,20 @@ def _called_back(callback: Any, token: Token | None) -> Any:
     """The callback, called after whoever added it, and after the result."""
 
     def call(future: Any) -> Any:
+        line = None if token is None else _line_of_its_own(token, future, callback)
+        if line is None:
+            return call_now(future)
+        left, before = leave_task(), getattr(local, "line", None)
+        enter(line)
+        try:
+            return call_now(future)
+        finally:
+            if local.line is line:  # Else tracing has begun anew, and the thread has a line there.
+                enter(before)
+            come_back(left)
+            _note_callback_done(line, future)
+
+    def call_now(future: Any) -> Any:
         take(token)
         take_result(future)
         if token is not None:
@@ -196,6 +213,37 @@ def _called_back(callback: Any, token: Token | None) -> Any:
         return callback(future)
 
     return named_like(callback, call)
+
+
+def _line_of_its_own(added: Token, future: Any, callback: Any) -> Line | None:
+    """The task that a callback is which is called as it is added, since the future happens to be done by then.
+
+    If whoever adds it has seen that before, or has done it, it is a part of that task.
+    """
+    note, tracer, result = state.note, state.tracer, getattr(future, "_itc_token", None)
+    if note is None or tracer is None or result is None or result.line.tracer is not tracer or are_in_place():
+        return None
+    adder = line_of_now()
+    if adder is not added.line or adder is result.line or result.last_taker == adder.number:
+        return None
+    if tracer.next_job() > tracer.most_lines:
+        return None
+    line = Line(tracer, getattr(callback, "__name__", "callback") + "#")
+    line.must_finish = True
+    note((SPAWN, current(), line, added.code, added.instruction))
+    return line
+
+
+def _note_callback_done(line: Line, future: Any) -> None:
+    """Whoever has added it goes on behind it. That is luck, unless it was plain that the future is done."""
+    note = state.note
+    if note is not None and line.tracer is state.tracer:
+        note((FINISH, line, True))
+        where = frame_at(1)
+        while where is not None and is_internal(where):
+            where = where.f_back
+        poll = poll_at(where, "add_done_callback", NOTHING)
+        note((JOIN, current(), line, *place(where), poll or False, future._itc_token))
 
 
 def _wait(original: Any) -> Any:

@@ -36,6 +36,8 @@ ATTRGETTER = "operator.attrgetter"
 TEXTS = frozenset((str, bytes, int, float, complex, tuple, frozenset, range))
 """Types whose methods look at nothing that could change."""
 MOST_WRAPPED = 8
+_WRITTEN_IN_PYTHON = frozenset(("collections", "collections.abc", "weakref", "_weakrefset"))
+"""Modules whose classes are containers with methods in Python."""
 _LIBRARY = frozenset(("multiprocessing", "multiprocessing.pool", "multiprocessing.dummy"))
 
 Place = tuple[CodeType, int]
@@ -64,6 +66,8 @@ class Watcher(NamedTuple):
 
     None, if it does so to none.
     """
+    knows_keywords: Callable[[], bool]
+    """Whether the program has the keywords of some `partial` by their name, and may change them."""
 
 
 _watcher: Watcher | None = None
@@ -90,15 +94,22 @@ def is_of_container(function: Any) -> bool:
     for _ in range(MOST_WRAPPED):
         if type(inner) is not functools.partial:
             break
+        if _has_keywords(inner):
+            return True
         inner = inner.args[0] if _runs_another(inner.func) and inner.args else inner.func
     return _watcher is not None and (type(inner) in GETTERS or _touches(inner, _watcher.names))
+
+
+def _has_keywords(function: Any) -> bool:
+    """Whether a `partial` has keywords that the program may change. Whoever calls it looks at all of them."""
+    return _watcher is not None and _watcher.knows_keywords() and type(function.keywords) is dict
 
 
 def _touches(function: Any, names: frozenset[str]) -> bool:
     kind = type(function)
     if kind is type:
         return any(function is one for one in CLASSES)
-    if kind in OF_LIBRARY and _arguments_of(function) is not None:
+    if kind in OF_LIBRARY and (_arguments_of(function) is not None or _name_in_class(function) in names):
         return True
     if kind not in NAMED:
         return False
@@ -116,6 +127,13 @@ def _name_of(function: Any) -> str:
     inner = function.__func__ if type(function) is types.MethodType else function
     module, name = getattr(inner, "__module__", None), getattr(inner, "__name__", None)
     return f"{module.removeprefix('_')}.{name}" if type(module) is str and type(name) is str else ""
+
+
+def _name_in_class(function: Any) -> str:
+    """The name of a method of a container that is written in Python, as `Counter.total`."""
+    inner = function.__func__ if type(function) is types.MethodType else function
+    is_method = type(inner) is types.FunctionType and "." in inner.__qualname__ and "<" not in inner.__qualname__
+    return str(inner.__name__) if is_method and inner.__module__ in _WRITTEN_IN_PYTHON else ""
 
 
 def _arguments_of(function: Any) -> slice | None:
@@ -150,6 +168,8 @@ def _methods_of(function: Any, words: tuple[Any, ...]) -> Iterator[Method]:
     kind = type(function)
     for _ in range(MOST_WRAPPED):
         if kind is functools.partial:
+            if _has_keywords(function):
+                yield Method(function.keywords, "items", ())
             function, words = function.func, (*function.args, *words)
         elif _runs_another(function) and words:
             function, words = words[0], words[1:]
@@ -159,6 +179,10 @@ def _methods_of(function: Any, words: tuple[Any, ...]) -> Iterator[Method]:
     arguments = _arguments_of(function) if kind in OF_LIBRARY else None
     if arguments is not None:
         yield from (Method(one, _name_of(function), ()) for one in words[arguments])
+    elif kind is types.MethodType:
+        yield Method(function.__self__, _name_in_class(function), words)
+    elif words and kind is types.FunctionType:
+        yield Method(words[0], _name_in_class(function), words[1:])
     elif kind in BOUND:
         yield from _bound(function.__self__, function.__name__, words)
     elif words and kind in UNBOUND:

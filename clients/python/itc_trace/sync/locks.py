@@ -30,8 +30,9 @@ from .base import name_as
 _is_walked = False
 _WAITS = re.compile(r"\.(wait|wait_for|notify|notify_all|notifyAll)\b")
 
-_STACKS = {contextlib.ExitStack.enter_context.__code__, contextlib.AsyncExitStack.enter_async_context.__code__}
-"""Code that acquires a lock for whoever calls it."""
+_STACK = contextlib.ExitStack.enter_context.__code__
+_ASYNC_STACK = contextlib.AsyncExitStack.enter_async_context.__code__
+"""Code that acquires a lock for whoever calls it. It is compared by identity, as the hash of code is dear."""
 
 _allocate = _thread.allocate_lock
 _PlainLock: Any = _thread.LockType
@@ -386,9 +387,13 @@ def _remove(line: Line, identity: LockIdentity) -> None:
 
 def acquired_at(frame: FrameType | None) -> tuple[CodeType | None, int]:
     """Where the program has a lock acquired, by itself or by an `ExitStack`."""
-    while frame is not None and (is_internal(frame) or frame.f_code in _STACKS):
+    while frame is not None and (is_internal(frame) or _is_stack(frame.f_code)):
         frame = frame.f_back
     return place_of(frame)
+
+
+def _is_stack(code: CodeType | None) -> bool:
+    return code is _STACK or code is _ASYNC_STACK
 
 
 def is_entered_by_stack(lock: Any) -> None:
@@ -457,11 +462,15 @@ def took(lock: Any, has_waited: bool = True) -> None:
         identity.begin(state.block)
     if not has_waited:
         identity.is_tried = True
+    frame: FrameType | None = None
+    where: tuple[CodeType | None, int] | None = None
     try:
         frame = _getframe(2)
-        identity.taken_by, identity.taken_at = frame.f_code, frame.f_lasti
         if identity.is_inside or _is_walked:
-            identity.taken_by, identity.taken_at = acquired_at(frame)
+            where = place(frame)
+            identity.taken_by, identity.taken_at = acquired_at(frame) if _is_stack(where[0]) else where
+        else:
+            identity.taken_by, identity.taken_at = frame.f_code, frame.f_lasti
     except ValueError:
         identity.taken_by = None  # The interpreter itself has called.
     token: Token | None = lock._itc_token
@@ -494,6 +503,6 @@ def took(lock: Any, has_waited: bool = True) -> None:
         if line is not token.line and token.line.tracer is state.tracer:
             note = state.note
             if note is not None:
-                note((TAKE, line, token, *place(frame_at(2))))
+                note((TAKE, line, token, *(where or place(frame))))
     if len(line.held) > 1:
         note_nested(line.held, has_waited)

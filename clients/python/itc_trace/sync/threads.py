@@ -10,10 +10,11 @@ from types import FrameType, FunctionType
 from typing import Any
 
 from .handed_on import called, handed_at
-from ..model.lines import BARRIER, EVENT, FINISH, JOIN, NOTIFY, SEMAPHORE, SPAWN, Line, state
+from ..model.lines import BARRIER, EVENT, FINISH, JOIN, NOTIFY, SEMAPHORE, SPAWN, CountedPermits, Line, state
 from ..model.answers import NO, NOTHING, YES
 from ..record.noting import (
-    are_in_place, are_replaced, enter, joining, local, mark, starting, take, take_asked, thread_name,
+    are_in_place, are_replaced, enter, joining, local, mark, mark_permits, starting, take, take_asked, take_permit,
+    thread_name,
 )
 from ..model.frames import frame_at, is_internal, line_of, place
 from ..model.lock_identity import Asking, Poll
@@ -447,6 +448,7 @@ def _semaphore_begin(original: Any) -> Any:
             self._itc_permit = OnePermit("Semaphore", frame_at(1))
         elif is_the_programs and value <= MOST_PERMITS:
             self._itc_permits = deque([None] * value)
+            self._itc_counted = CountedPermits()
 
     return __init__
 
@@ -471,12 +473,27 @@ def _set_value(self: Any, value: Any) -> None:
     own["_value"] = value
 
 
+def _counted_of(semaphore: Any) -> CountedPermits | None:
+    """What counts its permits. In each block of tracing it begins with those that are there. None if nothing does."""
+    counted: CountedPermits | None = semaphore.__dict__.get("_itc_counted")
+    if counted is None or state.note is None:
+        return None
+    if counted.block != state.block:
+        with semaphore._cond:
+            if counted.block != state.block:
+                counted.begin(len(semaphore.__dict__["_itc_permits"]), state.block)
+    return counted
+
+
 def _semaphore_acquire(original: Any) -> Any:
     def acquire(self: Any, blocking: bool = True, timeout: float | None = None) -> bool:
+        counted = _counted_of(self)
         is_acquired = bool(original(self, blocking, timeout))
         if is_acquired and ("_itc_permits" in self.__dict__ or "_itc_permit" in self.__dict__):
             permit = local.permit
-            if type(permit) is not OnePermit:
+            if counted is not None and counted.block == state.block:
+                take_permit(counted, permit, blocking and timeout is None)
+            elif type(permit) is not OnePermit:
                 take(permit)
             elif state.note is not None:
                 took(permit, blocking and timeout is None)
@@ -495,6 +512,8 @@ def _semaphore_release(original: Any) -> Any:
             gave(one_permit)
         elif one_permit is not None:
             one_permit.is_released()
+        elif (counted := _counted_of(self)) is not None:
+            local.permit = mark_permits(counted, n)
         elif "_itc_permits" in self.__dict__:
             local.permit = mark(SEMAPHORE)
         return original(self, n)

@@ -14,6 +14,7 @@ import itertools
 import sys
 import threading
 import types
+import typing
 import weakref
 from array import array
 from builtins import (
@@ -22,6 +23,7 @@ from builtins import (
 )
 from collections import OrderedDict, deque, namedtuple
 from collections.abc import Iterable
+from gc import get_referents
 from typing import Any
 
 from .helper import quick
@@ -31,6 +33,8 @@ from .learned import OF_CLASSES, STORED_FIELDS
 from .places import DELETED, SKIPPED, Access
 
 SKIP, FIELD, OWN_FIELD, OF_CLASS, OF_TYPE, OF_MODULE, AS_KEY, OF_METHOD, OF_SUPER, OF_CLASS_ALONE, OF_LOCAL = range(11)
+OF_ALIAS = 12
+"""What an attribute of a generic class with parameters is, as `Box[int]`: that of the class."""
 BY_GETTER = 11
 """What an attribute is that a function in C gives, as that of `property(attrgetter("_name"))`."""
 
@@ -52,7 +56,7 @@ PLAIN = ids_of({
 })
 """Types whose values cannot change, or are no thing that tasks share by their elements."""
 
-BARE = ids_of({object, types.SimpleNamespace, BaseException})
+BARE = ids_of({object, types.SimpleNamespace, BaseException, functools.partial})
 """Types that find attributes in the usual way, though their own tables name the methods that do so."""
 
 _USUAL = BARE | PLAIN | ids_of((property, *(kind for kinds in TYPES.values() for kind in kinds)))
@@ -194,7 +198,7 @@ def family_of(kind: type) -> int | None:
         _remember(kind)
         family = next((found for base, found in _BASES if issubclass(kind, base)), None)
         if family is None:
-            names = [(_module_of(one), name_of(one)) for one in _mro_of(kind)]
+            names = [(module_of(one), name_of(one)) for one in _mro_of(kind)]
             family = next((TYPES_BY_NAME[one] for one in names if one in TYPES_BY_NAME), NO_FAMILY)
         if family != NO_FAMILY and is_of_the_package(kind):
             family = NO_FAMILY
@@ -314,10 +318,10 @@ def is_of_library(kind: type) -> bool:
 
 
 def _top_of(kind: type) -> str:
-    return _module_of(kind).partition(".")[0]
+    return module_of(kind).partition(".")[0]
 
 
-def _module_of(kind: type) -> str:
+def module_of(kind: type) -> str:
     return str(_kept_module_of(kind))
 
 
@@ -438,12 +442,14 @@ def _decide(kind: type, name: str, kinds: str) -> int:
         return OF_SUPER if kinds == "r" else SKIP
     if id(kind) in PLAIN and kind is not types.FunctionType:
         return SKIP
+    if id(kind) in _ALIASES:
+        return SKIP if name.startswith("_") else OF_ALIAS
     if issubclass(kind, types.ModuleType):
         return OF_MODULE
     if issubclass(kind, type):
         return OF_TYPE
     if issubclass(kind, threading.local):
-        return OF_LOCAL if "r" in kinds and class_with(kind, "__init__") is object else SKIP
+        return OF_LOCAL if "r" in kinds and (is_made_without_code(kind) or _is_of_class(kind, name)) else SKIP
     if is_of_the_package(kind):
         return SKIP
     owner = class_with(kind, name)
@@ -460,6 +466,43 @@ def _decide(kind: type, name: str, kinds: str) -> int:
     if _has(kind, "__getattr__") or "w" in kinds and _has(kind, "__setattr__"):
         return OWN_FIELD
     return OF_CLASS if kinds == "r" and is_stored_in_class(name) and is_watched_class(kind) else FIELD
+
+
+_ALIASES = ids_of((types.GenericAlias, vars(typing)["_GenericAlias"]))
+"""Types of a generic class with parameters, which hand attributes on to the class."""
+
+
+def is_made_without_code(kind: type) -> bool:
+    """Whether a class has no `__init__`: one of a `threading.local` runs as each thread first asks for a field."""
+    return class_with(kind, "__init__") is object
+
+
+def _is_of_class(kind: type, name: str) -> bool:
+    """Whether an object of a class may find the attribute there alone, and it is no code that nobody replaces."""
+    owner = class_with(kind, name)
+    if owner is None:
+        return is_stored_in_class(name) and is_watched_class(kind)
+    return is_watched_class(owner) and _decide_of_class(kind, owner, name, "r") in (OF_CLASS, OF_CLASS_ALONE)
+
+
+def is_found_in_class(local: Any, name: str) -> bool:
+    """Whether the thread that asks finds the attribute of its `threading.local` in the class, which all threads have.
+
+    If the class has an `__init__`, the fields of all threads are looked at, and none may have this name.
+    """
+    kind = type(local)
+    return _is_of_class(kind, name) and not any([name in fields for fields in _fields_of_local(local)])
+
+
+def _fields_of_local(local: Any) -> list[dict[str, Any]]:
+    """The fields of the thread that asks, or those of all threads where asking would run code of the program."""
+    if is_made_without_code(type(local)):
+        return [_of_local(local, "__dict__")]
+    tables = [one for one in get_referents(local) if type(one) is dict]
+    return [fields for table in tables for fields in list(table.values()) if type(fields) is dict]
+
+
+_of_local: Any = vars(threading.local)["__getattribute__"]
 
 
 def _finds_by_itself(kind: type) -> bool:
@@ -530,7 +573,7 @@ def _is_field_of_library(owner: type, name: str) -> bool:
     value = _vars_of(owner)[name]
     if type(value) is property:
         return value.fset is not None
-    return type(value) is types.GetSetDescriptorType and (_module_of(owner), name_of(owner)) in _SET_IN_C
+    return type(value) is types.GetSetDescriptorType and (module_of(owner), name_of(owner)) in _SET_IN_C
 
 
 def _decide_of_class(kind: type, owner: type, name: str, kinds: str) -> int:

@@ -13,6 +13,7 @@ from . import hooks
 from .decisions import value_of_field
 from .finder import FILES
 from ..model.kinds import CHANGED_ARGUMENT, KEYED, METHODS, READERS, SHOWING, STEPPERS, depth_of, known_function
+from .learned import KEYWORDS, STORED_FIELDS
 from .places import NAMES_OF_HANDED, Access, new_site
 from .rewrite import OF_ATTRIBUTES, OF_OBJECT
 
@@ -86,4 +87,4 @@ def _arguments(name: str) -> slice | None:
 def begin() -> None:
     """From here on what the program hands on is looked into."""
     names = METHODS | {_ALL_FIELDS, *_FIELDS, *_WHOLE}
-    watch_with(Watcher(_touch, FILES, names, _arguments))
+    watch_with(Watcher(_touch, FILES, names, _arguments, lambda: KEYWORDS in STORED_FIELDS))

@@ -34,22 +34,24 @@ from typing import Any, NamedTuple
 from ..model.conflicts import (
     ADDITION, INNER_READ, INNER_WRITE, ITERATION, KEYS, LENGTH, REMOVAL, REPLACEMENT, REWRITE, STEP, WRITE,
 )
-from ..sync import locks, loops, queues
+from ..sync import locks, loops, queues, shared_blocks
 from ..sync.handed_on import HANDED, Calling, Place, called, is_of_container
 from ..model.lines import state
+from ..model.settings import FIELDS_OF_CLASSES, METHODS_OF_CLASSES, SURE
 from ..record.noting import begin_stretch, lost, touched_all
 from ..model.stretches import STRETCHES
-from . import begun_loops
+from . import begun_loops, views
 from .both_languages import (
     DEEP, DICT_IN_PLACE, FIELD_IN_PLACE, IF_OWN, LEFT, LIST_IN_PLACE, LOOKED_THROUGH_AT_ONCE, MOST_BEGUN, NO_TOUCH,
     OF_DICT, OF_FIELD, OF_LIST, OF_SHAPE, OF_STEPS, OTHER, OWN_OR_OF_CLASS,
 )
 from .decisions import (
-    AS_KEY, BY_ELEMENTS, BY_GETTER, COMPOSED, FIELD, FILES, OF_CLASS, OF_CLASS_ALONE, OF_LOCAL, OF_METHOD,
+    AS_KEY, BY_ELEMENTS, BY_GETTER, COMPOSED, FIELD, FILES, OF_ALIAS, OF_CLASS, OF_CLASS_ALONE, OF_LOCAL, OF_METHOD,
     OF_MODULE, OF_SUPER, OF_TYPE, OWN_FIELD, PLAIN, RESUMED, SKIP, STEPPED, VIEWS, WATCHED, class_with, decision,
     family_of, field_inside, fields_of, forget_decisions, has_field, has_own_method, has_setter, has_watched_method,
-    ids_of, is_bound_by_code, is_made, is_of, is_of_library, is_other_container, is_watched_class, mro_of, name_of,
-    value_of_element, value_of_field, vars_of, without_own,
+    ids_of, is_bound_by_code, is_found_in_class, is_made, is_made_without_code, is_of, is_of_library,
+    is_other_container, is_watched_class, module_of, mro_of, name_of, value_of_element, value_of_field, vars_of,
+    without_own,
 )
 from .as_fields import FIELDS_OF, FieldsOf, keep_fields_of, object_of
 from .comparing import compared_in
@@ -62,7 +64,8 @@ from .keys import SIMPLE, UNKNOWN, tell_of_unknown, value_of
 from ..model.kinds import DEEP as DEEP_SITES
 from ..model.kinds import (
     BUFFER, BY_FIELDS, CHANGING_METHODS, COMPARED, DECLARED, DEPTHS_OF_METHODS, DEQUE, DICT, IN_PLACE_METHODS, KEYED,
-    LIST, MAPS, METHODS, OF_FILE, OF_GENERATOR, ORDERED, SHOWN, TRUTH, VARIABLES, WHOLE, WITHOUT_ELEMENTS, WRITTEN,
+    LIST, MAPS, METHODS, OF_FILE, OF_GENERATOR, ORDERED, SHOWN, SUMMED, TRUTH, VARIABLES, WHOLE, WITHOUT_ELEMENTS,
+    WRITTEN,
 )
 from .late import ADDED, FOUND, LOOKING, NOTHING, READ_ONLY, again, by_kinds, note_shared, saw, share, shorten
 from .late import cell as cell_late
@@ -75,7 +78,7 @@ from .matching import Matching, Touching
 from .of_threads import find_in_local
 from .passed_over import handed_on, keep_site
 from .places import ACCESSES, CASES, LOOPS, MADE_HERE, OF_BASE, SKIPPED, STATE_OF_PROCESS, Access
-from .rewrite import FINALIZER, OF_OBJECT, ON, PREFIX, REGISTERING
+from .rewrite import FINALIZER, OF_OBJECT, ON, PREFIX, REGISTERING, UPDATES, UPDATING
 from .seen import NEVER
 from .templates import Path, field_paths
 from .things import (
@@ -208,6 +211,57 @@ def hook_before_named_attribute(one: Any, name: Any, site: int) -> Any:
     return one
 
 
+def hook_before_setting(one: Any, name: str, site: int) -> Any:
+    """Before a field of what may be an object of the library is set, or before a method that may look at its fields."""
+    try:
+        kinds = ACCESSES[site].kinds
+        names = METHODS_OF_CLASSES if kinds == INNER_READ else FIELDS_OF_CLASSES
+        path = _path_of_settings(type(one), name, names)
+        if not path or STORED_FIELDS.isdisjoint(FIELDS_OF_CLASSES[path]):
+            return one  # Nobody sets a field of it.
+        _touch_other(one, kinds, site)
+        for field in SURE.get(path, ()) if kinds == INNER_READ else ():
+            if field in STORED_FIELDS:
+                _touch_field(one, site, Access("named", READ_ONLY, field, "", ""))
+    except Exception as fault:
+        lost(fault)
+    return one
+
+
+def _path_of_settings(kind: type, name: str, names: dict[str, frozenset[str]]) -> str:
+    """The class of the library with such a field or method that an object is of.
+
+    Nothing, if a class of the program stands before it.
+    """
+    for base in mro_of(kind):
+        if is_watched_class(base):
+            if name in vars_of(base):
+                return ""
+        elif name in names.get(path := f"{module_of(base)}.{name_of(base)}", ()):
+            return path
+    return ""
+
+
+def hook_before_raise(one: Any, names: tuple[str, ...], site: int) -> Any:
+    """Before an exception is raised, which stores these fields in it, if some module looks at them by their names."""
+    try:
+        for name in names if issubclass(type(one), BaseException) else ():
+            if name in STORED_FIELDS and not (name == CONTEXT and _is_of_no_other(one)):
+                _touch_field(one, site, Access("named", WRITTEN_FIELD, name, "", ""))
+    except Exception as fault:
+        lost(fault)
+    return one
+
+
+CONTEXT = "__context__"
+
+
+def _is_of_no_other(one: BaseException) -> bool:
+    """Whether no other exception is handled as it is raised, which would be its context."""
+    handled = sys.exc_info()[1]
+    return handled is None or handled is one
+
+
 OF_FIELDS = "__dict__"
 """The attribute that gives all fields of an object."""
 
@@ -291,7 +345,12 @@ def _touch_field(one: Any, site: int, access: Access | None = None) -> None:
     elif found == OF_SUPER:
         _touch_class_of_super(one, access.name, mark, site)
     elif found == OF_LOCAL:
-        find_in_local(one, access.name)
+        if is_made_without_code(kind):
+            find_in_local(one, access.name)
+        if is_found_in_class(one, access.name):
+            _touch_classes_of(one, access.name, mark, site)
+    elif found == OF_ALIAS:
+        _touch_field(one.__origin__, site, access if is_named else None)
     elif found == BY_GETTER:
         _call_getter(one, access.name)
         if access.name in STORED_FIELDS:
@@ -570,7 +629,7 @@ def hook_before_whole(one: Any, site: int) -> Any:
         if site in seen and seen.stretch is stretch_of(get_ident()):
             return one
     try:
-        _touch_whole(one, site, OF_TEMPORARY)
+        return _touch_whole(one, site, OF_TEMPORARY) or one
     except Exception as fault:
         lost(fault)
     return one
@@ -585,17 +644,20 @@ def hook_before_whole_local(one: Any, site: int) -> Any:
         if site in seen and seen.stretch is stretch_of(get_ident()):
             return one
     try:
-        _touch_whole(one, site, OF_VARIABLE)
+        return _touch_whole(one, site, OF_VARIABLE) or one
     except Exception as fault:
         lost(fault)
     return one
 
 
-def _touch_whole(one: Any, site: int, limit: int) -> None:
+def _touch_whole(one: Any, site: int, limit: int) -> Any:
+    """Gives what is to stand in the place of the object, if something is."""
     kind = type(one)
+    if kind is memoryview and views.is_of_block(one):
+        return views.touch_whole(one, ACCESSES[site], site, _place_in_program())
     family = family_of(kind)
     if _is_by_own_method(kind, ACCESSES[site]):
-        return
+        return None
     if family is None:
         if is_other_container(kind) and (OWNERS.get(id(one)) is not None or getrefcount(one) > limit):
             _touch_other(one, INNER_READ, site)
@@ -604,17 +666,19 @@ def _touch_whole(one: Any, site: int, limit: int) -> None:
         elif _goes_on_by(kind, ACCESSES[site]):
             is_reached = OWNERS.get(id(one)) is not None or getrefcount(one) > limit
             _touch_iterator(one, site, is_reached)
-        return
+        return None
     if _is_passed_over(family, ACCESSES[site]):
-        return
+        return None
     of_fields = object_of(one) if FIELDS_OF else None
     if of_fields is not None:
-        _touch_all_fields(of_fields, site, ACCESSES[site].kinds)
+        if not _is_update(ACCESSES[site]):
+            _touch_all_fields(of_fields, site, ACCESSES[site].kinds)
     elif OWNERS.get(id(one)) is not None or getrefcount(one) > limit:
         owner = owner_of(one, ACCESSES[site].text)
         saw(owner, site, (shape_late, site, _kind_of(ACCESSES[site].kinds, family), site), True)
     if _depth_of(ACCESSES[site]) in DEEP_SITES:
         _touch_nested(one, site)
+    return None
 
 
 def _is_by_own_method(kind: type, access: Access) -> bool:
@@ -658,10 +722,12 @@ def _kind_of_other(kind: type, access: Access) -> str | None:
     return INNER_WRITE if access.name in CHANGING_METHODS else INNER_READ
 
 
-def _touch_element_of_other(one: Any, access: Access, site: int, is_reached: bool) -> None:
+def _touch_element_of_other(one: Any, key: Any, access: Access, site: int, is_reached: bool) -> None:
     """An element of such a container. A view of memory is named wherever it is, since it has what another one has."""
     words = _kind_of_other(type(one), access)
-    if type(one) is memoryview:
+    if type(one) is memoryview and views.is_of_block(one):
+        views.touch_element(one, key, access, site, _place_in_program())
+    elif type(one) is memoryview:
         keep_site(MEMORY, site)
     elif words is None and access.what == "method":
         _touch_field(one, site)
@@ -708,7 +774,7 @@ def _touch_by_view(container: Any, view: type, kind: str, site: int) -> None:
 def _touch_nested(one: Any, site: int) -> None:
     """What is inside of a container or an object is looked at, too."""
     access, depth = ACCESSES[site], _depth_of(ACCESSES[site])
-    kinds = LENGTH if depth == TRUTH else access.kinds
+    kinds = LENGTH if depth == TRUTH else ITERATION if depth == SUMMED else access.kinds
     for part, name in nested_in(one, access.text or name_of(type(one)), depth):
         family = family_of(type(part))
         if family is not None:
@@ -716,6 +782,9 @@ def _touch_nested(one: Any, site: int) -> None:
                 saw(owner_of(part, name), site, (shape_late, site, _kind_of(kinds, family), site), True)
         elif depth in BY_FIELDS:
             _touch_fields(part, site, True)
+        elif field_inside(type(part)):
+            for container in inside_of(part):
+                saw(owner_of(container, name), site, (shape_late, site, kinds, site), True)
 
 
 # Fields by way of the dictionary that has them
@@ -956,6 +1025,9 @@ def _stepping(one: Any, site: int, limit: int) -> Any:
         is_reached = OWNERS.get(id(one)) is not None or getrefcount(one) > limit
         return _stepping_on(one, site, is_reached)
     family = family_of(kind)
+    if kind is memoryview and views.is_of_block(one):
+        views.is_gone_through(site)
+        return one
     if family is None:
         inside = next(inside_of(one), None)
         is_own = has_watched_method(kind, "__iter__")
@@ -1178,7 +1250,7 @@ def _touch_keyed(one: Any, key: Any, site: int, limit: int, ways: str | None = N
         if id(kind) in STEPPED and access.kinds == "c":
             _touch_iterator(one, site, True)
         elif is_other_container(kind):
-            _touch_element_of_other(one, access, site, OWNERS.get(id(one)) is not None or getrefcount(one) > limit)
+            _touch_element_of_other(one, key, access, site, OWNERS.get(id(one)) is not None or getrefcount(one) > limit)
         elif not _touch_inside(one, key, access, site) and access.what == "method":
             _touch_field(one, site)
         return
@@ -1374,7 +1446,7 @@ def _touch_method(one: Any, site: int, limit: int) -> None:
 
 def _touch_fields_by_method(one: Any, access: Access, site: int) -> None:
     """What a method of the dictionary of its fields does to an object. An update may name the fields."""
-    if access.name == "update" and access.words is not None:
+    if access.name in UPDATING and access.words is not None:
         for name in access.words:
             _learn_stored(one, name, site)
             _touch_by_name(one, name, "w", site)
@@ -1391,6 +1463,9 @@ def _kind_of_method(name: str, family: int) -> str | None:
 def _touch_method_of_object(one: Any, access: Access, site: int, is_reached: bool = True) -> None:
     """A method of what is no container itself: it may have one inside, or the name may be that of a field."""
     kind = type(one)
+    if kind is memoryview and views.is_of_block(one):
+        views.touch_by_method(one, access, site, _place_in_program())
+        return
     if id(kind) in RESUMED and _is_step_method(kind, access.name):
         _touch_iterator(one, site, True)
         return
@@ -1498,7 +1573,7 @@ def hook_before_argument(value: Any, one: Any, site: int) -> Any:
         name = ACCESSES[site].name
         if class_with(type(one), name) is None or has_watched_method(type(one), name):
             return value
-        if FIELDS_OF and name == "update":
+        if FIELDS_OF and name in UPDATING:
             _touch_updated(value, object_of(one), site)
     except Exception as fault:
         lost(fault)
@@ -1506,13 +1581,43 @@ def hook_before_argument(value: Any, one: Any, site: int) -> Any:
     return hook_before_whole(value, site)
 
 
+def hook_before_update(value: Any, one: Any, site: int) -> Any:
+    """What an assignment by `|=` puts into a dictionary, which may be that of the fields of an object."""
+    try:
+        if FIELDS_OF:
+            _touch_updated(value, object_of(one), site)
+    except Exception as fault:
+        lost(fault)
+    return value
+
+
+def _is_update(access: Access) -> bool:
+    """Whether what is given to a dictionary of fields is looked at by itself."""
+    return type(access.words) is tuple and UPDATES in access.words
+
+
 def _touch_updated(value: Any, one: Any, site: int) -> None:
-    """The fields of an object that an update of their dictionary is given."""
-    if one is not None and type(value) is dict:
-        for name in list(value):
-            _touch_by_name(one, name, "w", site)
-    elif one is not None:
-        _touch_all_fields(one, site, WRITE)
+    """The fields of an object that an update of their dictionary is given: by a dictionary, or by pairs.
+
+    Of anything else they are not known, and that is named.
+    """
+    if one is None:
+        return
+    names = _names_given(value)
+    for name in names or ():
+        _learn_stored(one, name, site)
+        _touch_by_name(one, name, "w", site)
+    if names is None:
+        keep_site("fields that are updated", site)
+
+
+def _names_given(value: Any) -> list[str] | None:
+    """The keys that an update is given, if they can be told without the program's own code."""
+    if type(value) is dict:
+        return [name for name in list(value) if type(name) is str]
+    if type(value) not in (list, tuple) or any([type(pair) not in (list, tuple) or len(pair) != 2 for pair in value]):
+        return None
+    return [pair[0] for pair in value if type(pair[0]) is str]
 
 
 # Where things are made
@@ -1580,6 +1685,8 @@ def _what_of(hook: str, kind: type, site: int) -> What:
     access = ACCESSES[site]
     if hook == "before_attribute":
         return _what_of_field(kind, access, site)
+    if kind is memoryview and shared_blocks.are_there():
+        return LEFT_TO_PYTHON
     if id(kind) in PLAIN:
         is_deep = id(kind) not in FLAT and hook == "before_whole" and _depth_of(access) in DEEP_SITES
         return LEFT_TO_PYTHON if is_deep else NOT_TOUCHED
@@ -1646,7 +1753,7 @@ def _what_of_whole(kind: type, family: int | None, access: Access, site: int) ->
         if not _goes_on_by(kind, access):
             return NOT_TOUCHED
         return LEFT_TO_PYTHON if field_inside(kind) else (OTHER, None, "", "")
-    is_looked_into = is_watched_class(kind) or kind is types.SimpleNamespace or issubclass(
+    is_looked_into = is_watched_class(kind) or kind is types.SimpleNamespace or kind is partial or issubclass(
         kind, (tuple, frozenset, BaseException)
     )
     if field_inside(kind) or _depth_of(access) and is_looked_into:
@@ -1739,6 +1846,7 @@ QUIET: dict[str, Callable[..., Any]] = {
 }
 
 
+shared_blocks.AT_FIRST_BLOCK.append(forget_decisions)
 if quick is not None:
     _set_up()
     if locks.be_quick(quick):

@@ -13,6 +13,7 @@ from builtins import (
 from collections import deque
 from collections.abc import Iterator
 from dataclasses import _FIELD, Field  # type: ignore[attr-defined]
+from functools import partial
 from gc import get_referents
 from itertools import tee
 from sys import getrefcount
@@ -171,6 +172,9 @@ def _parts_inside(one: Any, name: str, is_inside: bool, depth: str) -> Iterator[
                 yield from ((inner, of_elements) for inner in _looked_at(_elements_of(part), depth))
             else:
                 yield part, name
+    elif kind is partial:
+        if depth in (SHOWN, WRITTEN):
+            yield one.keywords, f"{name_of(kind)}.keywords"
     elif depth not in OF_ELEMENTS:
         fields = fields_looked_at(one, depth, is_inside)
         yield from ((value_of_field(one, field), f"{name_of(kind)}.{field}") for field in fields)

@@ -15,6 +15,8 @@ A module that imports is looked at before what it imports.
 STORED_FIELDS: set[str] = set()
 """Names of fields that some module stores: what is called by such a name may be anything,
 and is no method of a class mostly."""
+KEYWORDS = "keywords of partial"
+"""Stands among them if some module has the keywords of something by their name, which may be a `partial`."""
 OF_CLASSES = "of classes: "
 """Stands before a name that is stored in what is surely a class: its objects find it there, or no more."""
 

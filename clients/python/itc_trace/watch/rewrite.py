@@ -12,12 +12,13 @@ from collections.abc import Callable, Iterator
 from types import CodeType
 from typing import Any
 
-from ..model.conflicts import ADDITION, ITERATION, KEYS, LENGTH, REWRITE
+from ..model.conflicts import ADDITION, INNER_READ, ITERATION, KEYS, LENGTH, REPLACEMENT, REWRITE
+from ..model.settings import IMPORT_OF, MODULES_OF_FIELDS, MODULES_OF_METHODS
 from . import held_lines, on_stack, passed_over
 from ..model.kinds import (
     CALLED_BY_STEPS, CHANGED_ARGUMENT, COMPARED, CONSUMING, CONTENT, DEPTHS_OF_METHODS, EACH, IN_PLACE_FUNCTIONS,
     IN_PLACE_METHODS, KEYED, LATE_METHODS, METHODS, ORDERED, RANKED, RANKING, READERS, SHOWING, SHOWN, STATE,
-    STEPPERS, STEPPING, TRUTH, WRITTEN, depth_of, known_function,
+    STEPPERS, STEPPING, SUMMED, TRUTH, WRITTEN, depth_of, known_function,
 )
 from .helper import quick
 from .patterns import Patterns
@@ -27,7 +28,8 @@ from .places import DELETED, LOOPS, MADE_HERE, OF_BASE, OF_OTHERS, STATE_OF_PROC
 from .placing import placed
 from .process_state import CHANGED_STATE, LEVEL, LEVELS, PRINTED, kept_in, touched_by
 from .scopes import (
-    CLASS, COMPREHENSION, DELEGATING, FIELDS, FUNCTION, LATE, MODULE, OF_EXCEPTIONS, OF_SCOPES, SCOPED, Scope, Scopes,
+    CLASS, COMPREHENSION, DELEGATING, FIELDS, FUNCTION, LATE, MODULE, OF_CAUSE, OF_EXCEPTIONS, OF_RAISE, OF_SCOPES,
+    SCOPED, Scope, Scopes,
     arguments_of, is_kept,
 )
 from .templates import field_paths
@@ -541,8 +543,12 @@ class Rewriter:
                 self._after += self._stores([target], node)
             if self._is_in_place(node):
                 kind = IN_PLACE[type(node.op)]
-                site = self._site(node, "whole", kind, "", self._text(target), IN_PLACE_METHODS[kind])
-                self._note_in_place(node, target, site)
+                is_update = type(node.op) is ast.BitOr and self._is_variable(target)
+                words = (*IN_PLACE_METHODS[kind], UPDATES) if is_update else IN_PLACE_METHODS[kind]
+                self._note_in_place(node, target, self._site(node, "whole", kind, "", self._text(target), words))
+                if is_update:
+                    value, site = node.value, self._site(node, "whole", kind, "", self._text(target))
+                    node.value = self._hook("before_update", value, value, name_at(value, target.id), site)
             else:
                 node.value = self._added(node)
         elif type(target) is ast.Attribute:
@@ -630,6 +636,20 @@ class Rewriter:
         node.test = self._truth(node.test)
         if node.msg is not None:
             node.msg = self._child(node.msg)
+        return node
+
+    def _simple_Raise(self, node: ast.Raise) -> ast.stmt:
+        """An exception that others may have is changed as it is raised. What its function alone has is none."""
+        one: Any = node.exc
+        is_own = self._is_local(one) and one.id not in self._scope.owner(one.id).parameters
+        if type(one) in REACHED and not is_own:
+            names = (OF_CAUSE if node.cause is not None else ()) + OF_RAISE
+            site = self._site(one, "raised", "w", names[0], "")
+            node.exc = self._hook("before_raise", one, self._child(one), names, site)
+        elif one is not None:
+            node.exc = self._child(one)
+        if node.cause is not None:
+            node.cause = self._child(node.cause)
         return node
 
     def _made(self, value: Any, target: Any) -> Any:
@@ -935,9 +955,17 @@ class Rewriter:
         kinds = "r" if type(node.ctx) is ast.Load else "w"
         words = DELETED if type(node.ctx) is ast.Del else None
         site = self._site(node, "field", kinds, self._mangled(node.attr), words=words)
-        node.value = self._operand(node.value, "before_attribute", site)
+        owner, node.value = node.value, self._operand(node.value, "before_attribute", site)
         if kinds == READ:
             self._note_registering(node)
+        elif self._is_setting(MODULES_OF_FIELDS, node.attr):
+            site = self._site(node, "whole", REPLACEMENT, "", self._text(owner))
+            node.value = self._hook("before_setting", owner, node.value, node.attr, site)
+
+    def _is_setting(self, modules: dict[str, frozenset[str]], name: str) -> bool:
+        """Whether an object of the library may be one that has settings, by the name of a field or a method."""
+        found = modules.get(name, ()) if self._scope.kind is FUNCTION else ()
+        return any([self._learned.is_field(IMPORT_OF + module) for module in sorted(found)])
 
     def _note_registering(self, node: ast.Attribute) -> None:
         """Has a look at what is given a function or a class to be asked for later, while there are several tasks."""
@@ -1172,10 +1200,10 @@ class Rewriter:
         is_joined = is_reduced and any((self._import_of(one) or "").startswith("operator.") for one in node.args[:1])
         node.args = [*node.args]
         for place, one in enumerate(node.args):
-            if place == changed and type(one) is not ast.Starred:
-                node.args[place] = self._operand(one, "before_whole", self._site_of_whole(one, kinds, depth))
-            elif place == 0 and is_reduced:
+            if place == 0 and is_reduced:
                 node.args[0] = self._handed(one)
+            elif place == changed and type(one) is not ast.Starred:
+                node.args[place] = self._operand(one, "before_whole", self._site_of_whole(one, kinds, depth))
             else:
                 node.args[place] = self._whole(one, others, EACH if is_joined else "") if others else self._child(one)
         node.keywords = [self._keyword(one) for one in node.keywords]
@@ -1232,13 +1260,21 @@ class Rewriter:
         elif name in READERS or name in STEPPERS:
             is_called = name in ("map", "filter") or name == "iter" and len(node.args) > 1
             self._keep_loop_of_others(node, is_called)
-            is_ranked = name in RANKING and len(node.args) == 1 and not self._has_key(node)
-            depth = TRUTH if name in ("any", "all") else EACH if name == "sum" and len(node.args) > 1 else ""
-            depth = RANKED if is_ranked else depth
+            if name in RANKING and len(node.args) > 1 and self._has_key(node):  # The key alone looks at them.
+                node.args = [self._child(one) for one in node.args]
+                return
+            depth = self._depth_of_builtin(node, name)
             called = [self._handed(one) for one in node.args[:is_called]]
             node.args = [*called, *(self._looked_at(one, name, depth) for one in node.args[is_called:])]
         else:
             node.args = [self._child(one) for one in node.args]
+
+    def _depth_of_builtin(self, node: ast.Call, name: str) -> str:
+        """How deep a function of the language looks that goes through what it is given. It may compare that itself."""
+        if name in RANKING and not self._has_key(node):
+            return RANKED if len(node.args) == 1 else ORDERED
+        is_of_others = len(node.args) > 1 or any(one.arg in ("start", None) for one in node.keywords)
+        return TRUTH if name in ("any", "all") else SUMMED if name == "sum" and is_of_others else ""
 
     @staticmethod
     def _has_key(node: ast.Call) -> bool:
@@ -1287,7 +1323,8 @@ class Rewriter:
             return self._starred(node, READERS[name], depth)
         if type(node) is ast.Starred or name in STEPPERS:
             return self._child(node)  # type: ignore[no-any-return]
-        looked_at: ast.expr = self._whole(node, READERS[name], SHOWING.get(name, depth), METHODS_OF_READERS.get(name))
+        kinds = ITERATION if depth == ORDERED else READERS[name]
+        looked_at: ast.expr = self._whole(node, kinds, SHOWING.get(name, depth), METHODS_OF_READERS.get(name))
         return looked_at
 
     def _call_method(self, node: ast.Call, func: ast.Attribute) -> ast.expr:
@@ -1330,13 +1367,15 @@ class Rewriter:
                 self._begin_at_name(node, func)
             node.args = [self._argument(one, func, owner) for one in given]
             if name in TEMPLATES:
+                self._look_at_settings(func, owner)
                 return self._call_template(node, func)
         elif name in KEYED and has_first:
             self._call_keyed(node, func, self._site(node, "method", "", name, self._text(owner)))
         elif is_late and name in LATE_METHODS and not isinstance(node.args[-1], ast.Starred):
             self._call_late(node, func, self._site(node, "method", "", name, self._text(owner)))
         else:
-            words = [keyword.arg for keyword in node.keywords] if self._is_of_fields(owner) else None
+            names_fields = self._is_of_fields(owner) or self._updates_fields(name, owner)
+            words = [keyword.arg for keyword in node.keywords] if names_fields else None
             is_known = words is not None and None not in words and len(node.args) < 2
             site = self._site(node, "method", "", name, self._text(owner), words if is_known else None)
             func.value = self._operand(owner, "before_method", site)
@@ -1344,10 +1383,17 @@ class Rewriter:
             node.args = [self._argument(one, func, owner) for one in node.args]
             if places is not None:
                 node.args[-1] = self._with_put(node.args[-1], places)
+        self._look_at_settings(func, owner)
         if name in METHODS and any(map(self._learned.is_field, DELEGATING)) and not self._is_foreign(owner):
             self._call_delegated(node, func)
         node.keywords = [self._keyword_of_method(one, func, owner) for one in node.keywords]
         return self._with_owner(node, func)
+
+    def _look_at_settings(self, func: ast.Attribute, owner: Any) -> None:
+        """A method of an object of the library may look at fields that the program sets."""
+        if self._is_setting(MODULES_OF_METHODS, func.attr) and not self._is_foreign_module(owner):
+            site = self._site(func, "whole", INNER_READ, "", self._text(owner))
+            func.value = self._hook("before_setting", owner, func.value, func.attr, site)
 
     @staticmethod
     def _begin_at_name(node: ast.Call, func: ast.Attribute) -> None:
@@ -1392,6 +1438,10 @@ class Rewriter:
             return node.attr == "__dict__"
         func = node.func if type(node) is ast.Call else None
         return type(func) is ast.Name and func.id in ("vars", "globals") and self._is_builtin(func.id)
+
+    def _updates_fields(self, name: str, owner: Any) -> bool:
+        """Whether a call names the fields that it writes, if what it updates is their dictionary."""
+        return name in UPDATING and (type(owner) is ast.Name or self._is_of_fields(owner))
 
     def _is_foreign_module(self, node: Any) -> bool:
         return self._import_of(node) is not None and self._is_foreign(node)
@@ -1505,7 +1555,7 @@ class Rewriter:
         if kinds is None:
             return self._child(node)
         is_bytes = type(owner) is ast.Constant and type(owner.value) is bytes
-        is_given = type(node) in GIVEN_OR_STARRED or is_bytes or name == "update" and self._is_of_fields(owner)
+        is_given = type(node) in GIVEN_OR_STARRED or is_bytes or self._updates_fields(name, owner)
         is_given = is_given or name in DEPTHS_OF_METHODS and type(node) in COMPARED_AS_A_WHOLE
         is_of_others = not is_given or self._is_foreign(node) or self._is_made(node)
         if is_of_others or self._import_of(owner) is not None:
@@ -1515,7 +1565,7 @@ class Rewriter:
         is_builtin = type(owner) is ast.Name and self._is_builtin(owner.id)
         if is_builtin or isinstance(owner, (ast.Constant, ast.JoinedStr)):
             return self._whole(node, kinds, EACH if is_bytes else DEPTHS_OF_METHODS.get(name, ""))
-        words = OF_KEYS if kinds == KEYS or name == "update" else None
+        words = OF_KEYS if kinds == KEYS or name in UPDATING else None
         site = self._site(node, "given", kinds, name, self._text(node), words)
         if self._is_variable(owner):
             return self._hook("before_argument", node, self._child(node), owner, site)
@@ -1841,6 +1891,10 @@ class Rewriter:
         return self._guarded(node, taken_apart)
 
 
+UPDATING = frozenset(("update", "__ior__"))
+"""Methods of a dictionary that take over another one."""
+UPDATES = "|="
+"""Stands among the methods of an assignment that names the fields it writes, if its container is one of fields."""
 CACHES = frozenset(("functools.lru_cache", "functools.cache"))
 
 _SIMPLE: dict[type, Callable[[Rewriter, Any], Any]] = {

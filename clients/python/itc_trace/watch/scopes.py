@@ -8,8 +8,10 @@ from collections.abc import Callable
 from typing import Any
 
 from ..model.kinds import MAPS, METHODS, READERS
+from ..model.settings import IMPORT_OF
+from ..model.settings import MODULES as SETTING_MODULES
 from . import passed_over
-from .learned import OF_CLASSES, Learned
+from .learned import KEYWORDS, OF_CLASSES, Learned
 from .process_state import CHANGED_STATE, changed_by, kept_in
 
 FUNCTIONS = (ast.FunctionDef, ast.AsyncFunctionDef, ast.Lambda)
@@ -27,6 +29,9 @@ SCOPED, LATE = 1, 2
 and what may take its time or run code of the program."""
 OF_EXCEPTIONS = {"add_note": "__notes__", "with_traceback": "__traceback__"}
 """Methods of an exception, and the field that each changes."""
+OF_CAUSE = ("__cause__", "__suppress_context__")
+OF_RAISE = ("__traceback__", "__context__")
+"""The fields of an exception that a `raise` stores, the first two if it names a cause."""
 STORING = frozenset(("setattr", "delattr"))
 """Functions that store a field by its name."""
 STORING_METHODS = frozenset(("__setattr__", "__delattr__"))
@@ -62,6 +67,7 @@ class Scope:
         self.nonlocals: set[str] = set()
         self.used: set[str] = set()
         self.captured: set[str] = set()
+        self.parameters: set[str] = set()
         self.first_lines: dict[str, int] = {}
         self.made = ""
         """The variable of a constructor that has the object that is made."""
@@ -337,12 +343,21 @@ class Scopes:
         for one in node.names:
             name = one.asname or one.name.partition(".")[0]
             self._import(name, one.name if one.asname else name)
+            self._note_import(one.name)
         return 0
+
+    def _note_import(self, dotted: str) -> None:
+        """Keeps that a module with settings is imported, by itself or for one of its names."""
+        for name in (dotted, dotted.rpartition(".")[0]):
+            if name in SETTING_MODULES:
+                self.learned.add_field(IMPORT_OF + name)
 
     def _visit_ImportFrom(self, node: ast.ImportFrom) -> int:
         is_of_builtins = not node.level and passed_over.is_of_builtins(node.module)
         for one in node.names:
-            self._import(one.asname or one.name, f"{'.' * node.level}{node.module or ''}.{one.name}")
+            dotted = f"{'.' * node.level}{node.module or ''}.{one.name}"
+            self._import(one.asname or one.name, dotted)
+            self._note_import(dotted)
             if is_of_builtins and one.name in passed_over.TEXTS:
                 passed_over.look_at_text(one.name, node.lineno, self.learned)
         return 0
@@ -376,6 +391,10 @@ class Scopes:
             self._note_stored_in_module(node, whole)
             if type(whole) is ast.Name and whole.id in self._scope.owner(whole.id).imported:
                 self.learned.add_elsewhere(node.attr)
+        elif node.attr == "keywords":
+            self.learned.add_field(KEYWORDS)
+        elif node.attr in OF_RAISE:
+            self.learned.add_field(node.attr)
         elif node.attr == "modules" and isinstance(node.value, ast.Name) and node.value.id == "sys":
             self.module.is_open = self._has_modules_by_name = True
         elif node.attr in passed_over.TEXTS and isinstance(node.value, ast.Name):
@@ -414,6 +433,8 @@ class Scopes:
             is_class = owner.id == "cls" or owner.id[:1].isupper() or owner.id in self._scope.owner(owner.id).defined
         elif isinstance(owner, ast.Attribute):
             is_class = owner.attr == "__class__" or owner.attr[:1].isupper()
+        elif isinstance(owner, ast.Subscript):
+            is_class = isinstance(owner.value, ast.Name) and owner.value.id[:1].isupper()
         else:
             is_class = isinstance(owner, ast.Call) and isinstance(owner.func, ast.Name) and owner.func.id == "type"
         if is_class:
@@ -425,6 +446,11 @@ class Scopes:
         if len(words) > 1 and isinstance(words[1], ast.Constant) and type(words[1].value) is str:
             self._note_stored(words[1].value, words[0])
             self._note_state(words[0], words[1].value)
+
+    def _visit_Raise(self, node: ast.Raise) -> int:
+        for name in OF_CAUSE if node.cause is not None else ():
+            self.learned.add_field(name)
+        return self._walk_inside(node)
 
     def _visit_Call(self, node: ast.Call) -> int:
         function = node.func
@@ -522,6 +548,7 @@ class Scopes:
         self._scope, self._loops = self._with_type_parameters(node), 0
         self._scope = self._opened(node, FUNCTION, name)
         for one in arguments:
+            self._scope.parameters.add(one.arg)
             self._scope.add_bindings(one.arg, FIRST_BINDING)
         is_lambda = type(node) is ast.Lambda
         inside |= self._walk(node.body) if is_lambda else self._walk_all(node.body)
