@@ -11,7 +11,7 @@ from pathlib import Path
 from unittest import mock
 
 from itc_trace.watch import holding
-from itc_trace.watch.holding import FIRST_LOOKED_AT, Held
+from itc_trace.watch.holding import FIRST_LOOKED_AT, LAST_LOOKED_AT, Held
 
 from .same import FORMS
 from .support import run_python, run_traced
@@ -113,6 +113,26 @@ class LettingGo(unittest.TestCase):
             held.let_go_at_once(8)
             self.assertEqual(left, [key])
             end_collecting(0)
+
+    def test_what_is_held_while_another_thread_forgets_what_went_is_found(self) -> None:
+        left: list[int] = []
+        held, late, is_known = Held(lambda key, is_gone: left.append(key)), [[1]], Held._is_known
+        gone = [[number] for number in range(LAST_LOOKED_AT)]
+
+        def meanwhile(self: Held, number: int) -> bool:
+            if late:
+                one = late.pop()
+                held._let_go_of_last()
+                held.hold(id(one), one)
+            return is_known(self, number)
+
+        for one in gone:
+            held.hold(id(one), one)
+        del one
+        gone.clear()
+        with mock.patch.object(Held, "_is_known", meanwhile):
+            held.let_go_at_once(0)
+        self.assertEqual(len(left), LAST_LOOKED_AT + 1)
 
 
 if __name__ == "__main__":

@@ -55,6 +55,7 @@ OF_THE_LIBRARY = {
     "sync.twisted_reactors": "_asyncioEventloop",
     "sync.values": "_length_ _type_ _wrapper",
     "watch": "_get_code_from_file",
+    "watch.holding": "_at_fork_reinit",
     "watch.inside": "_FIELD _field_type",
     "watch.keys": "_lock",
     "watch.late": "_at_fork_reinit",

@@ -8,6 +8,7 @@ from __future__ import annotations
 
 import gc
 import os
+from _thread import allocate_lock
 from collections import deque
 from collections.abc import Callable, Container, Iterator
 from itertools import compress
@@ -59,11 +60,15 @@ class Held:
         self._objects: dict[int, Any] = {}
         self._order: deque[int] = deque()
         self._latest: list[int] = []
-        """Those that were held last, the last one at the end. If threads change it at once, it may lack some."""
+        """Those that are held, the last one at the end, and some that no longer are. Any thread may add one."""
+        self._shortening = allocate_lock()
+        """Whoever takes some out of the latest ones has it."""
         self._released: dict[int, type] = {}
         """What the collector of garbage decides about just now, and of which type it is."""
         self._has_many_old = False
         self._collections = 0
+        if hasattr(os, "register_at_fork"):
+            os.register_at_fork(after_in_child=self._shortening._at_fork_reinit)  # type: ignore[attr-defined]
 
     def __len__(self) -> int:
         return len(self._order)
@@ -72,7 +77,7 @@ class Held:
         self._objects[key] = one
         self._order.append(key)
         if len(self._latest) > 2 * len(self._objects) + LAST_LOOKED_AT:
-            self._latest = list(filter(self._is_known, self._latest))
+            self._shorten(0)
         self._latest.append(key)
 
     def has(self, key: int) -> bool:
@@ -131,16 +136,29 @@ class Held:
 
     def _let_go_of_last(self) -> bool:
         has_gone = has_gaps = False
-        for key in self._latest[-LAST_LOOKED_AT:][::-1]:
+        first = max(0, len(self._latest) - LAST_LOOKED_AT)
+        for key in self._latest[first:][::-1]:
             one = self._objects.get(key)
             if one is None:
                 has_gaps = has_gaps or key not in self._released
             elif getrefcount(one) <= REFERENCES_OF_ONE and self._objects.pop(key, None) is not None:
                 has_gone = has_gaps = True
                 self._left(key, True)
-        if has_gaps:
-            self._latest[-LAST_LOOKED_AT:] = filter(self._is_known, self._latest[-LAST_LOOKED_AT:])
-        return has_gone
+        return has_gaps and self._shorten(first) or has_gone
+
+    def _shorten(self, first: int) -> bool:
+        """Takes out of the latest ones what is held no more, from this place on. Says whether it did.
+
+        It does not if another thread does. What is added meanwhile stays.
+        """
+        if not self._shortening.acquire(False):
+            return False
+        try:
+            last = len(self._latest)
+            self._latest[first:last] = list(filter(self._is_known, self._latest[first:last]))
+        finally:
+            self._shortening.release()
+        return True
 
     def _is_known(self, key: int) -> bool:
         return key in self._objects or key in self._released
