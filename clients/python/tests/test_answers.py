@@ -6,7 +6,9 @@ import ast
 import linecache
 import unittest
 from types import CodeType
+from unittest import mock
 
+from itc_trace.model import trees
 from itc_trace.model.answers import NO, NOTHING, YES, Says, Use, use_of
 
 BEHIND = (
@@ -169,6 +171,25 @@ class Answers(unittest.TestCase):
     def test_without_its_source_nothing_is_known(self) -> None:
         code = compile("e.is_set()", "nowhere.py", "exec")
         self.assertIsNone(use_of(code, 0, YES))
+
+
+class Trees(unittest.TestCase):
+    def test_a_tree_that_another_thread_has_disturbed_is_made_once_more(self) -> None:
+        faults = [SystemError("AST constructor recursion depth mismatch"), SyntaxError()]
+
+        def parse(*words: str) -> ast.Module:
+            raise faults.pop(0)
+
+        with mock.patch.object(ast, "parse", parse):
+            self.assertRaises(SyntaxError, trees.tree_of_text, "n")
+        self.assertEqual(faults, [])
+
+    def test_a_file_of_which_no_tree_can_be_made_has_none(self) -> None:
+        for fault in (SystemError, SyntaxError, ValueError, RecursionError):
+            with self.subTest(fault=fault), mock.patch.object(ast, "parse", mock.Mock(side_effect=fault)):
+                self.assertIsNone(trees.tree_of_file(__file__))
+        self.assertIsNone(trees.tree_of_file("nowhere.py"))
+        self.assertIsNotNone(trees.tree_of_file(__file__))
 
 
 if __name__ == "__main__":

@@ -9,13 +9,13 @@ from __future__ import annotations
 
 import ast
 import functools
-import linecache
 from collections.abc import Iterable, Iterator, Sequence
 from itertools import islice
 from types import CodeType
 from typing import Any, NamedTuple
 
 from .file_names import name_of_file
+from .trees import tree_of_file
 
 MOST_USES = 4096
 MOST_NAMES = 256
@@ -142,10 +142,8 @@ class _Source:
 
 @functools.lru_cache(16)
 def _source(file: str) -> _Source | None:
-    try:
-        return _Source(ast.parse("".join(linecache.getlines(file)))) if linecache.getlines(file) else None
-    except (SyntaxError, ValueError, RecursionError):
-        return None
+    tree = tree_of_file(file)
+    return None if tree is None else _Source(tree)
 
 
 def _names_in(node: ast.AST) -> Iterator[str]:

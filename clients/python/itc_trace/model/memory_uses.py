@@ -9,13 +9,13 @@ from __future__ import annotations
 import ast
 import enum
 import functools
-import linecache
 from itertools import islice
 from types import CodeType
 from typing import Any
 
+from .trees import tree_of_file
+
 MOST_USES = 4096
-MOST_TRIES = 64
 _SCOPES = (ast.FunctionDef, ast.AsyncFunctionDef, ast.Lambda, ast.ClassDef, ast.Module)
 _LOOKING = frozenset(
     "tobytes tolist hex release nbytes format itemsize ndim shape strides suboffsets readonly c_contiguous "
@@ -204,12 +204,5 @@ def _bound_by(node: ast.AST) -> list[str]:
 
 @functools.lru_cache(maxsize=64)
 def _source(file: str) -> _Source | None:
-    text = "".join(linecache.getlines(file))
-    for _ in range(MOST_TRIES):
-        try:
-            return _Source(ast.parse(text)) if text else None
-        except SystemError:
-            continue  # Another thread has made a tree meanwhile, which some Pythons do not bear.
-        except (SyntaxError, ValueError, RecursionError):
-            return None
-    return None
+    tree = tree_of_file(file)
+    return None if tree is None else _Source(tree)

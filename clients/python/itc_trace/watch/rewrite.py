@@ -20,6 +20,7 @@ from ..model.kinds import (
     IN_PLACE_METHODS, KEYED, LATE_METHODS, METHODS, ORDERED, RANKED, RANKING, READERS, SHOWING, SHOWN, STATE,
     STEPPERS, STEPPING, SUMMED, TRUTH, WRITTEN, depth_of, known_function,
 )
+from ..model.trees import tree_of_text
 from .helper import quick
 from .patterns import Patterns
 from .learned import Learned
@@ -131,7 +132,7 @@ def written(
     source: bytes | str, file: str, module: str, learned: Learned, prepare: Preparing | None = None,
 ) -> CodeType:
     """The code with hooks, whose places have no numbers of the process yet."""
-    tree = ast.parse(source, file)
+    tree = tree_of_text(source, file)
     if prepare is not None:
         prepare(tree, source if isinstance(source, bytes) else source.encode(), file)
         with_ends(tree)
