@@ -64,6 +64,8 @@ ODD = """
 import itc_trace, multiprocessing, os, sys, threading, time
 from multiprocessing.connection import Client, Listener
 
+EMPTY = b""  # Whoever reads its length has read all of it: each of two may read at once.
+
 def hit():
     itc_trace.touch("x", write=True, across=True)
 
@@ -74,7 +76,7 @@ def send(pipe, wait):
     pipe.send_bytes(b"x")
 
 def receive(pipe, touches):
-    assert pipe.recv_bytes() == b"x"
+    pipe.recv_bytes()
     if touches:
         hit()
 
@@ -108,9 +110,9 @@ def two_receive(here, there):
     children = [multiprocessing.Process(target=receive, args=(there, touches)) for touches in (False, True)]
     for child in children:
         child.start()
-    here.send_bytes(b"x")
+    here.send_bytes(EMPTY)
     hit()
-    here.send_bytes(b"x")
+    here.send_bytes(EMPTY)
     return children
 
 def two_threads_receive(here, there):
@@ -123,9 +125,9 @@ def two_threads_receive(here, there):
     child = multiprocessing.Process(target=work)
     child.start()
     time.sleep(0.5)
-    here.send_bytes(b"x")
+    here.send_bytes(EMPTY)
     hit()
-    here.send_bytes(b"x")
+    here.send_bytes(EMPTY)
     return [child]
 
 def by_hand(here, there):
