@@ -5,6 +5,7 @@ thing: sessions['ann']
 """
 
 import threading
+import time
 
 sessions = {}
 
@@ -14,6 +15,7 @@ def visit(name, page):
 
 
 def reset(name):
+    time.sleep(0.2)  # Else the key may be there, and the other thread looks at it alone.
     sessions[name] = []  # race: write
 
 
