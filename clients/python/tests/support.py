@@ -208,7 +208,7 @@ def run_python(
     if words[:2] == ("-m", "itc_trace") and words[2:3] and words[2] in LISTS:
         words = (*words[:3], "--all", *words[3:])
     command = [python or sys.executable, *words]
-    return subprocess.run(command, capture_output=True, text=True, env=environment, cwd=cwd, timeout=1500, check=False)
+    return subprocess.run(command, capture_output=True, text=True, env=environment, cwd=cwd, timeout=600, check=False)
 
 
 PATIENT = f"""
