@@ -10,10 +10,14 @@ import tempfile
 import time
 import unittest
 from pathlib import Path
+from typing import Any, cast
+from unittest import mock
 
 from itc_trace import Verdict
+from itc_trace.cli import deferred_signals
 from itc_trace.record.collector import find_program
 
+from .same import FORMS
 from .support import PACKAGE, PATIENT, WAIT, ProgramCase, run_python, run_traced, wait_until
 
 SELLING = """
@@ -108,6 +112,39 @@ sys.exit(commands.main())
 """
 PENDING = "ShdPnd:\t0000000000000000"
 """The line of a process's status that has the signals which have not come to it yet."""
+
+
+ALARMS = """
+import signal, sys, time
+table, items, late, further = {}, [1], [], 0
+
+def follow(frame, event, argument):
+    return follow
+
+def busy(is_over):
+    while not is_over():
+        table[len(table) % 1000] = [1]; items.append(table.get(3)); items[0] = len(items) % 7
+
+sys.setswitchinterval(1e-5)
+signal.signal(signal.SIGVTALRM, lambda number, frame: late.append(number))
+for turn in range(200):
+    signal.setitimer(signal.ITIMER_VIRTUAL, 0.003)
+    sys.settrace(follow)
+    busy(lambda: len(late) > turn + further)
+    until = time.process_time() + 0.01
+    busy(lambda: time.process_time() > until)
+    sys.settrace(None)
+    further = len(late) - turn - 1
+    items[1:] = []
+print(len(late))
+"""
+
+
+def sent_again(handler: deferred_signals.Deferred, number: int) -> deferred_signals.LastSent:
+    """Sends a signal again, and gives what the handler is told by the interpreter then."""
+    deferred_signals._send_to(0, number, handler._sent)
+    call: Any = deferred_signals.Deferred.__call__
+    return cast(deferred_signals.LastSent, call.__defaults__[0])
 
 
 class Started:
@@ -263,6 +300,22 @@ time.sleep(1000)
     def test_a_signal_of_a_handler_before_is_not_sent_again(self) -> None:
         ran = run_traced(self.program(ITS_OWN_FIRST), "clean")
         self.assertEqual((ran.returncode, ran.stdout), (4, "sold\ncleaned up\n"), ran.stderr)
+
+    def test_each_alarm_is_one_call_of_its_handler(self) -> None:
+        for form, pure in FORMS.items():
+            with self.subTest(hooks=form):
+                ran = run_traced(self.program(ALARMS), ITC_TRACE_PURE=pure)
+                self.assertEqual(ran.stdout, "200\n", ran.stderr)
+
+    def test_a_signal_that_is_sent_again_while_the_last_one_is_looked_at_is_no_further_one(self) -> None:
+        called: list[int] = []
+        handler, number = deferred_signals.Deferred(lambda number, frame: called.append(number)), signal.SIGUSR1
+        handler._waiting.append(number)
+        with mock.patch.object(deferred_signals, "_send", mock.Mock()):
+            bound = [sent_again(handler, number) for _ in range(2)]
+        for last, due in ((bound[1], 1), (bound[0], 1), (bound[1], 2)):
+            handler(number, None, last)
+            self.assertEqual(len(called), due)
 
     def test_a_signal_that_comes_just_before_the_run_waits_ends_it(self) -> None:
         begun = time.monotonic()

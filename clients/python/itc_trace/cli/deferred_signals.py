@@ -6,6 +6,7 @@ collected would be lost. A lock that was acquired within this package would stay
 
 from __future__ import annotations
 
+import itertools
 import os
 import signal
 import sys
@@ -35,11 +36,17 @@ NO_TIME = 200_000
 MOST_TRIES, MOST_BESIDE_ANOTHER = 50, 1000
 """So often a signal is sent again, and so often if a trace function of the program keeps it from being looked for."""
 FINALIZER = "__del__"
-_send = getattr(signal, "pthread_kill", None)
+_send: Any = getattr(signal, "pthread_kill", None)
 _handler_of = signal.getsignal
 _trace_of, _set_trace = sys.gettrace, sys.settrace
 _lock = plain.RLock()
 """Held while a signal is sent once more, so that no other handler is set meanwhile."""
+LastSent = dict[int, int]
+"""The serial number of the last signal that was sent again, by the number of the signal."""
+NONE_SENT: LastSent = {}
+MOST_SENT = 64
+"""So many signals that were sent again may come as one."""
+_serials = itertools.count(1)
 _late: dict[int, Deferred] = {}
 """The handlers that may have to be called for what has come."""
 _looked_at: list[FrameType] = []
@@ -63,7 +70,7 @@ class Deferred:
     wait may miss one.
     """
 
-    __slots__ = ("handler", "_waiting", "_process", "_stood", "_tries", "_is_sent", "_has_thread", "_is_looked_for")
+    __slots__ = ("handler", "_waiting", "_process", "_stood", "_tries", "_sent", "_has_thread", "_is_looked_for")
 
     def __init__(self, handler: Any) -> None:
         self.handler = handler
@@ -74,14 +81,20 @@ class Deferred:
         self._waiting: list[int] = []
         """The number of each signal that has come, and for which the handler was not called."""
         self._process, self._tries = os.getpid(), 0
-        self._is_sent = self._has_thread = False
-        self._is_looked_for = True
+        self._sent: dict[int, None] = {}
+        """The serial numbers of signals that were sent again, and that have not come."""
+        self._has_thread, self._is_looked_for = False, True
         """Whether it is called as soon as the program goes on, and not only by a signal that meets the program."""
 
-    def __call__(self, number: int, frame: FrameType | None) -> Any:
+    def __call__(self, number: int, frame: FrameType | None, last: LastSent = NONE_SENT) -> Any:
+        """A signal has come, for the first time or as it was sent again.
+
+        The last that was sent is a default value: the interpreter takes that as it heeds the signal, and lets no other
+        thread go on meanwhile. What is sent behind that leads to a call of its own.
+        """
         if self._process != os.getpid():  # The threads of a process that was forked are not in its child.
             self._forget()
-        is_sent, self._is_sent = self._is_sent, False
+        is_sent = self._sent.pop(last.get(number, 0), self) is None
         before, self._stood = self._stood, None
         if frame is not None and _is_between(frame) and not _waits(before, frame) and self._defer(number, is_sent):
             self._stood = _standing(frame)
@@ -123,14 +136,24 @@ class Deferred:
                     self._has_thread = False
                     return
                 self._tries += 1
-                self._is_sent = True
-                _send(main, number)
+                _send_to(main, number, self._sent)
 
     def takes_one(self) -> bool:
         """Whether there is one more for which the handler is to be called now."""
         self._stood, self._tries = None, 0
         with _lock:
             return self._process == os.getpid() and bool(self._waiting) and bool(self._waiting.pop())
+
+
+def _send_to(thread: int, number: int, sent: dict[int, None]) -> None:
+    """Sends a signal again, and adds its serial number to those that were sent."""
+    call: Any = Deferred.__call__
+    serial = next(_serials)
+    sent[serial] = None
+    for earlier in list(sent)[:-MOST_SENT]:
+        sent.pop(earlier, None)
+    call.__defaults__ = ({**call.__defaults__[0], number: serial},)
+    _send(thread, number)
 
 
 def _is_between(frame: FrameType) -> bool:
