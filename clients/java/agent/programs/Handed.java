@@ -23,6 +23,7 @@ import java.util.concurrent.SubmissionPublisher;
 import java.util.concurrent.SynchronousQueue;
 import java.util.concurrent.TimeUnit;
 import java.util.concurrent.TransferQueue;
+import java.util.concurrent.atomic.AtomicBoolean;
 
 /** Programs that hand something over by a queue, an exchanger, a barrier or a phaser, without a race. */
 public final class Handed {
@@ -172,6 +173,77 @@ public final class Handed {
         BlockingQueue<Integer> other = new LinkedBlockingQueue<>(2);
         fill(queue, queue::clear);
         fill(other, () -> other.removeIf(number -> number == 0));
+    }
+
+    /** A list that takes nothing. */
+    static final class Refusing<T> extends ArrayList<T> {
+        @Override
+        public boolean add(T element) {
+            throw new IllegalStateException("it is closed");
+        }
+    }
+
+    private static <T> void drainInVain(BlockingQueue<T> queue) {
+        try {
+            queue.drainTo(new Refusing<>());
+        } catch (IllegalStateException refused) {
+            System.out.println(refused.getMessage());
+        }
+    }
+
+    /** What is not drained makes no room. */
+    static void roomBehindNoDrain() throws InterruptedException {
+        BlockingQueue<Integer> queue = new ArrayBlockingQueue<>(3, false, List.of(1, 2, 3));
+        Store store = new Store();
+        both(
+                () -> {
+                    queue.put(4);
+                    queue.put(5);
+                    System.out.println(store.left);
+                },
+                () -> {
+                    drainInVain(queue);
+                    queue.take();
+                    store.left = 7;
+                    queue.take();
+                });
+    }
+
+    /** What is not drained is still there for others. */
+    private static void takeUndrained(BlockingQueue<Store> orders) throws InterruptedException {
+        AtomicBoolean isRefused = new AtomicBoolean();
+        Thread draining =
+                new Thread(
+                        () -> {
+                            while (orders.isEmpty()) {
+                                Thread.onSpinWait();
+                            }
+                            drainInVain(orders);
+                            isRefused.setOpaque(true);
+                        });
+        draining.start();
+        both(
+                () -> {
+                    Store store = new Store();
+                    store.left = 4;
+                    orders.put(store);
+                },
+                () -> {
+                    while (!isRefused.getOpaque()) {
+                        Thread.onSpinWait();
+                    }
+                    System.out.println(orders.take().left);
+                });
+        draining.join();
+    }
+
+    static void takenBehindNoDrain() throws InterruptedException {
+        takeUndrained(new ArrayBlockingQueue<>(2));
+        takeUndrained(new LinkedBlockingQueue<>());
+    }
+
+    static void takenBehindNoDrainOfDelayed() throws InterruptedException {
+        takeUndrained(new DelayQueue<>());
     }
 
     static void queuedByPriority() throws InterruptedException {

@@ -14,6 +14,7 @@ import java.util.concurrent.LinkedTransferQueue;
 import java.util.concurrent.Phaser;
 import java.util.concurrent.PriorityBlockingQueue;
 import java.util.concurrent.SynchronousQueue;
+import java.util.function.Consumer;
 
 /** Programs that hand something over by a queue, an exchanger, a barrier or a phaser, each with a race. */
 public final class HandedRaces {
@@ -138,6 +139,41 @@ public final class HandedRaces {
                     System.out.println(queue.take());
                     store.left = 7; // race: behindTheRoom
                 });
+    }
+
+    /** The first put needs no more room than there was before all was taken. */
+    private static void otherRoomOfMany(Handed.Body read, Handed.Body write, Consumer<BlockingQueue<Integer>> removeAll)
+            throws InterruptedException {
+        BlockingQueue<Integer> queue = new ArrayBlockingQueue<>(3, false, List.of(1, 2, 3));
+        both(
+                () -> {
+                    while (queue.remainingCapacity() < 3) {
+                        Thread.onSpinWait();
+                    }
+                    queue.put(4);
+                    read.run();
+                },
+                () -> {
+                    queue.take();
+                    write.run();
+                    removeAll.accept(queue);
+                });
+    }
+
+    static void otherRoomByClearing() throws InterruptedException {
+        Store store = new Store();
+        otherRoomOfMany(
+                () -> System.out.println(store.left), // race: otherRoomByClearing
+                () -> store.left = 7, // race: otherRoomByClearing
+                BlockingQueue::clear);
+    }
+
+    static void otherRoomByRemoval() throws InterruptedException {
+        Store store = new Store();
+        otherRoomOfMany(
+                () -> System.out.println(store.left), // race: otherRoomByRemoval
+                () -> store.left = 7, // race: otherRoomByRemoval
+                queue -> queue.removeIf(number -> number > 1));
     }
 
     static void twoProducers() throws InterruptedException {

@@ -186,11 +186,10 @@ public final class Handovers {
         }
     }
 
-    /** The queue is not locked yet. */
-    public static void makesSomeRoom(Object queue) {
-        Rooms rooms = Traced.isOn() ? Rooms.of(queue) : null;
-        if (rooms != null) {
-            rooms.muddle();
+    /** An array has so many elements from now on. */
+    public static void keeps(Object queue, int count) {
+        for (int more = Rooms.countOf(queue) - count; more > 0; more--) {
+            makesRoom(queue);
         }
     }
 

@@ -29,8 +29,6 @@ final class Rooms {
 
     private int fresh;
     private final Deque<Mark> made = new ArrayDeque<>();
-    /** Whether some was made by a call of which nobody knows how much. */
-    private boolean isMuddled;
 
     private Rooms(int fresh) {
         this.fresh = fresh;
@@ -50,7 +48,7 @@ final class Rooms {
     }
 
     /** How many elements a queue has that it was made with. One of nodes has room for any number then. */
-    private static int countOf(Object queue) {
+    static int countOf(Object queue) {
         return queue instanceof ArrayBlockingQueue ? UNSAFE.getInt(queue, COUNT) : 0;
     }
 
@@ -64,10 +62,6 @@ final class Rooms {
 
     /** This thread puts an element. */
     synchronized void use(Site site) {
-        if (isMuddled) {
-            made.forEach(mark -> Traced.take(mark, site));
-            Traced.after(this);
-        }
         if (fresh > 0) {
             fresh--;
         } else {
@@ -75,11 +69,5 @@ final class Rooms {
             Traced.take(mark, site);
             Mark.endIfAny(mark);
         }
-    }
-
-    /** This thread may take some elements. */
-    synchronized void muddle() {
-        isMuddled = true;
-        Traced.before(this);
     }
 }

@@ -90,10 +90,6 @@ final class OfHandovers implements ClassFileTransformer {
             List.of(
                     first(ARRAY_QUEUE, "enqueue(" + OBJECT + ")V", "puts", OF_TWO, 0, 1),
                     first(ARRAY_QUEUE, "enqueue(" + OBJECT + ")V", "usesRoom", OF_ANY, 0),
-                    first(ARRAY_QUEUE, "dequeue()" + OBJECT, "makesRoom", OF_ANY, 0),
-                    first(ARRAY_QUEUE, "removeAt(I)V", "makesRoom", OF_ANY, 0),
-                    first(ARRAY_QUEUE, "clear()V", "makesSomeRoom", OF_ANY, 0),
-                    first(ARRAY_QUEUE, "bulkRemove(Ljava/util/function/Predicate;)Z", "makesSomeRoom", OF_ANY, 0),
                     first(NODE_QUEUE, "enqueue(L" + NODE_QUEUE + "$Node;)V", "usesRoom", OF_ANY, 0),
                     last(NODE_DEQUE, "linkFirst(L" + NODE_DEQUE + "$Node;)Z", "usesRoomIf", OF_AN_ANSWER, 0),
                     last(NODE_DEQUE, "linkLast(L" + NODE_DEQUE + "$Node;)Z", "usesRoomIf", OF_AN_ANSWER, 0),
@@ -163,7 +159,7 @@ final class OfHandovers implements ClassFileTransformer {
     static {
         EDITS.put(ARRAY_QUEUE, OfHandovers::editArrayQueue);
         EDITS.put(PRIORITY_QUEUE, OfHandovers::editPriorityQueue);
-        EDITS.put(DELAY_QUEUE, (node, method) -> putIntoDrain(node.name, method));
+        EDITS.put(DELAY_QUEUE, (node, method) -> putIntoDrain(method));
         EDITS.put(SYNCHRONOUS_QUEUE, OfHandovers::editSynchronousQueue);
         EDITS.put(TRANSFER_QUEUE, OfHandovers::editTransferQueue);
         EDITS.put(EXCHANGER, OfHandovers::editExchanger);
@@ -323,12 +319,16 @@ final class OfHandovers implements ClassFileTransformer {
     }
 
     private static void editArrayQueue(ClassNode node, MethodNode method) {
-        if (node.name.equals(ARRAY_QUEUE) && method.name.equals("removeAt")) {
+        if (!node.name.equals(ARRAY_QUEUE)) {
+            return;
+        }
+        if (method.name.equals("removeAt")) {
             putBeforeRemoval(method, ARRAY_QUEUE, "items");
         }
-        if (node.name.equals(ARRAY_QUEUE)) {
-            putIntoDrain(node.name, method);
+        for (FieldInsnNode access : accesses(method, Opcodes.PUTFIELD, ARRAY_QUEUE, "count")) {
+            method.instructions.insertBefore(access, listOf(plain(Opcodes.DUP2), hook("keeps", "(" + OBJECT + "I)V")));
         }
+        putIntoDrain(method);
     }
 
     private static void editPriorityQueue(ClassNode node, MethodNode method) {
@@ -348,15 +348,15 @@ final class OfHandovers implements ClassFileTransformer {
                         hook("took", OF_TWO)));
     }
 
-    /** What is drained is taken before somebody else has it. */
-    private static void putIntoDrain(String owner, MethodNode method) {
+    /** What is drained is seen before somebody else has it. It stays in the queue if that one throws. */
+    private static void putIntoDrain(MethodNode method) {
         for (AbstractInsnNode one : method.instructions.toArray()) {
             boolean isAdding = one instanceof MethodInsnNode call && call.name.equals("add");
             if (method.name.equals("drainTo") && isAdding) {
-                method.instructions.insertBefore(one, listOf(plain(Opcodes.DUP), load(0), hook("took", OF_TWO)));
-                if (owner.equals(ARRAY_QUEUE)) {
-                    method.instructions.insertBefore(one, listOf(load(0), hook("makesRoom", OF_ANY)));
-                }
+                int element = method.maxLocals++;
+                method.instructions.insertBefore(one, listOf(plain(Opcodes.DUP), new VarInsnNode(Opcodes.ASTORE, element)));
+                method.instructions.insertBefore(one, listOf(load(element), load(0), hook("saw", OF_TWO)));
+                method.instructions.insert(one, listOf(load(element), load(0), hook("took", OF_TWO)));
             }
         }
     }
