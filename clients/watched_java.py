@@ -4,7 +4,7 @@ Each method of `Races`, `MoreRaces`, `SharedRaces`, `PartRaces` and `MorePartRac
 of `Clean`, `MoreClean`, `SharedClean`, `PartClean` and `MorePartClean` one without. A line that races says so in a
 comment of the source, as in `race: lostUpdate`. Exactly these lines have to be listed. Those of `Stars`,
 `SharedStars` and `PartStars` have no race either, and each line with a comment as `star: swapped` has to be named as
-not looked into. The races of `Meant` are silenced by comments, but for lines that say so. A run of those of
+not looked into. The last line of a run of those of `Counts` has to count what their comment says. The races of `Meant` are silenced by comments, but for lines that say so. A run of those of
 `Children` has to be incomplete, and names where they start another JVM. The odd programs of `Odd` have to write what
 they write unwatched.
 
@@ -135,6 +135,16 @@ def fault_of(folder: Path, program: Program) -> str | None:
     return None
 
 
+def fault_of_count(folder: Path, program: Program) -> str | None:
+    """What is wrong with a run of a program whose comment says how many places and things are counted."""
+    source = (SOURCES / f"{program.type}.java").read_text()
+    (due,) = re.findall(rf"/\*\* Counts (\d+ places? of \d+ things?).*\*/\n    static void {program.name}\(", source)
+    ran = watched(folder, [program.type, program.name])
+    if f": {due}, " not in ran.errors.splitlines()[-1]:
+        return f"not {due}\n{ran.errors}"
+    return None
+
+
 def unwatched(folder: Path, words: list[str]) -> Ran:
     ran = subprocess.run(
         ["java", *BRIEF, "-cp", str(folder / "programs"), *words], capture_output=True, text=True, timeout=MOST_SECONDS,
@@ -160,6 +170,7 @@ FAULTS = (
     ("Handed", fault_of), ("HandedRaces", fault_of), ("Guarded", fault_of), ("GuardedRaces", fault_of),
     ("Mapped", fault_of), ("MappedRaces", fault_of), ("Staged", fault_of), ("StagedRaces", fault_of),
     ("Requested", fault_of), ("RequestedRaces", fault_of),
+    ("Counts", fault_of_count),
     ("Children", fault_of_parent), ("Odd", fault_of_odd), ("Meant", fault_of_meant),
 )
 """The classes of programs, and what looks at a run of one."""

@@ -5,6 +5,7 @@ from __future__ import annotations
 import contextlib
 import json
 import os
+import re
 import resource
 import signal
 import subprocess
@@ -24,6 +25,7 @@ from itc_trace.analyse.distinct import Distinct
 from itc_trace.analyse.divided_journal import divided
 from itc_trace.analyse.lasting import LastingFinder, LastingThings
 from itc_trace.analyse.parts import races_of_parts
+from itc_trace.analyse.races import find_races
 from itc_trace.analyse.trace import Trace
 from itc_trace.model.digests import number_of
 from itc_trace.model.verdict import END_ROW, Cause
@@ -122,6 +124,25 @@ class InFolder(unittest.TestCase):
         with mock.patch.object(parts_beside, "FEWEST_BYTES", ALWAYS if beside else NEVER):
             with mock.patch.object(os, "sched_getaffinity", lambda _: {0, 1, 2}):
                 return races_of_parts(journal.written(self.folder))
+
+
+class Counts(InFolder):
+    """How many things and places there are."""
+
+    def test_what_a_process_has_counted_stands_in_place_of_its_rows(self) -> None:
+        for beside in (False, True):
+            journal = Journal(3, 20)
+            journal.lines = [re.sub(r'"thing":"(#\d*[02468])"', r'"thing":"\1 of java"', line) for line in journal.lines]
+            journal.lines.insert(-1, '{"looked_at":"java","things":7,"places":9}\n')
+            found = self.looked_at(journal, beside)
+            self.assertEqual((found.things, found.places, found.unseen), (31 + 7, 31 + 9, []), beside)
+
+    def test_it_does_so_in_a_run_of_one_part_and_its_last_word_counts(self) -> None:
+        touches = [("x of java", "x"), ("y of java", "y"), ("y of java", "y"), ("z of java", ""), ("x of python", "x")]
+        rows = [line_of(Row(1, "a", thing, "read", "a.py", 7, "", name)) for thing, name in touches]
+        told = [f'{{"looked_at":"java","things":{count},"places":{count + 2}}}\n' for count in (4, 5)]
+        found = find_races("t", 0, [*rows, *told, END_ROW])
+        self.assertEqual((found.things, found.places, found.unseen), (5 + 2, 7 + 2, []))
 
 
 class Memory(InFolder):

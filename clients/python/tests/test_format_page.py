@@ -74,6 +74,7 @@ OF_OTHER_RUNS = {
     "site": '{"site":"s","file":"a","line":1,"function":"f"}', "unseen": '{"unseen":"full","text":"it is"}', "text": '{"unseen":"full","text":"it is"}',
     "border": '{"border":2,"positions":[[7,1]],"tasks":[7]}', "positions": '{"border":2,"positions":[[7,1]],"tasks":[7]}',
     "tasks": '{"border":2,"positions":[[7,1]],"tasks":[7]}', "process": '{"process":"store","tag":"store_"}', "tag": '{"process":"store","tag":"store_"}',
+    **dict.fromkeys(("looked_at", "things", "places"), '{"looked_at":"java","things":1,"places":2}'),
     "signal": '{"signal":"k"}', "test": '{"test":"ShopTest.sells()","task":"a"}', "path": '{"source":"a","lines":{"1":"x"},"path":"b/a"}', "part": '{"event":7,"task":"root","thing":null,"kind":"local","file":"a","line":1,"label":"x","part":2}',
     **dict.fromkeys(("deadlock", "holds", "held_at", "wanted_at"), '{"deadlock":[{"task":"a","holds":"k","held_at":"a:1","wants":"m","wanted_at":"a:2"}]}'),
 }

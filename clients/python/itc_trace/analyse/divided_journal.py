@@ -20,7 +20,7 @@ from ..model.digests import number_of
 from ..model.verdict import Cause, Unseen
 from ..record.bit_filter import BitFilter
 from ..record.dividing import Border, Report
-from ..record.journal import Aside, Asides, Besides, Journal, Row, read_line, whole_lines
+from ..record.journal import Aside, Asides, Besides, Journal, LookedAt, Row, read_line, whole_lines
 from ..session import Refused
 from .lasting import LastingFinder, LastingThings, file_of
 
@@ -50,6 +50,8 @@ class Part:
     """How many of its lines are no rows."""
     reports: list[str] | None = None
     """Its requests, if some of the rows are left out."""
+    looked_at: tuple[LookedAt, ...] = ()
+    """How many things there are of processes that have counted theirs."""
 
     def may_follow(self, events: int) -> bool:
         """Whether the part before has all events that this one begins with, if it has so many."""
@@ -91,7 +93,9 @@ class DividedJournal:
     def part(self, number: int) -> Part:
         """The part of this number, from 1 on. It is Refused if nothing tells how it began."""
         rows = list(self._rows(number))
-        part = Part([row for row in rows if row is not None], self.borders.get(number), number)
+        part = Part(
+            [row for row in rows if row is not None], self.borders.get(number), number, looked_at=self.told.looked_at,
+        )
         part.damaged = len(rows) - len(part.rows)
         part.last = self.last if number == self.count else None
         if number > 1 and part.border is None:

@@ -44,7 +44,7 @@ class Counted(NamedTuple):
     touches: int
     events: int
     places: frozenset[int]
-    """The numbers of places, each with its thing."""
+    """The numbers of places, each with its thing. What a process has counted itself is not among them."""
     things: frozenset[int]
     """The numbers of things."""
 
@@ -96,18 +96,19 @@ def find_in_part(
             text = f"{part.damaged} lines of part {part.number} of the journal are none"
             found.unseen.append(Unseen(Cause.JOURNAL, text))
         ended = frozenset(row.task for row in part.rows if row.kind == "end" and not row.is_touch)
-        looked_at = InPart(part, found, trace.whole, _counted(part.rows), ended)
+        looked_at = InPart(part, found, trace.whole, _counted(part), ended)
         found.questions += trace.questions
         return looked_at
 
 
-def _counted(rows: list[Row]) -> Counted:
-    touches = [row for row in rows if row.is_touch and row.kind != MAKING]
-    places = {(row.thing, row.place) for row in touches}
+def _counted(part: Part) -> Counted:
+    touches = [row for row in part.rows if row.is_touch and row.kind != MAKING]
+    counted = [row for row in touches if not any(one.has(row) for one in part.looked_at)]
+    places = {(row.thing, row.place) for row in counted}
     return Counted(
-        len(touches), len({row.event for row in rows}),
+        len(touches), len({row.event for row in part.rows}),
         frozenset(number_of(f"{thing} {place}") for thing, place in places),
-        frozenset(number_of(thing or "") for thing in {row.thing for row in touches}),
+        frozenset(number_of(thing or "") for thing in {row.thing for row in counted}),
     )
 
 

@@ -31,7 +31,7 @@ from ..model.lock_identity import ANSWER, REQUEST
 from ..model.verdict import Cause, Unseen, end_row
 from ..record.collector import NoCollector
 from ..record.dividing import Border
-from ..record.journal import BORDER, Row
+from ..record.journal import BORDER, LookedAt, Row
 from ..session import Refused
 
 UNSEEN_TURNS = (
@@ -227,7 +227,8 @@ def _races_of(parts: DividedJournal, looking: Looking, bar: Bar | None, export: 
         sources=sources_of(told.sources, told.processes, told.tests),
     )
     try:
-        with contextlib.closing(_counted(_looked_at(parts, looking.strict, bar, export), found)) as looked_at:
+        by_parts = _looked_at(parts, looking.strict, bar, export)
+        with contextlib.closing(_counted(by_parts, found, told.looked_at)) as looked_at:
             find_in_parts(looked_at, found, looking.strict, collected, told.signals, parts.lasting)
     except (NoCollector, NotLookedAt, OSError, Refused) as fault:
         found.unseen.append(Unseen(Cause.COLLECTOR, f"the collector does not tell the order of events ({fault})"))
@@ -247,7 +248,7 @@ def _looked_at(parts: DividedJournal, is_strict: bool, bar: Bar | None, export: 
     return one_by_one(map(parts.part, range(1, parts.count + 1)), is_strict, signals, collected, bar, keep)
 
 
-def _counted(looked_at: _LookedAt, found: Races) -> _LookedAt:
+def _counted(looked_at: _LookedAt, found: Races, told: tuple[LookedAt, ...]) -> _LookedAt:
     """The same. What they have is counted."""
     with contextlib.closing(looked_at), Distinct() as places, Distinct() as things:
         try:
@@ -258,7 +259,8 @@ def _counted(looked_at: _LookedAt, found: Races) -> _LookedAt:
                 things.add(one.counted.things)
                 yield one
         finally:
-            found.places, found.things = places.count(), things.count()
+            found.places = places.count() + sum(one.places for one in told)
+            found.things = things.count() + sum(one.things for one in told)
 
 
 class _Exports:

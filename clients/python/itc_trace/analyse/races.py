@@ -325,8 +325,9 @@ def races_of(
         events=len({row.event for row in rows}),
     )
     found.sources = sources_of(whole.sources, whole.processes, whole.tests)
-    found.places = len({(row.thing, row.place) for row in touches})
-    found.things = len({row.thing for row in touches})
+    counted = [row for row in touches if not any(one.has(row) for one in whole.looked_at)]
+    found.places = len({(row.thing, row.place) for row in counted}) + sum(one.places for one in whole.looked_at)
+    found.things = len({row.thing for row in counted}) + sum(one.things for one in whole.looked_at)
     things = [thing for thing in _things_of(rows) if thing.may_race]
     if things or has_cycle(waits_of(rows, whole.signals)):
         with Session(tenant, port, "view", host, LONGEST_ANSWER) as view:

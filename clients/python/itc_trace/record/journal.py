@@ -122,6 +122,7 @@ class Journal(NamedTuple):
     left: tuple[Left, ...] = ()
     permits: tuple[PermitsTold, ...] = ()
     tests: tuple[OfTest, ...] = ()
+    looked_at: tuple[LookedAt, ...] = ()
 
 
 class NoJournal(Exception):
@@ -177,6 +178,8 @@ class Besides:
     _left: list[Left] = field(default_factory=list)
     _permits: list[PermitsTold] = field(default_factory=list)
     _tests: list[OfTest] = field(default_factory=list)
+    _looked_at: dict[str, LookedAt] = field(default_factory=dict)
+    """The last word of each process."""
     _children: Children = field(default_factory=lambda: Children())
     _count: Count = field(default_factory=lambda: Count())
 
@@ -207,6 +210,8 @@ class Besides:
             self._processes.append(read)
         elif isinstance(read, OfTest):
             self._tests.append(read)
+        elif isinstance(read, LookedAt):
+            self._looked_at[read.process] = read
         elif isinstance(read, SiteTold):
             self.known.add_site(read)
         elif isinstance(read, Unseen):
@@ -251,7 +256,7 @@ class Besides:
             rows, [*self.unseen, *unseen], self.missing, self._passed_over, frozenset(self._signals),
             tuple(self._sources), tuple(self._processes), tuple(self._deadlocks), tuple(self._left),
             tuple(self._permits),
-            tuple(self._tests),
+            tuple(self._tests), tuple(self._looked_at.values()),
         )
 
 
@@ -544,6 +549,8 @@ def read_line(line: str) -> Read | None:
             return PermitsTold(str(read["permits"]), int(read["begun"]), given)
         if "process" in read:
             return ProcessTold(str(read["tag"]), str(read["process"]))
+        if "looked_at" in read:
+            return LookedAt(str(read["looked_at"]), int(read["things"]), int(read["places"]))
         if "test" in read:
             return OfTest(str(read["task"]), str(read["test"]))
         if "source" in read:
@@ -588,6 +595,21 @@ class OfTest(NamedTuple):
     test: str
 
 
+class LookedAt(NamedTuple):
+    """How many things several tasks of a process have touched, and how many lines have touched each of them, in all.
+
+    Some of them have no rows.
+    """
+
+    process: str
+    things: int
+    places: int
+
+    def has(self, row: Row) -> bool:
+        """Whether the thing of a touch is among them. One that the program has named itself is not."""
+        return bool(row.name) and row.thing is not None and row.thing.endswith(f" of {self.process}")
+
+
 def border_row(number: int, border: Border) -> str:
     """The line of the border before the part of this number. The first part has none."""
     told = {"border": number, "positions": border.positions, "tasks": border.tasks}
@@ -603,7 +625,7 @@ class Begun(NamedTuple):
 
 Read = (
     Row | Aside | SiteTold | Unseen | PassedOver | Left | SourceText | ChildTold | DeadlockTold | SignalTold |
-    PermitsTold | ProcessTold | OfTest | Begun | End
+    PermitsTold | ProcessTold | OfTest | LookedAt | Begun | End
 )
 """What a line of a journal says."""
 

@@ -63,17 +63,18 @@ final class Cell implements Touched {
     @DontInline
     private void touchFirst(Place place) {
         Run run = Run.of(place);
-        if (run != null && !Trusting.keeps(run, this, 0, () -> add(run.underLocksOfNow()))) {
-            add(run);
+        if (run != null && !Trusting.keeps(run, this, 0, () -> add(run.underLocksOfNow()).count(run))) {
+            add(run).count(run);
         }
     }
 
-    /** It was touched so. */
-    void add(Run run) {
+    /** It was touched so. Gives who has touched it before. */
+    History add(Run run) {
         History before = history;
         while (!HISTORY.compareAndSet(this, before, before.with(run, this, 0))) {
             before = history;
         }
+        return before;
     }
 
     @Override

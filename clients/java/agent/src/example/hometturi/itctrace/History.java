@@ -23,10 +23,14 @@ final class History {
     private final boolean isReadByOthers;
 
     private final boolean isWrittenByOthers;
+    /** Whether several tasks have touched it. */
+    private final boolean isShared;
+
     private final int hash;
 
-    private History(Run[] runs, boolean isReadByOthers, boolean isWrittenByOthers) {
+    private History(Run[] runs, boolean isReadByOthers, boolean isWrittenByOthers, boolean isShared) {
         this.runs = runs;
+        this.isShared = isShared;
         this.isReadByOthers = isReadByOthers;
         this.isWrittenByOthers = isWrittenByOthers;
         hash = runs.length == 0 ? 0 : runs[runs.length - 1].likeness();
@@ -34,7 +38,7 @@ final class History {
 
     /** That of things that nobody has touched. */
     static History empty() {
-        return new History(NOBODY, false, false);
+        return new History(NOBODY, false, false, false);
     }
 
     /** Whether this thread has done the same in the same stretch. */
@@ -109,7 +113,10 @@ final class History {
             }
         }
         put(run, left, count++);
-        return count > MOST ? forgetEnded(left, count, things, index) : of(left, count, isReadByOthers, isWrittenByOthers);
+        boolean isSharedNow = isSharedBy(run);
+        return count > MOST
+                ? forgetEnded(left, count, things, index, isSharedNow)
+                : of(left, count, isReadByOthers, isWrittenByOthers, isSharedNow);
     }
 
     /** It comes last. What one task has done in one stretch stands in any order, so it is always the same one. */
@@ -132,11 +139,35 @@ final class History {
         return -1;
     }
 
-    private static History of(Run[] runs, int count, boolean isRead, boolean isWritten) {
-        return new History(count == runs.length ? runs : Arrays.copyOf(runs, count), isRead, isWritten);
+    /** Whether several tasks have touched it with this one. Else all that are kept are of one task. */
+    private boolean isSharedBy(Run run) {
+        return isShared || runs.length > 0 && runs[0].task != run.task;
     }
 
-    private History forgetEnded(Run[] all, int count, Touched things, int index) {
+    /** This one is the next. The thing counts once several tasks have touched it, and so does each line of the program. */
+    void count(Run run) {
+        if (isShared && !hasLineOf(run)) {
+            Counted.addLine();
+        } else if (!isShared && isSharedBy(run)) {
+            long lines = Arrays.stream(runs).map(one -> one.place.site().withoutFunction()).distinct().count();
+            Counted.addThing((int) lines + (hasLineOf(run) ? 0 : 1));
+        }
+    }
+
+    private boolean hasLineOf(Run run) {
+        for (Run one : runs) {
+            if (run.isAtLineOf(one)) {
+                return true;
+            }
+        }
+        return false;
+    }
+
+    private static History of(Run[] runs, int count, boolean isRead, boolean isWritten, boolean isShared) {
+        return new History(count == runs.length ? runs : Arrays.copyOf(runs, count), isRead, isWritten, isShared);
+    }
+
+    private History forgetEnded(Run[] all, int count, Touched things, int index, boolean isSharedNow) {
         boolean isRead = isReadByOthers;
         boolean isWritten = isWrittenByOthers;
         int left = 0;
@@ -149,6 +180,6 @@ final class History {
                 all[left++] = all[at];
             }
         }
-        return of(all, left, isRead, isWritten);
+        return of(all, left, isRead, isWritten, isSharedNow);
     }
 }

@@ -23,6 +23,7 @@ final class Parts implements Touched {
     private static final Unsafe UNSAFE = Unsafe.getUnsafe();
 
     private final Content content;
+    private final Lines lines = new Lines();
     /** Pages of an array, or blocks of pages. */
     private final Object[] top;
 
@@ -119,6 +120,7 @@ final class Parts implements Touched {
     }
 
     private void touch(Run run, int from, int to) {
+        lines.touch(run);
         if (isArray) {
             touchPages(top, 0, run, from, to);
             return;

@@ -130,6 +130,11 @@ final class Run {
         return task == other.task && number == other.number;
     }
 
+    /** Whether both are at one line of the source, whatever they do there. */
+    boolean isAtLineOf(Run other) {
+        return place == other.place || place.site().isLineOf(other.place.site());
+    }
+
     boolean isOfLine(Run other) {
         return place == other.place && (held == other.held || held != null && held.equals(other.held));
     }

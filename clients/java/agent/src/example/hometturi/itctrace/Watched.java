@@ -163,6 +163,7 @@ public final class Watched {
 
     /** From here on it is known after which touches of others a task comes. */
     public static void keepAges() {
+        Traced.tellLast(Counted::row);
         Task.keepAges();
     }
 

@@ -7,6 +7,7 @@ import java.time.Instant;
 import java.util.HashSet;
 import java.util.List;
 import java.util.Map;
+import java.util.Objects;
 import java.util.Set;
 import java.util.concurrent.ConcurrentHashMap;
 import java.util.stream.Collectors;
@@ -127,6 +128,10 @@ record Row(
             return !name.startsWith(OWN_PACKAGE) && OF_THE_JDK.stream().noneMatch(name::startsWith);
         }
 
+        boolean isLineOf(Site other) {
+            return line == other.line && Objects.equals(file, other.file);
+        }
+
         /** The line alone. */
         Site withoutFunction() {
             return new Site(file, line, "");
@@ -233,6 +238,11 @@ record Row(
     /** The line that names what is done at this place, which nobody looks into. */
     static String passedOver(String what, Site site) {
         return "{\"passed_over\":" + quoted(what) + ",\"place\":" + quoted(site.toString()) + "}\n";
+    }
+
+    /** The line that says how many things several tasks of a process have touched, and how many lines each of these. */
+    static String lookedAt(String process, long things, long places) {
+        return "{\"looked_at\":" + quoted(process) + ",\"things\":" + things + ",\"places\":" + places + "}\n";
     }
 
     /** The line that says that a task is of this test. */

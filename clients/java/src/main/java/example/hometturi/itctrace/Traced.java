@@ -33,6 +33,7 @@ import java.util.concurrent.locks.Lock;
 import java.util.concurrent.locks.ReadWriteLock;
 import java.util.concurrent.locks.ReentrantReadWriteLock;
 import java.util.concurrent.locks.StampedLock;
+import java.util.function.UnaryOperator;
 
 /**
  * What a program marks and wraps, so that its order and its touches are reported behind its back. It reports where the environment
@@ -44,6 +45,8 @@ import java.util.concurrent.locks.StampedLock;
 public final class Traced {
     /** What the end of the process does first. */
     private static volatile Runnable beforeEnd = () -> {};
+    /** What stands in front of the journal's last line, by the name of the process. */
+    private static volatile UnaryOperator<String> lastRow = process -> "";
 
     private static final Gives BEFORE = Gives.order("mark", "before", "after");
     private static final Tracer TRACER = begin();
@@ -270,6 +273,15 @@ public final class Traced {
     /** The end of the process does this first. */
     static void beforeEnd(Runnable body) {
         beforeEnd = body;
+    }
+
+    /** This stands in front of the journal's last line. It gets the name of the process. */
+    static void tellLast(UnaryOperator<String> row) {
+        lastRow = row;
+    }
+
+    static String lastRow(String process) {
+        return lastRow.apply(process);
     }
 
     /** This thread reads or writes the thing, which is of this process, at the line that calls this. */

@@ -877,7 +877,7 @@ final class Tracer {
             served = wanted;
             gone.tell(unsent); // Behind all receipts, which were noted before.
             lines = isLast ? "" : unsent.toString();
-            rows = unwritten + (settles ? lastLine : "");
+            rows = unwritten + (settles ? Traced.lastRow(process) + lastLine : "");
             unsent.setLength(0);
             unwritten.setLength(0);
         }
