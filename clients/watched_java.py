@@ -169,7 +169,7 @@ FAULTS = (
     ("PartClean", fault_of), ("PartStars", fault_of_starred), ("MorePartRaces", fault_of), ("MorePartClean", fault_of),
     ("Handed", fault_of), ("HandedRaces", fault_of), ("Guarded", fault_of), ("GuardedRaces", fault_of),
     ("Mapped", fault_of), ("MappedRaces", fault_of), ("Staged", fault_of), ("StagedRaces", fault_of),
-    ("Requested", fault_of), ("RequestedRaces", fault_of),
+    ("Requested", fault_of), ("RequestedRaces", fault_of), ("Handles", fault_of), ("HandlesRaces", fault_of),
     ("Counts", fault_of_count),
     ("Children", fault_of_parent), ("Odd", fault_of_odd), ("Meant", fault_of_meant),
 )

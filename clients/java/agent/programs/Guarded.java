@@ -266,6 +266,21 @@ public final class Guarded {
                 });
     }
 
+    /** Who asks for an element that is not there keeps nobody out. */
+    static void beyondTheArray() throws InterruptedException {
+        AtomicIntegerArray counts = new AtomicIntegerArray(4);
+        Handed.Body look =
+                () -> {
+                    try {
+                        counts.incrementAndGet(4);
+                    } catch (IndexOutOfBoundsException expected) {
+                        counts.incrementAndGet(3);
+                    }
+                };
+        both(look, look);
+        System.out.println(counts.get(3));
+    }
+
     static void stampedReference() throws InterruptedException {
         AtomicStampedReference<Store> last = new AtomicStampedReference<>(new Store(), 0);
         Handed.Body push =

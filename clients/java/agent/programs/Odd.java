@@ -6,6 +6,7 @@ import java.io.ObjectOutputStream;
 import java.io.ObjectStreamClass;
 import java.io.Serializable;
 import java.lang.invoke.MethodHandles;
+import java.lang.invoke.VarHandle;
 import java.lang.reflect.Field;
 import java.util.ArrayDeque;
 import java.util.ArrayList;
@@ -154,6 +155,25 @@ public final class Odd {
             throw new UnsupportedOperationException("deep");
         }
         return fails(depth - 1) + field;
+    }
+
+    static void handled() throws Exception {
+        VarHandle field = MethodHandles.lookup().findVarHandle(Odd.class, "field", int.class);
+        VarHandle numbers = MethodHandles.arrayElementVarHandle(int[].class);
+        System.out.println((int) field.getAndAdd(new Odd(), 3) + field.toString());
+        Runnable[] wrong = {
+            () -> numbers.setVolatile(new int[3], 3, 9),
+            () -> field.set((Object) "no field", 9),
+            () -> field.set(new Odd(), "no number"),
+            () -> field.getVolatile((Odd) null)
+        };
+        for (Runnable one : wrong) {
+            try {
+                one.run();
+            } catch (RuntimeException expected) {
+                print(expected);
+            }
+        }
     }
 
     static void traces() throws Exception {

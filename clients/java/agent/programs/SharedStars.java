@@ -16,6 +16,7 @@ import java.lang.reflect.Method;
 import java.net.URL;
 import java.net.URLConnection;
 import java.nio.ByteBuffer;
+import java.nio.ByteOrder;
 import java.security.KeyPairGenerator;
 import java.text.BreakIterator;
 import java.text.MessageFormat;
@@ -124,7 +125,8 @@ public final class SharedStars {
     }
 
     static void byHandles() throws Exception {
-        VarHandle left = MethodHandles.lookup().findVarHandle(Store.class, "left", int.class);
+        VarHandle volatileOne = MethodHandles.lookup().findVarHandle(Store.class, "sold", int.class);
+        VarHandle bytes = MethodHandles.byteArrayViewVarHandle(int[].class, ByteOrder.BIG_ENDIAN);
         AtomicIntegerFieldUpdater<Store> sold = AtomicIntegerFieldUpdater.newUpdater(Store.class, "sold");
         MethodHandle adding = MethodHandles.lookup().findVirtual(List.class, "add", MethodType.methodType(boolean.class, Object.class)); // star: byHandles
         Method putting = Map.class.getMethod("put", Object.class, Object.class);
@@ -133,8 +135,10 @@ public final class SharedStars {
         List<String> names = new ArrayList<>();
         both(
                 () -> {
-                    left.set(store, 7); // star: byHandles
-                    sold.set(store, 8); // star: byHandles
+                    volatileOne.set(store, 7); // star: byHandles
+                    bytes.set(new byte[4], 0, 7); // star: byHandles
+                    sold.updateAndGet(store, number -> number + 1); // star: byHandles
+                    volatileOne.compareAndExchange(store, 8, 9); // star: byHandles
                     try {
                         putting.invoke(stock, "pear", 1); // star: byHandles
                         boolean isNew = (boolean) adding.invoke(names, "one");

@@ -7,6 +7,8 @@ LOOKUP, LENGTH, KEYS, ITERATION = "lookup", "length", "keys", "iteration"
 ADDITION, REMOVAL, REPLACEMENT, REWRITE = "addition", "removal", "replacement", "rewrite"
 INNER_READ, INNER_WRITE = "inner read", "inner write"
 """What is touched is a part of the thing, and nobody looks which, or what is done with the thing is not known."""
+ATOMIC_READ, ATOMIC_WRITE = "atomic read", "atomic write"
+"""A handle of Java touches the variable in a mode that does not race with another one of this kind."""
 MAKING = "making"
 """The thing is made here. It conflicts with nothing, and tells whose the thing was at first."""
 
@@ -33,16 +35,18 @@ _PAIRS = (
     *((REPLACEMENT, kind) for kind in (READ, WRITE, ITERATION, REWRITE)),
     *((INNER_WRITE, kind) for kind in (INNER_WRITE, INNER_READ, WRITE, READ)),
     (INNER_READ, WRITE), (INNER_READ, REPLACEMENT),
+    *((ATOMIC_WRITE, kind) for kind in (READ, WRITE, INNER_READ, INNER_WRITE)),
+    *((ATOMIC_READ, kind) for kind in (WRITE, INNER_WRITE)),
 )
 
 CONFLICTING: dict[str, frozenset[str]] = {
     kind: frozenset({one for pair in _PAIRS if kind in pair for one in pair if one != kind or pair == (kind, kind)})
     for kind in (
         READ, WRITE, LOOKUP, LENGTH, KEYS, ITERATION, ADDITION, REMOVAL, REPLACEMENT, REWRITE, INNER_READ, INNER_WRITE,
-        MAKING, STEP,
+        ATOMIC_READ, ATOMIC_WRITE, MAKING, STEP,
     )
 }
 """Of each kind those that conflict with it."""
 
-CHANGING = frozenset({WRITE, REWRITE, ADDITION, REMOVAL, REPLACEMENT, INNER_WRITE})
+CHANGING = frozenset({WRITE, REWRITE, ADDITION, REMOVAL, REPLACEMENT, INNER_WRITE, ATOMIC_WRITE})
 """The kinds that change a thing. Of two kinds that conflict, one is among them."""

@@ -3,6 +3,9 @@ package example.hometturi.itctrace;
 import example.hometturi.itctrace.Place.Gives;
 import java.util.Map;
 import java.util.concurrent.ConcurrentHashMap;
+import java.util.concurrent.atomic.AtomicIntegerArray;
+import java.util.concurrent.atomic.AtomicLongArray;
+import java.util.concurrent.atomic.AtomicReferenceArray;
 import java.util.function.Consumer;
 
 /** The orders of the elements of atomic arrays. Each access and its report are one. */
@@ -12,12 +15,20 @@ public final class AtomicElements {
 
     private AtomicElements() {}
 
-    private static VolatileCell of(Object array, int index) {
+    static VolatileCell of(Object array, int index) {
         return ARRAYS.of(array, ConcurrentHashMap::new).computeIfAbsent(index, fresh -> new VolatileCell());
     }
 
+    private static int lengthOf(Object array) {
+        if (array instanceof AtomicIntegerArray numbers) {
+            return numbers.length();
+        }
+        return array instanceof AtomicLongArray numbers ? numbers.length() : ((AtomicReferenceArray<?>) array).length();
+    }
+
+    /** A call begins. It throws if there is no such element, and keeps nobody out. */
     public static void begin(Object array, int index) {
-        if (array != null) {
+        if (array != null && index >= 0 && index < lengthOf(array)) {
             of(array, index).begin();
         }
     }
@@ -46,6 +57,9 @@ public final class AtomicElements {
     /** A call that may run code of the program, or reads all elements if the index is below zero. */
     public static void order(Object array, int index) {
         if (array == null) {
+            return;
+        }
+        if (index >= lengthOf(array)) {
             return;
         }
         if (index >= 0) {

@@ -19,21 +19,26 @@ final class Cell implements Touched {
 
     /**
      * A line of the program that reads or writes a field, or an object that is watched as a whole. Then there is no field. It is inner
-     * if nobody knows which part of the object it is of, or what is done with it.
+     * if nobody knows which part of the object it is of, or what is done with it. It is atomic if it is done by a handle in such a mode.
      */
-    record Place(Field field, boolean writes, boolean isInner, Site site, Place inner) {
+    record Place(Field field, boolean writes, boolean isInner, boolean isAtomic, Site site, Place inner) {
         /** One of a field. */
         Place(Field field, boolean writes, Site site) {
-            this(field, writes, false, site, null);
+            this(field, writes, false, false, site, null);
         }
 
         /** One of an object of the JDK, or of an element. It knows what it is if nobody knows which part it is of. */
         Place(boolean writes, Site site) {
-            this(null, writes, false, site, new Place(null, writes, true, site, null));
+            this(null, writes, false, false, site, new Place(null, writes, true, false, site, null));
+        }
+
+        /** One that does not race with another one of this kind. */
+        static Place atomic(boolean writes, Site site) {
+            return new Place(null, writes, false, true, site, new Place(null, writes, true, false, site, null));
         }
 
         String kind() {
-            return (isInner ? "inner " : "") + (writes ? "write" : "read");
+            return (isInner ? "inner " : isAtomic ? "atomic " : "") + (writes ? "write" : "read");
         }
     }
 

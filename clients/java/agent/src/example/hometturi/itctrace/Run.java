@@ -142,13 +142,18 @@ final class Run {
     /** Whether it may race with an earlier one: neither is it behind that by more than luck, nor have both a lock. */
     boolean mayRaceWith(Run before) {
         boolean conflicts = task != before.task && (place.writes() || before.place.writes());
-        return conflicts && !task.comesAfter(before.task, before.age) && !Held.shareOne(held, before.held);
+        return conflicts && !areAtomic(before) && !task.comesAfter(before.task, before.age) && !Held.shareOne(held, before.held);
+    }
+
+    private boolean areAtomic(Run other) {
+        return place.isAtomic() && other.place.isAtomic();
     }
 
     /** Whether whatever comes later, and races with the earlier one, races with this one, too. */
     boolean standsFor(Run before) {
         boolean isAsMuch = (place.writes() || !before.place.writes()) && (!place.isInner() || before.place.isInner());
-        return isAsMuch && Held.hasAllOf(before.held, held) && (task == before.task || task.comesAfter(before.task, before.age));
+        boolean isAsPlain = !place.isAtomic() || before.place.isAtomic();
+        return isAsMuch && isAsPlain && Held.hasAllOf(before.held, held) && (task == before.task || task.comesAfter(before.task, before.age));
     }
 
     /** Adds a row. It is there once this, or what another thread has begun, is known as told. */

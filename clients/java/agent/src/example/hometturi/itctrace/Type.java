@@ -21,6 +21,7 @@ public final class Type {
     private int size;
 
     private List<Field> variables = List.of();
+    private Map<String, Field> fields = Map.of();
 
     private volatile long offset = UNKNOWN;
     /** Where the variables of objects lie that have no such field. */
@@ -37,6 +38,17 @@ public final class Type {
     /** As a class file names it. */
     public String internalName() {
         return name.replace('.', '/');
+    }
+
+    /** The field of this name, which a class that is watched declares. Null if there is none. */
+    static Field fieldOf(String type, String name) {
+        Type known = KNOWN.get(type);
+        return known == null ? null : known.fields.get(name);
+    }
+
+    /** All that the class declares, by their names. */
+    public void setFields(Map<String, Field> all) {
+        fields = all;
     }
 
     /** What the objects of the class have, and may be changed. */

@@ -47,6 +47,22 @@ final class VolatileCell {
         }
     }
 
+    /** The access has read what was there, and goes on. */
+    void take(Site site) {
+        if (Traced.isOn()) {
+            givers.take(site);
+        }
+    }
+
+    /** The access has written, or is about to, and goes on. If it has come after all before, this place stands for them. */
+    void give(Gives gives, Site site, boolean isBehindAll) {
+        if (Traced.isOn() && isBehindAll) {
+            givers.replace(gives, site);
+        } else if (Traced.isOn()) {
+            givers.give(gives, site);
+        }
+    }
+
     /** The access has read what was there, and has written. This place stands for all before. */
     void endChange(Gives gives, Site site) {
         try {

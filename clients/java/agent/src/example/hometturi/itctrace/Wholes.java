@@ -230,6 +230,16 @@ final class Wholes {
         }
     }
 
+    /** The same by a place of its own. There is such an element. */
+    static void touchElement(Object array, int index, Cell.Place place) {
+        Content content = cellsOf(array).content;
+        if (content.elements == null) {
+            content.shape.touch(place.inner());
+        } else {
+            content.elements.touch(place, index, index + 1);
+        }
+    }
+
     /** The same of the elements from a number on up to another one. A call throws if there are none. */
     static void touchRange(Object array, int from, int to, Use use, boolean isSure) {
         if (array.getClass().isArray() && Traced.isOn() && from >= 0 && from <= to && to <= lengthOf(array)) {

@@ -4,6 +4,7 @@ import static example.hometturi.itctrace.agent.Rewriter.hook;
 import static example.hometturi.itctrace.agent.Rewriter.listOf;
 
 import example.hometturi.itctrace.Entries;
+import example.hometturi.itctrace.Handles;
 import example.hometturi.itctrace.Watched;
 import java.util.Arrays;
 import java.util.HashSet;
@@ -116,7 +117,7 @@ final class Calls {
     private static final List<String> UNSEEN =
             List.of(
                     "java/lang/reflect/Field.get", "java/lang/reflect/Field.set",
-                    "java/lang/invoke/MethodHandles.arrayElement", "jdk/internal/misc/Unsafe.",
+                    "java/lang/invoke/MethodHandles.arrayElementGetter", "java/lang/invoke/MethodHandles.arrayElementSetter", "jdk/internal/misc/Unsafe.",
                     "sun/misc/Unsafe.",
                     "java/lang/Thread.startVirtualThread",
                     "java/lang/Thread.ofVirtual", CONCURRENT + "Executors.newVirtualThread",
@@ -129,19 +130,26 @@ final class Calls {
                     "java/io/ObjectInputStream.readUnshared");
     /** What gives a handle of a method. If that is one of the JDK, a call by it has no hook. */
     private static final Set<String> FINDING = Set.of("findVirtual", "findSpecial", "findStatic", "bind", "unreflect", "unreflectSpecial");
+    /** What a VarHandle tells of itself. */
+    private static final Set<String> ASKING_HANDLES =
+            Set.of(
+                    "isAccessModeSupported", "varType", "coordinateTypes", "accessModeType", "describeConstable", "hasInvokeExactBehavior",
+                    "withInvokeBehavior", "withInvokeExactBehavior");
     private static final Set<String> OF_A_FIELD_HANDLE = Set.of("setAccessible", "getType", "getName", "getModifiers", "getAnnot", "getGenericType", "getDecl");
 
     private final Classes classes;
     private final ClassLoader loader;
     private final ClassNode node;
     private final MethodNode method;
+    private final String function;
     private final InsnList code;
 
-    Calls(Classes classes, ClassLoader loader, ClassNode node, MethodNode method) {
+    Calls(Classes classes, ClassLoader loader, ClassNode node, MethodNode method, String function) {
         this.classes = classes;
         this.loader = loader;
         this.node = node;
         this.method = method;
+        this.function = function;
         code = method.instructions;
     }
 
@@ -170,7 +178,9 @@ final class Calls {
             code.insertBefore(call, listOf(kept.load(-1), hook("local", OF_ANY)));
         } else if (isUnseen(owner, call.name)) {
             pass(call, owner, call.name, line);
-        } else if (isOnObject && isOfField(owner)) {
+        } else if (isOnObject && Handles.isFollowed(owner, call.name) && call.owner.equals(owner)) {
+            new HandleCalls(node, method, function).rewrite(call, owner, numberOf(owner, call.name, line), line);
+        } else if (isOnObject && isOfField(owner) && !ASKING_HANDLES.contains(call.name)) {
             pass(call, owner, call.name, line);
             around(call, owner, line);
         } else if (isOnObject && owner.equals("java/lang/reflect/Method") && call.name.equals("invoke")) {

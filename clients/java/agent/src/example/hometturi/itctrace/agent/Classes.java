@@ -16,6 +16,7 @@ import java.util.OptionalInt;
 import java.util.Set;
 import java.util.WeakHashMap;
 import java.util.concurrent.ConcurrentHashMap;
+import java.util.stream.Collectors;
 import org.objectweb.asm.ClassReader;
 import org.objectweb.asm.ClassVisitor;
 import org.objectweb.asm.FieldVisitor;
@@ -75,6 +76,9 @@ final class Classes {
 
         @Override
         public void visitEnd() {
+            if (isWatched) {
+                type.setFields(fields.stream().collect(Collectors.toMap(field -> field.name().substring(simpleName.length() + 1), field -> field)));
+            }
             type.setVariables(fields.stream().filter(field -> !field.isStatic() && !field.isFinal()).toList());
         }
 

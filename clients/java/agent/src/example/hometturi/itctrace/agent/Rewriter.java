@@ -1,6 +1,7 @@
 package example.hometturi.itctrace.agent;
 
 import example.hometturi.itctrace.Field;
+import example.hometturi.itctrace.Handles;
 import example.hometturi.itctrace.Type;
 import example.hometturi.itctrace.Watched;
 import example.hometturi.itctrace.agent.Classes.Described;
@@ -118,8 +119,8 @@ final class Rewriter {
         OfMethod(MethodNode method) {
             this.method = method;
             code = method.instructions;
-            calls = new Calls(classes, loader, node, method);
             String function = described.simpleName + "." + method.name;
+            calls = new Calls(classes, loader, node, method, function);
             wholes = new WholeCalls(method, file, function);
             arrays = new ArrayCalls(method, file, function);
             references = new References(node, method, calls, made -> new OfMethod(made).rewrite());
@@ -146,7 +147,7 @@ final class Rewriter {
                     if (owner == null && call.getOpcode() == Opcodes.INVOKEINTERFACE) {
                         owner = classes.interfaceOfTheJdk(loader, call.owner);
                     }
-                    if (owner != null) {
+                    if (owner != null && !Handles.isFollowed(owner, call.name)) {
                         wholes.rewrite(call, owner, classes.declares(loader, call.owner, call.name + call.desc), line);
                     } else if (call.owner.startsWith("[")) {
                         arrays.rewriteClone(call, line);
