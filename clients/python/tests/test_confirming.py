@@ -132,7 +132,7 @@ class FurtherRuns(unittest.TestCase):
         self.assertRegex(report.findings[1].told_order, r"nothing orders them in a further run; once; id \w+$")
         self.assertEqual(race_rows(report).count("\n"), 2)  # The picture is of the first run.
 
-    def test_tasks_of_one_loop_and_of_other_processes_are_not_tried(self) -> None:
+    def test_tasks_of_one_loop_are_not_tried_and_those_of_a_child_are(self) -> None:
         one = race(1, 2)
         self.assertTrue(one.may_meet)
         one.example = (row(1, "a", loop=1), row(2, "b", loop=1))
@@ -140,7 +140,7 @@ class FurtherRuns(unittest.TestCase):
         one.example = (row(1, "a", loop=1), row(2, "b"))
         self.assertTrue(one.may_meet)
         one.example = (row(1, "a", thing="#c1_1"), row(2, "b", thing="#c1_1"))
-        self.assertFalse(one.may_meet)
+        self.assertTrue(one.may_meet)
 
     def test_runs_hold_at_both_sides_and_at_each(self) -> None:
         plans = [plan_of([race(1, 2), race(3, 4)], number) for number in range(5)]

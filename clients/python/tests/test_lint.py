@@ -40,7 +40,7 @@ OF_THE_LIBRARY = {
     "sync.managers": "_owned_by_manager _registry",
     "sync.other_orders": "_state _unfinished_tasks _value",
     "sync.pipes": "_sem _semlock _unfinished_tasks",
-    "sync.process_signals": "_cond _flag _lock _make_methods _semlock",
+    "sync.process_signals": "_cond _flag _is_zero _lock _make_methods _semlock _sleeping_count _wait_semaphore",
     "sync.processes": "_count _is_mine _is_zero _make_methods _registry",
     "sync.python_rlocks": "_count _is_owned",
     "sync.queues": "_lock _qsize",

@@ -37,7 +37,7 @@ def is_poll_of_library(name: str) -> bool:
 
 
 def _without_lock(row: Row) -> str | None:
-    return f"{NO_LOCK}a permit" if row.label in _OF_PERMITS else None
+    return f"{NO_LOCK}a permit" if row.label in _OF_PERMITS or row.permit is not None else None
 
 
 def polls_of(rows: Iterable[Row]) -> dict[int, Row]:
@@ -54,11 +54,11 @@ def needed_of(rows: Iterable[Row], told: Iterable[PermitsTold]) -> dict[int, lis
 
     An acquire that is the tenth one of its task needs ten permits. If all others give seven, it needs three of a task.
     """
-    by_name = {one.semaphore: one for one in told}
+    begun_with, given_by = _told_by_all(told)
     given: dict[tuple[str, str], list[tuple[int, int]]] = defaultdict(list)
     taken = []
     for row in rows:
-        if row.permit is not None and row.permit[0] in by_name:
+        if row.permit is not None and row.permit[0] in begun_with:
             if row.kind == "send":
                 given[row.permit[0], row.task].append((row.permit[1], row.event))
             else:
@@ -67,11 +67,24 @@ def needed_of(rows: Iterable[Row], told: Iterable[PermitsTold]) -> dict[int, lis
     for row in taken:
         assert row.permit is not None
         semaphore, number = row.permit
-        one = by_name[semaphore]
-        lacking = number - one.begun_with - sum(one.given.values())
-        ones = [_last_up_to(given[semaphore, task], lacking + count) for task, count in one.given.items()]
+        counted = given_by[semaphore]
+        lacking = number - begun_with[semaphore] - sum(counted.values())
+        ones = [_last_up_to(given[semaphore, task], lacking + count) for task, count in counted.items()]
         needed[row.event] = [event for event in ones if 0 < event < row.event]
     return needed
+
+
+def _told_by_all(told: Iterable[PermitsTold]) -> tuple[dict[str, int], dict[str, dict[str, int]]]:
+    """How many permits each semaphore began with, and what each task has given, if each process has counted that."""
+    begun_with: dict[str, int] = {}
+    given: dict[str, dict[str, int]] = defaultdict(dict)
+    uncounted = set()
+    for one in told:
+        begun_with[one.semaphore] = one.begun_with
+        given[one.semaphore].update(one.given or {})
+        if one.given is None:
+            uncounted.add(one.semaphore)
+    return {name: count for name, count in begun_with.items() if name not in uncounted}, given
 
 
 def _last_up_to(given: list[tuple[int, int]], number: int) -> int:

@@ -88,10 +88,15 @@ class Race:
 
     @property
     def may_meet(self) -> bool:
-        """Whether two threads of this process may be had to meet here. Tasks of one loop take turns."""
+        """Whether two tasks may be had to meet here. Those of one loop take turns."""
         first, second = self.example
-        thing = first.thing or ""
-        return thing[1:].isdigit() and bool(first.file and second.file) and not 0 < first.loop == second.loop
+        return bool(first.name and first.file and second.file) and not 0 < first.loop == second.loop
+
+    @property
+    def is_of_shared(self) -> bool:
+        """Whether it is of what processes share, and the package has found."""
+        first = self.example[0]
+        return bool(first.name) and first.thing == first.name
 
     @property
     def is_inner(self) -> bool:

@@ -23,20 +23,19 @@ from .. import watch
 from ..record.dividing import LEAVE
 from ..record.faults import WORDS_REFUSED
 from ..model.file_names import call
-from ..model.handed_over import RAISED, REFUSED, Plan
+from ..model.handed_over import RAISED, REFUSED
 from ..model.verdict import Verdict
 from ..record.following import ChildProcess
 from ..own_path import leave_to_program
 from ..processes.hanging import Hanging
 from ..processes.part_collectors import SHARED, ask_for_port
 from ..sync.confirming import Confirming
-from ..sync.meeting import Meeting
 from ..sync.shaking import Shaking
 from ..sync.tracebacks import leave_out_of
 from ..record.tracer_parts import Parts
 from ..api.tracing import Tracing
 from .later_imports import hide
-from .traced_process import Ending, ended_by, may_be_asked
+from .traced_process import Ending, ended_by, may_be_asked, meeting_of
 
 INTERRUPTED = 128 + signal.SIGINT
 
@@ -53,19 +52,18 @@ def main() -> None:
     asked_at, events = configuration.pop("parts", (None, None))
     parts = None if asked_at is None else _parts(asked_at, events)
     folders = [_folder_of(words)]
-    meeting = None if plan is None else Meeting(Plan(*json.loads(Path(plan).read_text(encoding="ascii"))))
-    if meeting is not None:
-        watch.have_meet(meeting)
+    process = None if child is None else ChildProcess(*child)
+    plan = plan if process is None else process.plan
+    meeting = meeting_of(plan)
     if packages is not None:
         watch.tell_missing(packages, folders[0])
         watch.watch_loaded(folders, packages)
     shaking = None if seed is None else Shaking(seed)
-    process = None if child is None else ChildProcess(*child)
     try:
         traced = Tracing(**configuration, shaking=shaking, parts=parts, child=process).start()
     except OSError as fault:  # Another session reports, say.
         _refuse(tell, str(fault))
-    Ending(traced).begin(folders, packages, asked=asked if process is None else process.asked)
+    Ending(traced).begin(folders, packages, asked=asked if process is None else process.asked, plan=plan)
     if process is not None:
         may_be_asked(process, traced)
     elif asked is not None:

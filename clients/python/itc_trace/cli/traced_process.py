@@ -6,9 +6,11 @@ import _thread
 import atexit
 import contextlib
 import importlib
+import json
 import os
 import signal
 import threading
+from pathlib import Path
 from types import FrameType
 from typing import Any
 
@@ -16,6 +18,7 @@ from .. import watch
 from ..api.tracing import Tracing
 from ..model.frames import frame_at
 from ..model.file_names import working_folder
+from ..model.handed_over import Plan
 from ..model.verdict import Cause, Unseen
 from ..processes.hanging import HangingChild
 from ..record.following import ChildProcess, Ways, follow, is_beginning
@@ -26,6 +29,7 @@ from ..record.raised_within import keep_handler
 from ..model.lines import state
 from ..sync import left_behind
 from ..sync.base import like
+from ..sync.meeting import Meeting
 from ..sync.process_pools import take_done
 from .deferred_signals import catch_up, deferred
 from .deferred_signals import shown as as_set
@@ -43,9 +47,19 @@ CHANGING = ("alarm", "setitimer", "pthread_sigmask")
 ENDING_SIGNALS = [getattr(signal, name) for name in ("SIGTERM", "SIGHUP") if hasattr(signal, name)]
 
 
+def meeting_of(plan: str | None) -> Meeting | None:
+    """What holds tasks where they may race, by the file of a plan. It is called before anything is watched."""
+    if plan is None:
+        return None
+    meeting = Meeting(Plan(*json.loads(Path(plan).read_text(encoding="ascii"))))
+    watch.have_meet(meeting)
+    return meeting
+
+
 def begin_as_child(process: ChildProcess) -> None:
     """In a process that `multiprocessing` has started anew, before it imports the program:
     from here on it is traced."""
+    meeting = meeting_of(process.plan)
     if process.packages is not None:
         watch.watch_loaded(process.folders, process.packages)
     traced = _tracing_of(process)
@@ -53,7 +67,9 @@ def begin_as_child(process: ChildProcess) -> None:
         traced.start()
     except OSError:
         return  # The journal of its parent has no end of it.
-    Ending(traced).begin(process.folders, process.packages, process.names, process.asked)
+    Ending(traced).begin(process.folders, process.packages, process.names, process.asked, process.plan)
+    if meeting is not None:
+        meeting.begin()
     may_be_asked(process, traced)
     watch.watch_path_runs()
     hide()
@@ -112,11 +128,12 @@ class Ending:
 
     def begin(
         self, folders: list[str], packages: list[str] | None, names: str | None = None, asked: str | None = None,
+        plan: str | None = None,
     ) -> None:
         """From here on the end of this process is looked after, and its children are traced."""
         atexit.register(self.finish)
         vars(threading)["_register_atexit"](self._main_has_ended)
-        follow(self._traced, folders, packages, self._ways(), names, asked)
+        follow(self._traced, folders, packages, self._ways(), names, asked, plan)
 
     def _ways(self) -> Ways:
         return Ways(self._go_on_as, Beginning, watch.program_of)
@@ -131,7 +148,7 @@ class Ending:
             return  # The journal of its parent has no end of it.
         self._traced, self._process, self._waiting_signal = traced, os.getpid(), None
         self._is_ending = plain.allocate_lock()
-        follow(traced, process.folders, process.packages, self._ways(), process.names, process.asked)
+        follow(traced, process.folders, process.packages, self._ways(), process.names, process.asked, process.plan)
         may_be_asked(process, traced)
         for number in ENDING_SIGNALS:
             if _handler_of(number) == signal.SIG_DFL:

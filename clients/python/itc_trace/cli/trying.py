@@ -6,7 +6,7 @@ import random
 from collections.abc import Iterator, Sequence
 
 from ..analyse.races import Race
-from ..model.handed_over import Plan
+from ..model.handed_over import OF_SHARED, Plan
 
 MOST_PAIRS = 200
 """So many races are tried at once, those that are told first."""
@@ -27,13 +27,18 @@ def plan_of(races: Sequence[Race], number: int) -> Plan:
     if number >= len(_WAYS) and len(chosen) > 1:
         chosen = random.Random(number).sample(chosen, (len(chosen) + 1) // 2)
     way = number % len(_WAYS)
-    held = sorted({race.places[side] for race in chosen for side in _WAYS[way]})
+    held = sorted({_places_of(race)[side] for race in chosen for side in _WAYS[way]})
     gates = sorted({gate for race in chosen for gate in _gates_of(race)}) if way else []
-    return Plan([race.places for race in chosen], held, way < len(_WAYS) // 2, gates)
+    return Plan([_places_of(race) for race in chosen], held, way < len(_WAYS) // 2, gates)
+
+
+def _places_of(race: Race) -> tuple[str, str]:
+    first, second = race.places
+    return (f"{OF_SHARED}{first}", f"{OF_SHARED}{second}") if race.is_of_shared else (first, second)
 
 
 def _gates_of(race: Race) -> Iterator[tuple[str, str]]:
     """The locks that one side alone holds, each with the place of the other one."""
-    for side, other in zip(race.example, reversed(race.places)):
+    for side, other in zip(race.example, reversed(_places_of(race))):
         for lock in side.held:
             yield lock.partition(" ")[2], other

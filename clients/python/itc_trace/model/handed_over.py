@@ -22,11 +22,15 @@ def excluding(pattern: str) -> str:
     return f"{NOT}{pattern}"
 
 
+OF_SHARED = "@"
+"""In front of a line at which tasks are held as they touch what processes share."""
+
+
 class Plan(NamedTuple):
     """What one run is to try."""
 
     pairs: list[tuple[str, str]]
-    """The two lines of each race that is possible, as `shop.py:7`."""
+    """The two lines of each race that is possible, as `shop.py:7`, or `@shop.py:7` if it is of what processes share."""
     held: list[str]
     """The lines at which tasks are held."""
     is_exact: bool

@@ -52,13 +52,15 @@ class CountedPermits:
     tasks have given or taken them, nobody is counted any more, and which acquire comes after which release is luck.
     """
 
-    __slots__ = ("serial", "begun_with", "given", "taken", "block", "is_over")
+    __slots__ = ("serial", "across", "begun_with", "given", "taken", "block", "is_over")
 
     hint, giving, taking = "permit", "release semaphore", "acquire semaphore"
     lock = None
 
-    def __init__(self) -> None:
+    def __init__(self, across: str = "") -> None:
         self.serial = next(_serials)
+        self.across = across
+        """What several processes know it by, if they share it."""
         self.begin(0, 0)
 
     def begin(self, begun_with: int, block: int) -> None:
@@ -89,6 +91,8 @@ class CountedPermits:
         return number
 
 
+Permit = tuple[CountedPermits, int]
+"""The permits of a semaphore, and which one of its task is given or taken."""
 NOTIFY = What("notify", "notify", "wake up")
 SEMAPHORE = What("permit", "release semaphore", "acquire semaphore")
 EVENT = What("event", "set event", "see event set")

@@ -113,10 +113,15 @@ class LockIdentity:
         return 0 if self.code is None else line_of(self.code, self.instruction)
 
     @property
+    def variable(self) -> str:
+        """The one that it was given to first. It may have none."""
+        return self._found_as if self.code is None else variable_of_result(self.code, self.instruction) or ""
+
+    @property
     def name(self) -> str:
         """As `lock L (shop.py:12)`, or `stock_lock (shop.py:12)`. A later one of the same line has its number."""
         if not self._name:
-            variable = variable_of_result(self.code, self.instruction) if self.code is not None else self._found_as
+            variable = self.variable
             noun = "semaphore" if self.kind.endswith("Semaphore") else "queue" if self.is_queue else "lock"
             words = [] if variable and noun in variable.lower() else [noun]
             words += [variable] if variable else []

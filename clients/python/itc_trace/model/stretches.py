@@ -72,6 +72,12 @@ class Across(str):
     __slots__ = ()
 
 
+class SharedThing(Across):
+    """The name of a thing that several processes share, as the package has found it."""
+
+    __slots__ = ()
+
+
 STRETCHES: dict[int, Stretch] = {}
 """The stretch that each thread is in, by the thread's identity. Before its first touch there is none."""
 

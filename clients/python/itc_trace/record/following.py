@@ -19,7 +19,7 @@ from typing import Any, NamedTuple, Protocol
 
 from ..model.file_names import name_of_file
 from ..model.lines import CHILD, END, END_OF_PROCESS, JOIN, Line, Reporter, Token, state
-from .noting import current
+from .noting import joining, starting
 from ..model.frames import frame_at, place_of
 from .shared_names import PREFIX, SharedNames
 from .waiting import Waiter
@@ -61,6 +61,8 @@ class ChildProcess(NamedTuple):
     """The file of the names that processes share."""
     asked: str | None = None
     """The file by which somebody asks what its tasks wait for."""
+    plan: str | None = None
+    """The file of what the run is to try."""
 
 
 class Traced(Protocol):
@@ -102,6 +104,7 @@ class _Following:
     packages: list[str] | None = None
     ways: Ways | None = None
     asked: str | None = None
+    plan: str | None = None
     is_unfollowed: bool = False
     """Whether the program has made what orders processes, or what they share, and is not followed."""
     has_children: bool = False
@@ -119,11 +122,12 @@ _own = threading.local()
 
 def follow(
     traced: Traced, folders: list[str], packages: list[str] | None, ways: Ways, names: str | None = None,
-    asked: str | None = None,
+    asked: str | None = None, plan: str | None = None,
 ) -> None:
     """From here on the children of this process are traced.
 
-    The names that it shares with its parent are there already. By the last file somebody asks all of them.
+    The names that it shares with its parent are there already. By one file somebody asks all of them, and another one
+    has what all of them are to try.
     """
     global _following
     shared = _following.names
@@ -131,7 +135,7 @@ def follow(
         shared.after_fork()
     elif names is not None:
         shared = SharedNames(names)
-    _following = _Following(traced, folders, packages, ways, asked, names=shared)
+    _following = _Following(traced, folders, packages, ways, asked, plan, names=shared)
 
 
 def is_not_followed(what: str) -> None:
@@ -245,7 +249,8 @@ def begin(hint: str, how: str, depth: int) -> Begun | None:
         return None
     line, waiter = Line(tracer, hint), Waiter()
     line.is_process = True
-    note((CHILD, getattr(_own, "parent", None) or current(), line, waiter, *place_of(frame_of_start(depth))))
+    starter = starting(line)
+    note((CHILD, getattr(_own, "parent", None) or starter, line, waiter, *place_of(frame_of_start(depth))))
     tracer.look_after(waiter)
     if not waiter.wait(ANSWER_SECONDS):
         return None
@@ -255,6 +260,7 @@ def begin(hint: str, how: str, depth: int) -> Begun | None:
     process = ChildProcess(
         tracer.port, traced.host, traced.tenant, os.path.abspath(traced.journal), line.name, tag, tracer.part,
         _following.folders, _following.packages, None if names is None else names.path, _following.asked,
+        _following.plan,
     )
     _following.has_children = True
     traced.write(child_begun_row(tag, f"{how} at {place_of_start(depth)}"))
@@ -373,4 +379,4 @@ def has_ended(line: Line | None) -> None:
     """The current task has seen that the child process is over."""
     note = state.note
     if note is not None and line is not None and line.tracer is state.tracer:
-        note((JOIN, current(), line, *place_of(frame_of_start(2))))
+        note((JOIN, joining(line), line, *place_of(frame_of_start(2))))

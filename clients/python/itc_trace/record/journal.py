@@ -19,7 +19,7 @@ from ..model.file_names import name_of_file
 from ..model.frames import line_of
 from ..model.lines import Acquisition, CountedPermits, Touch, TouchEvent
 from ..model.lock_identity import Asking, LockOrAsking
-from ..model.stretches import SITES, Across
+from ..model.stretches import SITES, Across, SharedThing
 from ..model.verdict import BREAKS_OFF, Cause, Left, PassedOver, Unseen
 
 text_of: Callable[[str], str] = vars(json.encoder)["encode_basestring_ascii"]
@@ -468,7 +468,8 @@ class PermitsTold(NamedTuple):
 
     semaphore: str
     begun_with: int
-    given: dict[str, int]
+    given: dict[str, int] | None
+    """None if too many tasks of a process give or take permits, so that it counts nobody."""
 
 
 class ProcessTold(NamedTuple):
@@ -545,7 +546,8 @@ def read_line(line: str) -> Read | None:
         if "signal" in read:
             return SignalTold(str(read["signal"]))
         if "permits" in read:
-            given = {str(task): int(count) for task, count in read["given"].items()}
+            told = read["given"]
+            given = None if told is None else {str(task): int(count) for task, count in told.items()}
             return PermitsTold(str(read["permits"]), int(read["begun"]), given)
         if "process" in read:
             return ProcessTold(str(read["tag"]), str(read["process"]))
@@ -711,7 +713,10 @@ class TouchTexts:
         key = thing, type(thing), kind, id(code), instruction, label
         told = self._named.get(key)
         if told is None:
-            named = f'"thing":{json.dumps(self._name(thing))},"kind":"{kind}",{self._places.text(code, instruction)}'
+            name = text = json.dumps(self._name(thing))
+            if isinstance(thing, SharedThing):
+                name = f'{text},"name":{text}'
+            named = f'"thing":{name},"kind":"{kind}",{self._places.text(code, instruction)}'
             function = code.co_qualname if code else ""
             words = f'"label":{json.dumps(label or f"{kind} {thing}")},"function":{json.dumps(function)}'
             if len(self._named) >= MOST_NAMED:
@@ -742,7 +747,7 @@ class TouchTexts:
 
     def permits(self, permits: CountedPermits) -> str:
         """The name of the permits of a semaphore, which tells them from others."""
-        return f"{self._prefix}{permits.serial}"
+        return permits.across or f"{self._prefix}{permits.serial}"
 
     def name_of(self, thing: Any) -> str:
         """What tells the thing from all others, as JSON."""

@@ -7,7 +7,7 @@ from types import CodeType, FrameType
 
 from ..model.file_names import name_of_file
 from ..model.frames import line_of, place
-from ..model.lines import RECV, SEND, Reporter, state
+from ..model.lines import RECV, SEND, Permit, Reporter, state
 from ..model.lock_identity import LockIdentity
 from ..model.verdict import Cause, Unseen
 from .noting import current
@@ -41,17 +41,19 @@ class Sending:
     @staticmethod
     def begin(
         frame: FrameType | None, words: str = "to another process", message: str | None = None,
+        lock: LockIdentity | None = None, permit: Permit | None = None,
     ) -> Sending | None:
         """Sends a message from here, which carries what the words say. None where tracing is off.
 
-        It has a name of its own, unless it is given one that nobody else has.
+        It has a name of its own, unless it is given one that nobody else has. It may hand over a lock or a
+        permit.
         """
         note, tracer = state.note, state.tracer
         if note is None or tracer is None:
             return None
         waiter, where = Waiter(), place(frame)
         message = message or tracer.fresh_message()
-        note((SEND, current(), message, f"send {words}", waiter, *where))
+        note((SEND, current(), message, f"send {words}", waiter, *where, lock, permit))
         tracer.look_after(waiter)
         return Sending(message, waiter, tracer, where)
 
@@ -79,7 +81,8 @@ class Sending:
 
 def incoming_at(
     message: str | None, frame: FrameType | None, words: str = "from another process", lock: LockIdentity | None = None,
+    permit: Permit | None = None,
 ) -> None:
     note = state.note
     if note is not None and message is not None and NAME.fullmatch(message):
-        note((RECV, current(), message, f"receive {words}", *place(frame), lock))
+        note((RECV, current(), message, f"receive {words}", *place(frame), lock, permit))

@@ -19,7 +19,7 @@ from ..model.lines import (
 from ..model.lock_identity import Poll
 from ..model.loop_runs import number_of_loop, take_step
 from ..model.verdict import Cause, Unseen
-from ..model.stretches import STRETCHES, TURNS, Across, leave
+from ..model.stretches import STRETCHES, TURNS, Across, SharedThing, leave
 from .loops import ASYNCIO
 from .raised_within import is_of_program
 
@@ -390,8 +390,14 @@ def touch(thing: str, write: bool = False, label: str | None = None, across: boo
             failed(fault)
 
 
+AT_SHARED_THING: list[Callable[[str, CodeType | None, int], None]] = []
+"""What is called before a touch of what processes share is noted, where tasks are held."""
+
+
 def touch_at(thing: str, kind: str, code: CodeType | None, instruction: int, label: str | None = None) -> None:
-    """Notes a touch of a thing that the program has named."""
+    """Notes a touch of a thing that the program has named, or that processes share."""
+    for arrive in AT_SHARED_THING if type(thing) is SharedThing else ():
+        arrive(thing, code, instruction)
     key = thing, type(thing), kind, id(code), instruction, label
     stretch = STRETCHES.get(get_ident())
     if stretch is None or key not in stretch:

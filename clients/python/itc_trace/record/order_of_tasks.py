@@ -9,8 +9,8 @@ from sys import getrefcount
 from types import CodeType
 
 from ..model.lines import (
-    END, END_OF_PROCESS, GONE, JOIN, MOST_PENDING, POLLED, RESULT, TAKE, TAKE_END, Line, Note, PermitToken, Reporter,
-    Token,
+    END, END_OF_PROCESS, GONE, JOIN, MOST_PENDING, POLLED, RESULT, TAKE, TAKE_END, Line, Note, Permit, PermitToken,
+    Reporter, Token,
 )
 from ..model.lock_identity import Asking, LockIdentity, LockOrAsking, Poll
 from ..model.loop_runs import STOPS, LoopRun
@@ -453,21 +453,25 @@ class OrderOfTasks:
 
     def send_outside(
         self, line: Line, message: str, label: str, waiter: Waiter, code: CodeType | None, instruction: int,
+        lock: LockIdentity | None = None, permit: Permit | None = None,
     ) -> None:
-        self._reports.answer_to(waiter, self._reports.report(line, "send", message, code, instruction, label))
-        self._sent(line, message, None)
+        """A lock or a permit is one that processes share, and that the message hands over."""
+        report = self._reports.report(line, "send", message, code, instruction, label)
+        report.guard, report.permit = lock, permit
+        self._reports.answer_to(waiter, report)
+        self._sent(line, message, lock)
         if self._parts is not None:
             self._parts.sent_outside(message)
 
     def receive_outside(
         self, line: Line, message: str, label: str, code: CodeType | None, instruction: int,
-        lock: LockIdentity | None = None,
+        lock: LockIdentity | None = None, permit: Permit | None = None,
     ) -> None:
-        """A lock is one that processes share, and that the message hands over."""
+        """The same of a message of another process."""
         self.leave(line)
         report = self._reports.report(line, "recv", message, code, instruction, label)
         report.may_be_refused = True
-        report.guard = lock
+        report.guard, report.permit = lock, permit
 
     def keep_ended(self) -> None:
         """Has a task of its own take the ends of those that the end of the program waits for,

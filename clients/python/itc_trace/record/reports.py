@@ -6,7 +6,7 @@ import contextlib
 from collections import deque
 from types import CodeType
 
-from ..model.lines import Line, CountedPermits, TouchEvent
+from ..model.lines import Line, Permit, TouchEvent
 from ..model.lock_identity import LockIdentity, LockOrAsking, Poll
 from .connection import Connection
 from .touch_journal import TouchJournal
@@ -42,7 +42,7 @@ class Outstanding:
         """By what the program has asked for it."""
         self.again = ""
         """The message or the end that its task has taken in before, by a poll."""
-        self.permit: tuple[CountedPermits, int] | None = None
+        self.permit: Permit | None = None
         """The permits of a semaphore that it is of, and which one of its task."""
 
 

@@ -21,6 +21,8 @@ LONGEST_NAME = 128
 SLOT = LONGEST_KEY + LONGEST_NAME
 MOST_SLOTS = 16384
 PREFIX = "itc_trace_names_"
+OF_LOCK, OF_PROGRAM = 1, 2
+"""What is counted: a lock of one permit, or permits of a semaphore that the program has made."""
 _make_lock = vars(_thread)["RLock"]
 """As it is before any program is traced. A finalizer or a handler of a signal may come again within."""
 
@@ -74,12 +76,15 @@ class SharedNames:
                 if not self._depth:
                     fcntl.lockf(self._file, fcntl.LOCK_UN)
 
-    def begin_count(self, key: str, first: int, is_lock: bool = False) -> Counted | None:
-        """Counts what is taken and given under this key, of which there are so many at first. None without room."""
+    def begin_count(self, key: str, first: int, of: int = 0) -> Counted | None:
+        """Counts what is taken and given under this key, of which there are so many at first. None without room.
+
+        It may be a lock, or permits of the program's own.
+        """
         slot = self.slot_of(key)
         if slot is None:
             return None
-        self.put(slot, f"0 0 {first} {int(is_lock)}")
+        self.put(slot, f"0 0 {first} {of}")
         return Counted(self, key, slot)
 
     def find_count(self, key: str) -> Counted | None:
@@ -134,7 +139,13 @@ class Counted:
     @property
     def is_lock(self) -> bool:
         """Whether whoever began to count takes it for a lock."""
-        return self._names.name_at(self.slot).endswith(" 1")
+        return self._names.name_at(self.slot).endswith(f" {OF_LOCK}")
+
+    @property
+    def first(self) -> int | None:
+        """How many permits there were at first, if they are the program's own."""
+        _, _, first, of = self._names.name_at(self.slot).split()
+        return int(first) if of == str(OF_PROGRAM) else None
 
     def take(self) -> Taken:
         """Counts a permit that is taken."""

@@ -125,7 +125,7 @@ class Tracer:
         self._shaking = shaking
         self._note: Callable[[Note], object] = self._note_now if shaking is None else self._note_shaken
         self._places = Places()
-        self._permits: list[CountedPermits] = []
+        self._permits: dict[int, CountedPermits] = {}
         """Of semaphores whose permits are counted."""
         self._missed: dict[str, object] = {}
         """What was not seen of the run, while tracing went on, and something of whoever told of it."""
@@ -320,23 +320,26 @@ class Tracer:
             self._journal_row(f'{{"signal":{self._texts.lock(lock)}}}\n')
 
     def count_permits(self, permits: CountedPermits) -> None:
-        """From here on this process counts who gives and takes the permits of a semaphore."""
-        if len(self._permits) < MOST_SEMAPHORES:
-            self._permits.append(permits)
+        """From here on this process counts who gives and takes the permits of a semaphore, or has too many to count.
+
+        Of one that other processes give permits to, too, that is told in any case.
+        """
+        if permits.across or len(self._permits) < MOST_SEMAPHORES:
+            self._permits.setdefault(permits.serial, permits)
 
     def _tell_permits(self) -> None:
         """Tells how many permits each task has given, of the semaphores of which all are counted."""
-        for one in self._permits:
+        for one in list(self._permits.values()):
             counted = one.given.copy()
-            if one.block == state.block and not one.is_over:
-                given = {line.name: count for line, count in counted.items()}
+            if one.block == state.block and (one.across or not one.is_over):
+                given = None if one.is_over else {line.name: count for line, count in counted.items()}
                 told = {"permits": self._texts.permits(one), "begun": one.begun_with, "given": given}
                 self._journal_row(f"{json.dumps(told, separators=(',', ':'))}\n")
 
     def _hand_over(self, report: Outstanding) -> str:
         """How a row tells of the lock that a message hands over.
 
-        If others wait at its condition, or are processes, that is not told as luck.
+        If others wait at its condition, that is not told as luck.
         """
         again = f',"again":"{report.again}"' if report.again else ""
         if report.poll is not None:
@@ -345,13 +348,10 @@ class Tracer:
             return f',"asked":"{report.poll.name}","behind":{behind}{again}'
         if again:
             return again
-        if report.guard is not None:
-            return f',"guard":{self._texts.lock(report.guard)}'
         if report.permit is not None:
             return f',"permit":["{self._texts.permits(report.permit[0])}",{report.permit[1]}]'
-        if report.lock is None:
-            return ""
-        return f',"{"lock" if report.lock.is_luck else "guard"}":{self._texts.lock(report.lock)}'
+        lock = report.guard or report.lock
+        return "" if lock is None else f',"{"lock" if lock.is_luck else "guard"}":{self._texts.lock(lock)}'
 
     def _journal_row(self, row: str) -> None:
         try:

@@ -347,6 +347,8 @@ def _is_unseen(what: Any) -> bool:
 
 def became_signal(identity: LockIdentity) -> None:
     """The lock hands over more than what it encloses. Whoever looks for cycles of locks passes it over."""
+    if identity.block != state.block:
+        identity.begin(state.block)
     if identity.signal is None:
         identity.become_signal()
         note_signal(identity)

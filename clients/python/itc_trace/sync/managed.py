@@ -19,17 +19,18 @@ from weakref import WeakValueDictionary
 from ..model.digests import blake2b
 from ..model.conflicts import KEYS, LENGTH
 from ..model.frames import place_of
-from ..model.lines import BARRIER, EVENT, Line, Token, state
+from ..model.lines import BARRIER, EVENT, NOTIFY, Line, Token, state
 from ..model.lock_identity import LockIdentity, variable_of_result
-from ..model.stretches import Across
+from ..model.stretches import SharedThing
 from ..record import following
 from ..record.messages import Sending, incoming_at
 from ..record.noting import line_of_now, mark, take, touch_at
-from ..record.shared_names import LONGEST_NAME, SharedNames
+from ..record.shared_names import LONGEST_NAME, OF_LOCK, SharedNames
+from ..record.shared_names import OF_PROGRAM as PERMITS_OF_PROGRAM
 from .locks import became_signal, gave, took
 from .queues import MOST_PLACES
 from .served_queue import BY, By
-from .shared_locks import has_taken, is_giving
+from .shared_locks import about_to_acquire, has_taken, is_giving
 from .shared_permits import MOST_PARTIES, SharedMeetings, SharedPermits
 from .values import user
 
@@ -40,7 +41,8 @@ Touches = Callable[["KeptData", Ask, str, tuple[Any, ...]], list[tuple[str, str]
 Key = tuple[Any, str]
 """The address of a server, and its name for what it keeps."""
 
-LOCKS = frozenset(("Lock", "RLock", "Condition"))
+CONDITION = "Condition"
+LOCKS = frozenset(("Lock", "RLock", CONDITION))
 PERMITS = frozenset(("Semaphore", "BoundedSemaphore"))
 DATA = frozenset(("dict", "list", "Namespace", "Value", "Array"))
 QUEUE, EVENT_KIND, BARRIER_KIND = "Queue", "Event", "Barrier"
@@ -106,9 +108,12 @@ class KeptLock(Kept):
     Of one that its owner may acquire again only what happens outermost counts.
     """
 
-    def __init__(self, told: Told, slot: int) -> None:
+    def __init__(self, told: Told, slot: int, of_wake_ups: int | None) -> None:
         super().__init__(told)
         self._slot = slot
+        self._of_wake_ups = of_wake_ups
+        """Where the message lies of whoever has notified last those that wait."""
+        self._notified: Token | None = None
         self._is_recursive = told.kind != "Lock"
         self._owner = self._depth = 0
         self._itc_token: Token | None = None
@@ -117,6 +122,7 @@ class KeptLock(Kept):
 
     def call(self, ask: Ask, name: str, words: tuple[Any, ...], named: dict[str, Any]) -> Any:
         if name == "acquire":
+            about_to_acquire(self._itc_identity)
             is_acquired = ask(name, words, named)
             if is_acquired:
                 self._was_acquired(_has_waited(words))
@@ -125,6 +131,9 @@ class KeptLock(Kept):
             self._is_released()
         elif name == "wait":
             return self._wait(ask, words)
+        elif name in ("notify", "notify_all"):
+            self._notified = mark(NOTIFY)
+            is_giving(self._of_wake_ups)
         return ask(name, words, named)
 
     def _was_acquired(self, has_waited: bool, depth: int = 1) -> None:
@@ -152,18 +161,22 @@ class KeptLock(Kept):
         if holder is None or holder.tracer is not state.tracer:
             became_signal(self._itc_identity)  # It was acquired by another process.
         gave(self)
-        is_giving(self._slot)
+        is_giving(self._slot, self._itc_identity)
 
     def _wait(self, ask: Ask, words: tuple[Any, ...]) -> Any:
         """Whoever waits at a condition releases it meanwhile."""
         depth = self._depth if self._is_mine() else 0
         if depth:
             self._let_go()
+        is_awake = False
         try:
-            return ask("wait", words, {})
+            is_awake = ask("wait", words, {})
+            return is_awake
         finally:
             if depth:
                 self._was_acquired(True, depth)
+            if is_awake and not has_taken(self._of_wake_ups):
+                take(self._notified)
 
 
 def identity_of(told: Told, slot: int) -> LockIdentity:
@@ -299,7 +312,7 @@ class KeptData(Kept):
         return told
 
     def touch(self, element: str, kind: str) -> None:
-        touch_at(Across(self.told.name(element)), kind, *place_of(user()))
+        touch_at(SharedThing(self.told.name(element)), kind, *place_of(user()))
 
 
 class KeptSteps(Kept):
@@ -396,12 +409,14 @@ def _begin(names: SharedNames, key: Key, told: Told) -> bool:
     """Has what orders processes begin anew. A server gives the name of what is gone to something else."""
     digest = _digest(key)
     if told.kind in LOCKS or told.kind == EVENT_KIND:
-        slot = names.slot_of(f"given {digest}")
-        if slot is not None:
-            names.put(slot, "")
-        return slot is not None
+        slots = [names.slot_of(f"{what} {digest}") for what in ("given", "woke")[:1 + (told.kind == CONDITION)]]
+        for slot in slots:
+            if slot is not None:
+                names.put(slot, "")
+        return None not in slots
     if told.kind in PERMITS:
-        return names.begin_count(f"sem {digest}", told.size, told.size == 1) is not None
+        of = OF_LOCK if told.size == 1 else PERMITS_OF_PROGRAM
+        return names.begin_count(f"sem {digest}", told.size, of) is not None
     if told.kind == BARRIER_KIND:
         return names.begin_count(f"met {digest}", 0) is not None
     return True
@@ -430,7 +445,9 @@ def _made(names: SharedNames, digest: str, told: Told) -> Kept | None:
         slot = names.slot_of(f"given {digest}")
         if slot is None:
             return None
-        return KeptEvent(told, slot, names) if kind == EVENT_KIND else KeptLock(told, slot)
+        if kind == EVENT_KIND:
+            return KeptEvent(told, slot, names)
+        return KeptLock(told, slot, names.slot_of(f"woke {digest}") if kind == CONDITION else None)
     if kind in PERMITS or kind == BARRIER_KIND:
         counted = names.find_count(f"{'met' if kind == BARRIER_KIND else 'sem'} {digest}")
         if counted is None:

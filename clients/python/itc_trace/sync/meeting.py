@@ -1,6 +1,6 @@
 """Has tasks meet where they may race: one that comes to a line of a pair is held there, for a bounded time, until
-another one comes to the other line. A task that holds a lock there would keep the other one from coming. So it is held
-before it acquires the lock, until the other one stands where it is to meet.
+another one comes to the other line. It may be one of another process. A task that holds a lock there would keep the
+other one from coming. So it is held before it acquires the lock, until the other one stands where it is to meet.
 
 So races are looked for by direction, as in RaceFuzzer (Sen 2008). Whether two that met do race is decided as ever, by
 the trace of that run. So a meeting that was none, as one at two objects, tells of nothing.
@@ -8,16 +8,24 @@ the trace of that run. So a meeting that was none, as one at two objects, tells 
 
 from __future__ import annotations
 
-from _thread import get_ident
+import os
 from collections import defaultdict
+from functools import cached_property
 from time import monotonic, sleep
+from types import CodeType
 from typing import Any, NamedTuple
 
-from ..model.handed_over import Plan
+from ..model.digests import number_of
+from ..model.file_names import name_of_file
+from ..model.frames import line_of
+from ..model.handed_over import OF_SHARED, Plan
 from ..model.lines import state
-from ..record import plain
+from ..record import following
+from ..record.noting import AT_SHARED_THING
+from ..record.standing import Board, OwnTexts, Standing, who_is_here
 from .base import like
 from .locks import TracedLock, TracedRLock, walk_always
+from .shared_locks import AT_ACQUIRING
 
 HOLD = 1.0
 """So many seconds a task is held at most."""
@@ -29,26 +37,24 @@ MOST_SECONDS = 20.0
 
 
 class Touching(NamedTuple):
-    """What a task is about to touch: an object by where it stands in memory, and a key of it, if both are known."""
+    """What a task is about to touch: an object by where it stands in memory, and a key of it, if both are known.
 
-    owner: int | None = None
+    A thing that processes share is known by its name.
+    """
+
+    owner: int | str | None = None
     key: Any = None
 
-    def may_be(self, other: Touching) -> bool:
-        if self.owner is not None and other.owner is not None and self.owner != other.owner:
-            return False
-        are_known = type(self.key) in (str, int) and type(other.key) in (str, int)
-        return not are_known or bool(self.key == other.key)
+    @property
+    def known_owner(self) -> str:
+        """What tells it from what others touch, in all processes."""
+        if self.owner is None:
+            return ""
+        return f"{os.getpid()}.{self.owner}" if isinstance(self.owner, int) else f"{number_of(self.owner):x}"
 
-
-class _Held:
-    __slots__ = ("thread", "place", "touching", "has_met")
-
-    def __init__(self, thread: int, place: str, touching: Touching) -> None:
-        self.thread = thread
-        self.place = place
-        self.touching = touching
-        self.has_met = False
+    @property
+    def known_key(self) -> str:
+        return f"{number_of(repr(self.key)):x}" if type(self.key) in (str, int) else ""
 
 
 class Meeting:
@@ -61,23 +67,28 @@ class Meeting:
         for one, other in plan.pairs:
             self._others[one].add(other)
             self._others[other].add(one)
+        self._numbers = {place: number for number, place in enumerate(sorted(self._others))}
+        """What processes know the places by."""
         self._gates: dict[str, set[str]] = defaultdict(set)
         for lock, place in plan.gates:
             self._gates[lock].add(place)
-        self._at_gates: set[str] = set()
-        """The locks before which a task is held. Others pass meanwhile."""
-        self._holds: dict[str, int] = defaultdict(int)
-        self._held: list[_Held] = []
-        self._seconds = 0.0
-        self._guard = plain.allocate_lock()
+        self._gate_numbers = {lock: number for number, lock in enumerate(sorted(self._gates))}
+
+    @cached_property
+    def _board(self) -> Board:
+        return Board(following.shared_names() or OwnTexts())
 
     @property
     def places(self) -> frozenset[str]:
-        return frozenset(self._others)
+        """The lines at which hooks may hold tasks."""
+        return frozenset(place for place in self._others if not place.startswith(OF_SHARED))
 
     def begin(self) -> None:
-        """From here on tasks are held before the locks of the plan, too."""
+        """From here on tasks are held where they touch what processes share, and before the locks of the plan."""
+        if len(self.places) < len(self._others):
+            AT_SHARED_THING.append(self._arrive_at_shared)
         if self._gates:
+            AT_ACQUIRING.append(self.come_to_lock)
             walk_always()
             for kind in (TracedLock, TracedRLock):
                 for name in ("acquire", "__enter__"):
@@ -97,53 +108,63 @@ class Meeting:
         places = self._gates.get(lock)
         if places is None:
             return
-        with self._guard:
-            if lock in self._at_gates or not self._may_hold(lock) or self._stands_at(places):
-                return
-            self._holds[lock] += 1
-            self._at_gates.add(lock)
+        board, gate, of_lock = self._board, self._gate_numbers[lock], f"gate {self._gate_numbers[lock]}"
+        numbers = {self._numbers[place] for place in places if place in self._numbers}
         begun = monotonic()
-        while not self._stands_at(places) and monotonic() < begun + HOLD:
+        with board.alone():  # Others pass while a task is held there.
+            if board.is_held_at(gate) or not self._may_hold(of_lock) or self._stands_at(numbers):
+                return
+            board.add(of_lock, 1)
+            board.hold_at(gate, begun + HOLD)
+        while not self._stands_at(numbers) and monotonic() < begun + HOLD:
             sleep(PAUSE)
-        with self._guard:
-            self._at_gates.discard(lock)
-            self._seconds += monotonic() - begun
+        with board.alone():
+            board.hold_at(gate, 0)
+            board.add_seconds(monotonic() - begun)
 
-    def _stands_at(self, places: set[str]) -> bool:
-        return any(one.place in places and not one.has_met for one in list(self._held))
+    def _stands_at(self, places: set[int]) -> bool:
+        return any(one.place in places and not one.has_met for _, one in self._board.standing())
+
+    def _arrive_at_shared(self, thing: str, code: CodeType | None, instruction: int) -> None:
+        if code is not None:
+            place = f"{OF_SHARED}{name_of_file(code.co_filename)}:{line_of(code, instruction)}"
+            self.arrive(place, Touching(str(thing)))
 
     def arrive(self, place: str, touching: Touching) -> None:
         """The current task is about to touch something at this line."""
         if state.note is None or place not in self._others:
             return
-        mine = _Held(get_ident(), place, touching)
-        with self._guard:
-            other = next((one for one in self._held if self._meet(one, mine)), None)
-            if other is not None:
-                other.has_met = True
+        board, begun = self._board, monotonic()
+        mine = Standing(
+            who_is_here(), self._numbers[place], begun + HOLD, touching.known_owner, touching.known_key,
+        )
+        with board.alone():
+            met = next(((slot, one) for slot, one in board.standing() if self._meet(one, mine, place)), None)
+            if met is not None:
+                board.meet(*met)
                 return
-            if not self._is_held(place):
+            slot = board.stand(mine) if place in self._holding and self._may_hold(self._held_at(mine)) else None
+            if slot is None:
                 return
-            self._holds[place] += 1
-            self._held.append(mine)
-        begun = monotonic()
-        while not mine.has_met and monotonic() < begun + HOLD:
+            board.add(self._held_at(mine), 1)
+        while not board.has_met(slot) and monotonic() < mine.until:
             sleep(PAUSE)
-        with self._guard:
-            self._held.remove(mine)
-            if mine.has_met:
-                self._holds[place] -= 1
+        with board.alone():
+            if board.has_met(slot):
+                board.add(self._held_at(mine), -1)
             else:
-                self._seconds += monotonic() - begun
+                board.add_seconds(monotonic() - begun)
+            board.leave(slot)
 
-    def _is_held(self, place: str) -> bool:
-        return place in self._holding and self._may_hold(place)
+    def _held_at(self, one: Standing) -> str:
+        return f"held {one.place}"
 
     def _may_hold(self, where: str) -> bool:
-        return self._holds[where] < MOST_HOLDS and self._seconds < MOST_SECONDS
+        return self._board.count(where) < MOST_HOLDS and self._board.seconds < MOST_SECONDS
 
-    def _meet(self, one: _Held, mine: _Held) -> bool:
+    def _meet(self, one: Standing, mine: Standing, place: str) -> bool:
         return (
-            not one.has_met and one.thread != mine.thread and one.place in self._others[mine.place]
-            and (not self._is_exact or one.touching.may_be(mine.touching))
+            not one.has_met and one.who != mine.who
+            and any(self._numbers[other] == one.place for other in self._others[place])
+            and (not self._is_exact or one.may_be(mine))
         )

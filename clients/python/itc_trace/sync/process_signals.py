@@ -5,7 +5,8 @@ from __future__ import annotations
 from types import ModuleType
 from typing import Any
 
-from ..model.lines import EVENT, state
+from ..model.lines import EVENT, NOTIFY, Token, state
+from ..model.frames import frame_at
 from ..record import following
 from ..record.noting import mark, take
 from .base import Patches, like
@@ -25,6 +26,7 @@ def _put_signals(patches: Patches, module: ModuleType) -> None:
     condition, event, barrier = (vars(module)[name] for name in ("Condition", "Event", "Barrier"))
     patches.wrap(condition, "__init__", _begin_condition)
     patches.wrap(condition, "__setstate__", _set_condition)
+    patches.wrap(condition, "notify", _notify)
     patches.wrap(event, "__init__", _begin_event)
     patches.put(event, "__getstate__", _state_of_event)
     patches.put(event, "__setstate__", _set_event)
@@ -38,14 +40,54 @@ def _put_signals(patches: Patches, module: ModuleType) -> None:
     patches.put(barrier, "wait", like(barrier.wait, _wait_at_barrier(barrier.wait)))
 
 
-# Conditions: whoever wakes up acquires the lock behind whoever notified it.
+# Conditions: whoever wakes up comes after whoever notified it, and acquires the lock.
+
+
+class _WakeUps:
+    """Who has notified last those that wait at a condition. He waits until they are awake."""
+
+    def __init__(self, semlock: Any) -> None:
+        self._wakes = semlock
+        self._slot = slot_of(semlock.name)
+        self._token: Token | None = None
+
+    def acquire(self, block: bool = True, timeout: float | None = None) -> bool:
+        """In place of the method by which the condition waits."""
+        is_awake = bool(self._wakes.acquire(block, timeout))
+        if is_awake and block and state.note is not None and not has_taken(self._slot):
+            take(self._token)
+        return is_awake
+
+    def tell(self, depth: int) -> None:
+        self._token = mark(NOTIFY, depth + 1)
+        is_giving(self._slot)
+
+
+def _follow_condition(condition: Any) -> None:
+    traced = condition._lock.__dict__.get("_itc_traced")
+    is_of_condition(traced)
+    if traced is not None:
+        waits = condition._wait_semaphore
+        condition._itc_wake_ups = wake_ups = _WakeUps(waits._semlock)
+        waits.acquire = wake_ups.acquire
+
+
+def _notify(original: Any) -> Any:
+    def notify(self: Any, n: int = 1) -> None:
+        wake_ups = self.__dict__.get("_itc_wake_ups")
+        if wake_ups is not None and state.note is not None and not self._sleeping_count._semlock._is_zero():
+            caller = frame_at(1)
+            wake_ups.tell(3 if caller is not None and caller.f_code.co_name == "notify_all" else 2)
+        original(self, n)
+
+    return notify
 
 
 def _begin_condition(original: Any) -> Any:
     def __init__(self: Any, lock: Any = None, **named: Any) -> None:
         with silence("Semaphore"):
             original(self, lock, **named)
-        is_of_condition(self._lock.__dict__.get("_itc_traced"))
+        _follow_condition(self)
 
     return __init__
 
@@ -53,7 +95,7 @@ def _begin_condition(original: Any) -> Any:
 def _set_condition(original: Any) -> Any:
     def __setstate__(self: Any, told: Any) -> None:
         original(self, told)
-        is_of_condition(self._lock.__dict__.get("_itc_traced"))
+        _follow_condition(self)
 
     return __setstate__
 

@@ -17,7 +17,7 @@ from ..model.frames import frame_at, is_internal
 from .base import Patches
 from .later import once_imported
 from .locks import became_signal, gave, took
-from .shared_locks import has_taken, is_giving, slot_of
+from .shared_locks import about_to_acquire, find_name, has_taken, is_giving, keep_name, slot_of
 from .shared_permits import KIND, PermitAsLock, SharedPermits
 
 _MAKERS = (
@@ -47,6 +47,7 @@ def _put_locks(patches: Patches, module: ModuleType) -> None:
     patches.wrap(kind, "__init__", _begin)
     patches.wrap(kind, "__enter__", _enter)
     patches.wrap(kind, "__exit__", _exit)
+    patches.wrap(kind, "__getstate__", _get_state)
     patches.wrap(kind, "__setstate__", _set_state)
 
 
@@ -68,13 +69,20 @@ class _Lock:
         self._itc_holder: Line | None = None
         self._itc_identity = LockIdentity(f"multiprocessing.{kind}", frame)
         self._itc_identity.is_inside = True
+        if frame is None:
+            find_name(self._itc_identity, semlock.name)
         self._slot = slot_of(semlock.name)
         if self._slot is None:
             following.is_not_followed(kind)
         else:
             self._itc_identity.across = f"across{self._slot}"
 
+    @property
+    def identity(self) -> LockIdentity:
+        return self._itc_identity
+
     def acquire(self, block: bool = True, timeout: float | None = None) -> bool:
+        about_to_acquire(self._itc_identity)
         is_acquired = bool(self._semlock.acquire(block, timeout))
         if is_acquired:
             self.was_acquired(block and timeout is None)
@@ -96,7 +104,7 @@ class _Lock:
             if (holder is None or holder.tracer is not state.tracer) and self._semlock._is_zero():
                 became_signal(self._itc_identity)  # It was acquired by another process.
             gave(self)
-            is_giving(self._slot)
+            is_giving(self._slot, self._itc_identity)
 
     def _is_outermost(self) -> bool:
         return not self._is_recursive or self._semlock._count() == 1 and bool(self._semlock._is_mine())
@@ -109,6 +117,11 @@ class _Semaphore:
         self._semlock = semlock
         self._permits: deque[Token | None] = deque([None] * value)
         self.one = PermitAsLock(KIND, maker) if value == 1 and maker is not None else None
+
+    @property
+    def identity(self) -> LockIdentity | None:
+        """That of a lock, if it is one."""
+        return None if self.one is None else self.one._itc_identity
 
     def acquire(self, block: bool = True, timeout: float | None = None) -> bool:
         is_acquired = bool(self._semlock.acquire(block, timeout))
@@ -165,6 +178,19 @@ def trace_permits(lock: Any, count: int, maker: FrameType | None = None) -> None
     _trace(lock, permits or _Semaphore(lock._semlock, count, maker))
 
 
+def _get_state(original: Any) -> Any:
+    """Another process is given the lock."""
+
+    def __getstate__(self: Any) -> Any:
+        told, traced = original(self), self.__dict__.get("_itc_traced")
+        identity = None if traced is None else traced.identity
+        if identity is not None:
+            keep_name(identity, self._semlock.name)
+        return told
+
+    return __getstate__
+
+
 def _set_state(original: Any) -> Any:
     """In a process that was started anew: a lock that it was given.
 
@@ -212,8 +238,10 @@ def _maker(frame: Any) -> Any:
 
 def _enter(original: Any) -> Any:
     def __enter__(self: Any) -> Any:
-        told = original(self)
         traced = self.__dict__.get("_itc_traced")
+        if traced is not None:
+            about_to_acquire(traced.identity)
+        told = original(self)
         if traced is not None:
             traced.was_acquired()
         return told

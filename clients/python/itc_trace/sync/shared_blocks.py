@@ -20,7 +20,7 @@ from ..model.conflicts import READ, WRITE
 from ..model.frames import frame_at, place_of
 from ..model.lines import state
 from ..model.memory_uses import OF_STRUCT, is_followed
-from ..model.stretches import Across
+from ..model.stretches import SharedThing
 from ..model.verdict import PassedOver
 from ..record import following
 from ..record.noting import lost, touch_at
@@ -131,7 +131,7 @@ def _keep(memory: Any, block: Block) -> None:
 def _touch_name(label: str, kind: str) -> None:
     """Whoever makes a block or unlinks it changes what is found by its name."""
     if _is_noted():
-        touch_at(Across(f"the name of {KIND}, made at {label}"), kind, *place_of(user()))
+        touch_at(SharedThing(f"the name of {KIND}, made at {label}"), kind, *place_of(user()))
 
 
 def _is_noted() -> bool:
@@ -275,7 +275,7 @@ def touch(block: Block, spans: Iterable[tuple[int, int]], is_change: bool, place
     """Notes a touch of these bytes, at a place of the program."""
     for first, end in spans:
         for element, kind in byte_ranges.touches(first, end, block.size, is_change):
-            touch_at(Across(f"{KIND}{element}, made at {block.label}"), kind, *place)
+            touch_at(SharedThing(f"{KIND}{element}, made at {block.label}"), kind, *place)
 
 
 def _of_struct(original: Any, is_change: bool) -> Any:

@@ -12,7 +12,7 @@ from typing import Any
 from ..model.conflicts import READ, WRITE
 from ..model.frames import place_of
 from ..model.lines import state
-from ..model.stretches import Across
+from ..model.stretches import SharedThing
 from ..record import following
 from ..record.noting import touch_at
 from ..record.shared_names import LONGEST_NAME
@@ -104,7 +104,7 @@ def _touch(one: Any, position: int, kind: str) -> None:
     label = getattr(one, "_itc_label", None)
     if label is not None and (state.note is not None or state.witness is not None):
         number = range(one._list_len)[position]
-        touch_at(Across(f"ShareableList[{number}], made at {label}"), kind, *place_of(user()))
+        touch_at(SharedThing(f"ShareableList[{number}], made at {label}"), kind, *place_of(user()))
 
 
 def _watched_format(plain: Any) -> property:

@@ -11,14 +11,13 @@ from collections.abc import Callable
 from types import FrameType
 from typing import Any
 
-from ..model.lines import SEMAPHORE, Token, state
+from ..model.lines import SEMAPHORE, CountedPermits, Permit, PermitToken, Token, state
 from ..model.lock_identity import LockIdentity
 from ..record import following
-from ..record.messages import Sending, incoming_at
-from ..record.noting import line_of_now, mark, take
-from ..record.shared_names import Counted
+from ..record.noting import line_of_now, mark, mark_permits, take, take_permit
+from ..record.shared_names import OF_LOCK, OF_PROGRAM, Counted
 from .locks import OnePermit, became_signal, gave, took
-from .shared_locks import key_of
+from .shared_locks import about_to_acquire, find_name, key_of, receive, tell
 
 KIND = "multiprocessing.Semaphore"
 MOST_PARTIES = Counted.most // 2
@@ -74,8 +73,12 @@ class SharedPermits:
         self._given: dict[int, Token | None] = {}
         """Where a task of this process gave a permit, by the number of its release."""
         self.one: PermitAsLock | None = None
+        self._first = counted.first
+        self._permits = None if self._first is None else CountedPermits(f"across{counted.slot}")
         if counted.is_lock:
             self.one = PermitAsLock(KIND, frame)
+            if frame is None and semlock is not None:
+                find_name(self.one._itc_identity, semlock.name)
             self.one._itc_identity.across = f"across{counted.slot}"
 
     @staticmethod
@@ -84,8 +87,8 @@ class SharedPermits:
 
         One permit of a program's own semaphore, which knows its maker, is a lock.
         """
-        names, is_lock = following.shared_names(), count == 1 and maker is not None
-        counted = None if names is None else names.begin_count(key_of(semlock.name), count, is_lock)
+        names, of = following.shared_names(), 0 if maker is None else OF_LOCK if count == 1 else OF_PROGRAM
+        counted = None if names is None else names.begin_count(key_of(semlock.name), count, of)
         return None if counted is None else SharedPermits(semlock, counted, maker)
 
     @staticmethod
@@ -95,7 +98,13 @@ class SharedPermits:
         counted = None if names is None or not semlock.name else names.find_count(key_of(semlock.name))
         return None if counted is None else SharedPermits(semlock, counted)
 
+    @property
+    def identity(self) -> LockIdentity | None:
+        """That of a lock, if it is one."""
+        return None if self.one is None else self.one._itc_identity
+
     def acquire(self, block: bool = True, timeout: float | None = None) -> bool:
+        about_to_acquire(self.identity)
         is_acquired = bool(self._semlock.acquire(block, timeout))
         if is_acquired:
             self.was_acquired(block and timeout is None)
@@ -106,31 +115,55 @@ class SharedPermits:
         if state.note is None:
             return
         token = self._given.pop(number, None)
+        permits = self._counted_now()
+        if permits is not None:
+            take_permit(permits, token, has_waited)
         if token is None and name:
-            lock = None if self.one is None else self.one.handed_over
-            incoming_at(name, following.frame_of_start(1), lock=lock)
-        if self.one is None:
-            take(token)
-        else:
+            taken = None if permits is None else (permits, permits.taken.get(line_of_now(), 0))
+            receive(name, None if self.one is None else self.one.handed_over, taken)
+        if self.one is not None:
             self.one.hold(token, has_waited, is_only)
+        elif permits is None:
+            take(token)
+
+    def _token_of_release(self, permits: CountedPermits | None) -> Token | None:
+        if permits is not None:
+            return mark_permits(permits, 1)
+        return mark(SEMAPHORE) if self.one is None else self.one.let_go()
+
+    def _counted_now(self) -> CountedPermits | None:
+        """How many each task of this process has given and taken, if they are of the program's own semaphore.
+
+        None if too many have, which is told, as other processes count theirs.
+        """
+        permits = self._permits
+        if permits is not None and permits.block != state.block:
+            permits.begin(self._first or 0, state.block)
+        if permits is None or not permits.is_over:
+            return permits
+        if state.tracer is not None:
+            state.tracer.count_permits(permits)
+        return None
 
     def release(self) -> None:
         self.give(self._semlock.release)
 
     def give(self, release: Callable[[], object]) -> None:
         """The current task gives a permit, by this call."""
-        name = _name()
-        token = mark(SEMAPHORE) if self.one is None else self.one.let_go()
+        permits, permit = self._counted_now(), None
+        token = self._token_of_release(permits)
+        if permits is not None and isinstance(token, PermitToken):
+            permit = permits, token.number
+        name = _name(self.identity, permit)
         number = self._counted.give(name, release)
         if token is not None:
             self._given[number] = token
             self._given.pop(number - self._counted.most, None)
 
 
-def _name() -> str:
+def _name(lock: LockIdentity | None = None, permit: Permit | None = None) -> str:
     """The message of what the current task has done, if there is another process to receive it."""
-    sending = Sending.begin(following.frame_of_start(2)) if following.has_others() else None
-    return (sending.name() if sending is not None else None) or ""
+    return tell(lock, permit) if following.has_others() else ""
 
 
 def counted_of(kind: str, name: str | None, is_made: bool) -> Counted | None:
@@ -164,7 +197,7 @@ class SharedEnds:
     def take(self) -> None:
         """The current task comes after each of them. What tasks of this process did, it knows by itself."""
         for number in range(min(self._counted.count, self._counted.most)):
-            _receive(self._counted.name_of(number))
+            receive(self._counted.name_of(number), None)
 
 
 class SharedMeetings:
@@ -180,10 +213,4 @@ class SharedMeetings:
     def leave(self, number: int) -> None:
         first = number - number % self._parties
         for one in range(first, first + self._parties):
-            _receive(self._counted.name_of(one))
-
-
-def _receive(name: str) -> None:
-    tracer = state.tracer
-    if name and tracer is not None and not name.startswith(f"{tracer.prefix}out_"):
-        incoming_at(name, following.frame_of_start(2))
+            receive(self._counted.name_of(one), None)

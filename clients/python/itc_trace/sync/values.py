@@ -19,7 +19,7 @@ from ..model.lines import state
 from ..model.lock_identity import variable_of_result
 from ..record.noting import touch_at
 from ..model.frames import place_of
-from ..model.stretches import Across
+from ..model.stretches import SharedThing
 from . import structures
 from .base import Patches
 from .later import once_imported
@@ -185,7 +185,7 @@ def _touch_elements(array: Any, index: Any, kind: str) -> None:
     numbers = range(array._length_)[index if isinstance(index, slice) else slice(index, index + 1 or None)]
     where = place_of(user())
     for number in numbers:
-        touch_at(Across(_name_of_element(name, number)), kind, *where)
+        touch_at(SharedThing(_name_of_element(name, number)), kind, *where)
 
 
 def _name_of_element(name: str, number: int) -> str:
@@ -211,7 +211,7 @@ def _touch_field(one: Any, field: str, kind: str) -> None:
     if name is not None and (state.note is not None or state.witness is not None):
         variable, is_there, made = name.partition(OF_VALUE)
         told = f"{variable}.{field}{is_there}{made}" if is_there else f"{name}, field {field}"
-        touch_at(Across(told), kind, *place_of(user()))
+        touch_at(SharedThing(told), kind, *place_of(user()))
 
 
 # Numbers
@@ -249,7 +249,7 @@ def _as_text(self: Any) -> str:
 def _touch(value: Any, kind: str) -> None:
     if state.note is not None or state.witness is not None:
         name = getattr(value._wrapper, "_itc_name", "a Value")
-        touch_at(Across(name), kind, *place_of(user()))
+        touch_at(SharedThing(name), kind, *place_of(user()))
 
 
 def user() -> FrameType | None:
