@@ -105,6 +105,19 @@ fault, cause = ValueError(1), OSError(2, 'a')
 class Holder: pass
 holder = Holder()
 holder.fault = fault
+faults = [fault]
+def fail_by_local():
+    one = holder.fault
+    with contextlib.suppress(ValueError): raise one from cause
+def fail_from_list():
+    for one in faults:
+        with contextlib.suppress(ValueError): raise one
+def fail_where_taken():
+    with contextlib.suppress(ValueError):
+        if one := faults[0]: raise one
+def fail_made():
+    one = ValueError(2)
+    with contextlib.suppress(ValueError): raise one from cause
 def fail(one, because):
     with contextlib.suppress(ValueError): raise one from because
 def fail_by_field(one):
@@ -229,9 +242,8 @@ import functools, threading
 def work(*words, **named): return len(words)
 part = functools.partial(work, 1, n=2)
 outer = functools.partial(part, 2)
-class Own(functools.partial): pass
 class Holder: pass
-own, holder = Own(work, 1, n=2), Holder()
+holder = Holder()
 holder.part = part
 """
 GONE_THROUGH = """
@@ -255,6 +267,31 @@ class Sized:
     def __iter__(self): return iter([self.left])
     def __format__(self, form): return str(self.left)
 sized, larger = Sized(1), Sized(2)
+"""
+
+BYTES = """
+import base64, hashlib, hmac, re, secrets, socket, struct, tempfile, zlib
+from array import array
+data, numbers, word = bytearray(b"123"), array("i", [1, 2]), b"ab"
+pattern, file = re.compile(b"1"), tempfile.TemporaryFile()
+here, there = socket.socketpair()
+class Own:
+    def send(self, one): pass
+own = Own()
+"""
+ASKED = """
+import argparse, configparser, graphlib, heapq, http.cookies, itertools, operator, reprlib, statistics
+left, table = [1, 4], {"a": 1}
+rows = [left, [2]]
+space, cookie, graph = argparse.Namespace(a=1), http.cookies.SimpleCookie(), graphlib.TopologicalSorter()
+def take(*words, **named): return words, named
+"""
+OF_PARTIAL = """
+import functools
+left = [1]
+class Part(functools.partial): pass
+def take(n): return n
+part, counting = Part(take, n=1), Part(len, left)
 """
 
 CHAPTERS = (
@@ -377,6 +414,11 @@ seen | fail_by_field(holder) | fault.__cause__
 seen | fail_by_variable() | fault.__cause__
 seen | fail_by_variable() | fault.__cause__ = None
 seen | fail_alone(fault) | fault.__traceback__
+seen | fail_by_local() | fault.__cause__
+seen | fail_by_local() | fail_by_local()
+seen | fail_from_list() | fault.__traceback__
+seen | fail_where_taken() | fault.__traceback__
+no thing | fail_made() | fail_made()
 seen | fail_within(fault) | fault.__context__
 no thing | fail_alone(fault) | fault.__context__
 no thing | fail_alone(fault) | fault.__cause__
@@ -597,6 +639,19 @@ starred | encoder.indent = 2 | encoder.encode([1])
 starred | encoder.sort_keys = True | encoder.encode({"a": 1})
 starred | encoder.ensure_ascii = True | encoder.iterencode([1])
 starred | decoder.strict = False | decoder.decode("[1]")
+starred | config.default_section = "a" | config.get("DEFAULT", "a", fallback=1)
+starred | generator.maxheaderlen = 5 | generator.write("a")
+starred | reader.convert_charrefs = True | reader.close()
+starred | reader.convert_charrefs = True | reader.reset()
+starred | connection.timeout = 5 | connection.close()
+starred | handler.formatter = None | handler.flush()
+starred | base.row_factory = None | base.execute("select 1")
+starred | base.row_factory = None | base.close()
+starred | cursor.arraysize = 5 | cursor.execute("select 1")
+starred | cursor.row_factory = None | cursor.close()
+starred | context.Emax = 5 | context.copy()
+starred | opener.addheaders = [] | opener.close()
+no thing | connection.close() | connection.close()
 starred | decoder.object_hook = None | decoder.raw_decode("[1]")
 starred | formatter.datefmt = "a" | formatter.formatTime(record)
 starred | formatter.default_time_format = "%Y" | formatter.formatTime(record)
@@ -671,7 +726,6 @@ seen | part.keywords["n"] = 3 | holder.part()
 seen | outer.keywords["n"] = 3 | outer()
 seen | part.left = 1 | part.left = 2
 seen | part.left = 1 | getattr(part, "left", 0)
-seen | own.left = 1 | getattr(own, "left", 0)
 starred | part.__setstate__((work, (2,), {}, {})) | part()
 starred | part.__setstate__((work, (2,), {}, {})) | part.args
 no thing | part.args | part()
@@ -726,6 +780,79 @@ no thing | one["a"] += 1 | any([one, two])
 no thing | rows[0] = 3 | max(rows, more, key=len)
 no thing | rows[0] = 3 | sum(range(3), len(rows))
 no thing | rows.append(1) | functools.reduce(lambda first, last: first, [rows, more])
+"""),
+    Chapter("functions that read bytes", BYTES, """
+seen | data[0] = 50 | int(data)
+seen | data[0] = 50 | int(data, 10)
+seen | data[0] = 50 | float(data)
+seen | data[0] = 50 | re.match(b"1", data)
+seen | data[0] = 50 | re.sub(b"1", b"2", data)
+seen | data[0] = 50 | pattern.search(data)
+seen | data[0] = 50 | pattern.sub(b"2", data)
+seen | data[0] = 50 | hashlib.sha256(data)
+seen | data[0] = 50 | hmac.digest(b"k", data, "sha256")
+seen | data[0] = 50 | hmac.compare_digest(data, b"1")
+seen | data[0] = 50 | zlib.crc32(data)
+seen | data[0] = 50 | base64.b64encode(data)
+seen | data[0] = 50 | struct.unpack_from("b", data)
+seen | data[0] = 50 | here.send(data)
+seen | data[0] = 50 | file.write(data)
+seen | data[0] = 50 | file.writelines([data])
+seen | data[0] = 50 | b"".join([data, data])
+seen | data[0] = 50 | word.join([data])
+seen | data[0] = 50 | b"".startswith(data)
+seen | data[0] = 50 | word.endswith((b"a", data))
+seen | data[0] = 50 | word.find(data)
+seen | data[0] = 50 | word.count(data)
+seen | data[0] = 50 | word.replace(b"a", data)
+seen | data[0] = 50 | word.strip(data)
+seen | data[0] = 50 | data in b"123"
+seen | data[0] = 50 | data in word
+seen | data[0] = 50 | secrets.compare_digest(data, b"1")
+seen | data[0] = 50 | compile(data, "x", "eval")
+seen | numbers[0] = 50 | zlib.crc32(numbers)
+seen | numbers[0] = 50 | here.send(numbers)
+no thing | data[0] = 50 | own.send(data)
+no thing | int(data) | float(data)
+no thing | data[0] = 50 | pattern.search(b"1")
+"""),
+    Chapter("functions that ask each element", ASKED, """
+seen | left.append(1) | list(filter(None, rows))
+seen | left.append(1) | list(map(bool, rows))
+seen | left.append(1) | list(itertools.filterfalse(None, rows))
+seen | left.append(1) | list(itertools.compress([1, 2], rows))
+seen | left[0] = 3 | list(itertools.accumulate(rows))
+seen | left[0] = 3 | list(itertools.accumulate(rows, operator.add))
+seen | left[0] = 3 | list(itertools.groupby(rows))
+seen | left[0] = 3 | list(itertools.product(*rows))
+seen | left[0] = 3 | list(heapq.merge(*rows))
+seen | left[0] = 3 | list(zip(*rows))
+seen | left[0] = 3 | list(map(sorted, rows))
+seen | left[0] = 3 | take(*left)
+seen | table["b"] = 1 | take(**table)
+seen | table["b"] = 1 | {}.update(**table)
+seen | table["b"] = 1 | dict(**table)
+seen | table["b"] = 1 | type("New", (), table)
+seen | left[0] = 3 | left.__class__(left)
+seen | left[0] = 3 | reprlib.repr(rows)
+seen | left[0] = 3 | statistics.NormalDist.from_samples(left)
+seen | table["b"] = 1 | configparser.ConfigParser(table)
+seen | table["a"] = 3 | configparser.ConfigParser().read_dict({"s": table})
+seen | space.a = 2 | str(space)
+seen | space.a = 2 | space == argparse.Namespace(a=1)
+seen | cookie["b"] = "c" | list(cookie)
+seen | cookie["b"] = "c" | "b" in cookie
+seen | graph.add(1) | graph.add(2)
+no thing | left[0] = 3 | list(filter(None, rows))
+no thing | left.append(1) | list(itertools.compress(rows, [1, 0]))
+no thing | list(filter(None, rows)) | list(map(bool, rows))
+no thing | left[0] = 3 | list(itertools.accumulate(rows, lambda one, other: one))
+"""),
+    Chapter("classes that are made of partial", OF_PARTIAL, """
+seen | part.left = 1 | getattr(part, "left", 0)
+starred | part.keywords["n"] = 3 | part()
+starred | left.append(1) | counting()
+starred | left.append(1) | list(map(Part(len), [left]))
 """),
     Chapter("what others have made", "from array import array\nimport types\nnames = types.SimpleNamespace(left=1)", """
 seen | names.left = 2 | names.left

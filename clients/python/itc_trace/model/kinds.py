@@ -41,6 +41,7 @@ TYPES_BY_NAME: dict[tuple[str, str], int] = dict.fromkeys((
     ("_bz2", "BZ2Decompressor"), ("_lzma", "LZMACompressor"), ("_lzma", "LZMADecompressor"),
     ("codecs", "IncrementalDecoder"), ("_io", "IncrementalNewlineDecoder"),
     ("_multibytecodec", "MultibyteIncrementalDecoder"), ("difflib", "SequenceMatcher"),
+    ("graphlib", "TopologicalSorter"),
 ), STREAM)
 """Types of modules that few programs import, by the names of their modules and their own.
 
@@ -178,6 +179,8 @@ _METHODS = (
 
     Methods((STREAM,), "update compress decompress flush decode reset", ITSELF, REWRITE),
     Methods((STREAM,), "setstate set_seq1 set_seq2 set_seqs", ITSELF, REWRITE),
+    Methods((STREAM,), "add prepare get_ready done static_order", ITSELF, REWRITE),
+    Methods((STREAM,), "is_active", ITSELF, ITERATION),
     Methods((STREAM,), "digest hexdigest copy getstate ratio quick_ratio get_opcodes", ITSELF, ITERATION),
     Methods((STREAM,), "get_matching_blocks find_longest_match", ITSELF, ITERATION),
 
@@ -200,6 +203,7 @@ _METHODS = (
     Methods((), "write writelines writerow from_bytes unpack unpack_from iter_unpack", GIVEN, ITERATION),
     Methods((), "writerows", GIVEN, ITERATION, EACH),
     Methods((), "dump", GIVEN, ITERATION, STATE),
+    Methods((), "read_dict", GIVEN, ITERATION, CONTENT),
     Methods((), "encode iterencode", GIVEN, ITERATION, CONTENT),
     Methods((), "shuffle readinto readinto1 recv_into recvfrom_into pack_into", GIVEN, REWRITE),
 )
@@ -242,6 +246,7 @@ _FUNCTIONS = (
     Functions("bz2", ALL, ITERATION),
     Functions("collections", "Counter deque OrderedDict defaultdict UserDict UserList", ITERATION),
     Functions("concurrent.futures", "wait as_completed", ITERATION),
+    Functions("configparser", "ConfigParser RawConfigParser", ITERATION),
     Functions("copy", "copy", ITERATION, FIELDS),
     Functions("copy", "deepcopy", ITERATION, STATE),
     Functions("csv", ALL, ITERATION),
@@ -284,6 +289,7 @@ _FUNCTIONS = (
     Functions("pprint", "pprint pformat", ITERATION, WRITTEN),
     Functions("random", "choice sample choices", ITERATION),
     Functions("random", "shuffle", REWRITE),
+    Functions("reprlib", "repr", ITERATION, WRITTEN),
     Functions("secrets", "choice", ITERATION),
     Functions("select", "select", ITERATION),
     Functions("shlex", ALL, ITERATION),
@@ -295,6 +301,27 @@ _FUNCTIONS = (
     Functions("urllib.parse", ALL, ITERATION),
     Functions("zlib", ALL, ITERATION),
 )
+
+# What looks at bytes alone
+
+BUFFERS = "buffers"
+"""Stands among the names of fields that modules store if some module makes a `bytearray` or an `array`."""
+MAKING_BUFFERS = "bytearray"
+MODULE_OF_BUFFERS = "array"
+OF_BUFFERS = (bytearray, array)
+"""Types whose bytes functions in C look at, which look at no other container."""
+READING_BUFFERS = frozenset(
+    "ast codecs email fcntl hmac io ipaddress mimetypes plistlib quopri re secrets socket ssl uu uuid "
+    "xml.etree.ElementTree".split()
+)
+"""Modules whose functions do so."""
+BUILTINS_OF_BUFFERS = frozenset(("compile", "float", "int"))
+METHODS_OF_BUFFERS = frozenset(
+    "send sendmsg match search fullmatch sub subn split rsplit findall finditer startswith endswith find rfind index "
+    "rindex count replace strip lstrip rstrip partition rpartition removeprefix removesuffix translate write_bytes "
+    "send_bytes feed join writelines sendall sendto write communicate parsestr".split()
+)
+"""Methods that do so, unless a class of the program has them."""
 
 # What others read of the two tables
 
@@ -392,7 +419,9 @@ def known_function(name: str | None) -> str | None:
     """What a function of the library does to the container that it is given first."""
     if name is None or name.startswith(".") or name in _KEEPING:
         return None
-    return _KNOWN.get(name) or (ITERATION if name.rpartition(".")[0] in _READING else None)
+    module, _, last = name.rpartition(".")[0].rpartition(".")
+    is_of_class = module in _READING and last[:1].isupper()
+    return _KNOWN.get(name) or (ITERATION if is_of_class or name.rpartition(".")[0] in _READING else None)
 
 
 def depth_of(name: str | None) -> str:

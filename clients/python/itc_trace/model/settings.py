@@ -12,7 +12,7 @@ from typing import NamedTuple
 class Settings(NamedTuple):
     """A class with its fields, and its methods that may look at them.
 
-    Most methods that containers have, too, as `get`, are left out: each call of one in the program would be looked at.
+    Methods that containers have, too, as `get`, are left out: a call of one has a hook already, which knows the class.
     """
 
     path: str
@@ -196,13 +196,13 @@ _SETTINGS = (
         "sqlite3.Connection",
         "isolation_level row_factory text_factory",
         "backup blobopen commit create_aggregate create_collation create_function create_window_function "
-        "cursor deserialize executescript getlimit interrupt iterdump rollback serialize set_authorizer "
-        "set_progress_handler set_trace_callback setlimit",
+        "cursor deserialize execute executemany executescript getlimit interrupt iterdump rollback serialize "
+        "set_authorizer set_progress_handler set_trace_callback setlimit",
     ),
     Settings(
         "sqlite3.Cursor",
         "arraysize row_factory",
-        "executescript fetchall fetchmany fetchone setinputsizes setoutputsize",
+        "execute executemany executescript fetchall fetchmany fetchone setinputsizes setoutputsize",
     ),
     Settings(
         "ssl.SSLContext",

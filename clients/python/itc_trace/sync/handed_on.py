@@ -31,7 +31,7 @@ OPERATORS = {
     "and_": "__and__", "truth": "__len__", "not_": "__len__", "length_hint": "__len__",
 }
 """Functions of `operator` that do what a method of their first argument does."""
-CLASSES = (list, tuple, set, frozenset, dict, str)
+CLASSES = (list, tuple, set, frozenset, dict, str, bool)
 ATTRGETTER = "operator.attrgetter"
 TEXTS = frozenset((str, bytes, int, float, complex, tuple, frozenset, range))
 """Types whose methods look at nothing that could change."""

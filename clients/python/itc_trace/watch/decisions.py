@@ -28,6 +28,7 @@ from typing import Any
 
 from .helper import quick
 from ..model.kinds import DICT, REFERRED, STREAM, TYPES, TYPES_BY_NAME, WITH_ONE_INSIDE
+from ..model.settings import FIELDS_OF_CLASSES
 from ..sync.handed_on import HANDED, is_of_container
 from .learned import OF_CLASSES, STORED_FIELDS
 from .places import DELETED, SKIPPED, Access
@@ -225,7 +226,7 @@ def has_own_method(kind: type, name: str) -> bool:
         _remember(kind)
         owner = class_with(kind, name)
         is_own = owner is not None and id(owner) not in _EXACT and _is_function(owner, name)
-        known[name] = is_own and (is_watched_class(owner) or family_of(kind) != STREAM)
+        known[name] = is_own and (is_watched_class(owner) or not (family_of(kind) == STREAM or is_of_library(owner)))
     return known[name]
 
 
@@ -257,6 +258,28 @@ def has_watched_method(kind: type, name: str) -> bool:
         is_function = owner is not None and _is_function(owner, name) and not is_made(kind, name)
         known[key] = is_function and _vars_of(owner).get("__module__") in WATCHED
     return known[key]
+
+
+def has_method_of_settings(kind: type, name: str) -> bool:
+    """Whether a class of the library has such a method, which may look at fields that the program sets."""
+    if id(kind) in PLAIN:
+        return False
+    known, key = _own_methods.setdefault(id(kind), {}), f"settings {name}"
+    if key not in known:
+        _remember(kind)
+        known[key] = path_with_settings(kind, name) != "" and not is_other_container(kind)
+    return known[key]
+
+
+def path_with_settings(kind: type, name: str) -> str:
+    """The class of the library whose fields a method looks at. Nothing, if a class of the program has the method."""
+    for base in _mro_of(kind):
+        if is_watched_class(base):
+            if name in _vars_of(base):
+                return ""
+        elif (path := f"{module_of(base)}.{name_of(base)}") in FIELDS_OF_CLASSES:
+            return "" if class_with(base, name) is None else path
+    return ""
 
 
 def is_made(kind: type, name: str) -> bool:

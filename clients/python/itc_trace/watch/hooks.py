@@ -27,7 +27,7 @@ from collections import defaultdict, deque
 from collections.abc import Callable, Iterable, Iterator
 from contextvars import Context
 from functools import partial
-from operator import itemgetter
+from operator import add, itemgetter
 from sys import _getframe, getrefcount
 from typing import Any, NamedTuple
 
@@ -48,24 +48,24 @@ from .both_languages import (
 from .decisions import (
     AS_KEY, BY_ELEMENTS, BY_GETTER, COMPOSED, FIELD, FILES, OF_ALIAS, OF_CLASS, OF_CLASS_ALONE, OF_LOCAL, OF_METHOD,
     OF_MODULE, OF_SUPER, OF_TYPE, OWN_FIELD, PLAIN, RESUMED, SKIP, STEPPED, VIEWS, WATCHED, class_with, decision,
-    family_of, field_inside, fields_of, forget_decisions, has_field, has_own_method, has_setter, has_watched_method,
-    ids_of, is_bound_by_code, is_found_in_class, is_made, is_made_without_code, is_of, is_of_library,
-    is_other_container, is_watched_class, module_of, mro_of, name_of, value_of_element, value_of_field, vars_of,
-    without_own,
+    family_of, field_inside, fields_of, forget_decisions, has_field, has_method_of_settings, has_own_method, has_setter,
+    has_watched_method, ids_of, is_bound_by_code, is_found_in_class, is_made, is_made_without_code, is_of,
+    is_of_library, is_other_container, is_watched_class, module_of, mro_of, name_of, path_with_settings,
+    value_of_element, value_of_field, vars_of, without_own,
 )
 from .as_fields import FIELDS_OF, FieldsOf, keep_fields_of, object_of
 from .comparing import compared_in
 from .given_away import hand_over, has_inside, toucher
 from .held_lines import PREFIX_OF_HELD
 from .helper import quick
-from .inside import OWN_STEPS, behind, fields_looked_at, inside_of, is_by_own_method, nested_in
+from .inside import OWN_STEPS, behind, fields_looked_at, inside_of, is_by_own_method, keeps_fields, nested_in
 from .learned import OF_CLASSES, STORED_FIELDS
 from .keys import SIMPLE, UNKNOWN, tell_of_unknown, value_of
 from ..model.kinds import DEEP as DEEP_SITES
 from ..model.kinds import (
     BUFFER, BY_FIELDS, CHANGING_METHODS, COMPARED, DECLARED, DEPTHS_OF_METHODS, DEQUE, DICT, IN_PLACE_METHODS, KEYED,
-    LIST, MAPS, METHODS, OF_FILE, OF_GENERATOR, ORDERED, SHOWN, SUMMED, TRUTH, VARIABLES, WHOLE, WITHOUT_ELEMENTS,
-    WRITTEN,
+    LIST, MAPS, METHODS, OF_BUFFERS, OF_FILE, OF_GENERATOR, ORDERED, SHOWN, SUMMED, TRUTH, VARIABLES, WHOLE,
+    WITHOUT_ELEMENTS, WRITTEN,
 )
 from .late import ADDED, FOUND, LOOKING, NOTHING, READ_ONLY, again, by_kinds, note_shared, saw, share, shorten
 from .late import cell as cell_late
@@ -226,6 +226,16 @@ def hook_before_setting(one: Any, name: str, site: int) -> Any:
     except Exception as fault:
         lost(fault)
     return one
+
+
+def _touch_settings(one: Any, access: Access, site: int) -> bool:
+    """A method of an object of the library, with the name of one of a container. Whether the object has settings."""
+    kind = type(one)
+    if access.what != "method" or not has_method_of_settings(kind, access.name):
+        return False
+    if not STORED_FIELDS.isdisjoint(FIELDS_OF_CLASSES[path_with_settings(kind, access.name)]):
+        _touch_other(one, INNER_READ, site)
+    return True
 
 
 def _path_of_settings(kind: type, name: str, names: dict[str, frozenset[str]]) -> str:
@@ -1249,6 +1259,8 @@ def _touch_keyed(one: Any, key: Any, site: int, limit: int, ways: str | None = N
     if family is None:
         if id(kind) in STEPPED and access.kinds == "c":
             _touch_iterator(one, site, True)
+        elif _touch_settings(one, access, site):
+            return
         elif is_other_container(kind):
             _touch_element_of_other(one, key, access, site, OWNERS.get(id(one)) is not None or getrefcount(one) > limit)
         elif not _touch_inside(one, key, access, site) and access.what == "method":
@@ -1469,6 +1481,8 @@ def _touch_method_of_object(one: Any, access: Access, site: int, is_reached: boo
     if id(kind) in RESUMED and _is_step_method(kind, access.name):
         _touch_iterator(one, site, True)
         return
+    if _touch_settings(one, access, site):
+        return
     is_own = access.what == "method" and has_watched_method(kind, access.name)
     inside = [] if is_own else [*inside_of(one, access.name)]
     if inside:
@@ -1555,6 +1569,19 @@ def hook_before_call(function: Any) -> Any:
 
 
 hook_before_call_local = hook_before_call
+_ASKED_FOR: dict[str, Callable[..., Any]] = {"bool": bool, "add": add}
+
+
+def hook_before_asking(nothing: Any, name: str) -> Any:
+    """What a function of the library does to each element if it is given nothing to call."""
+    frame = _getframe(1)
+    return _calling(_ASKED_FOR[name], (frame.f_code, frame.f_lasti))
+
+
+def hook_before_truths(one: Any) -> Any:
+    """What a function of the library asks each element of for its truth."""
+    frame = _getframe(1)
+    return map(_calling(bool, (frame.f_code, frame.f_lasti)), one)
 
 
 def hook_before_named_call(one: Any, function: Any) -> Any:
@@ -1579,6 +1606,50 @@ def hook_before_argument(value: Any, one: Any, site: int) -> Any:
         lost(fault)
         return value
     return hook_before_whole(value, site)
+
+
+def hook_before_buffer(one: Any, site: int) -> Any:
+    """Before the bytes of a buffer are looked at, or those of the buffers in a list."""
+    try:
+        _touch_bytes(one, site, OF_TEMPORARY)
+    except Exception as fault:
+        lost(fault)
+    return one
+
+
+def hook_before_buffer_local(one: Any, site: int) -> Any:
+    try:
+        _touch_bytes(one, site, OF_VARIABLE)
+    except Exception as fault:
+        lost(fault)
+    return one
+
+
+def _touch_bytes(one: Any, site: int, limit: int) -> None:
+    if issubclass(type(one), OF_BUFFERS):
+        if OWNERS.get(id(one)) is not None or getrefcount(one) > limit:
+            _touch_whole(one, site, ANYBODY)
+    elif type(one) is tuple or type(one) is list:
+        for part in one[:MOST_OF_BYTES]:
+            if issubclass(type(part), OF_BUFFERS):
+                _touch_whole(part, site, ANYBODY)
+
+
+MOST_OF_BYTES = 256
+"""So many buffers of a list are looked at."""
+
+
+def hook_before_given_buffer(value: Any, one: Any, site: int) -> Any:
+    """What a method is given, which may look at its bytes."""
+    if id(type(value)) in FLAT:
+        return value
+    try:
+        name = ACCESSES[site].name
+        if class_with(type(one), name) is not None and not has_watched_method(type(one), name):
+            _touch_bytes(value, site, OF_TEMPORARY)
+    except Exception as fault:
+        lost(fault)
+    return value
 
 
 def hook_before_update(value: Any, one: Any, site: int) -> Any:
@@ -1704,7 +1775,7 @@ def _what_of(hook: str, kind: type, site: int) -> What:
 
 def _what_of_object(kind: type, access: Access, site: int) -> What:
     """A method or an element of what is no container itself."""
-    if field_inside(kind):
+    if field_inside(kind) or access.what == "method" and has_method_of_settings(kind, access.name):
         return LEFT_TO_PYTHON
     if kind is memoryview and access.what == "element":
         keep_site(MEMORY, site)
@@ -1753,7 +1824,7 @@ def _what_of_whole(kind: type, family: int | None, access: Access, site: int) ->
         if not _goes_on_by(kind, access):
             return NOT_TOUCHED
         return LEFT_TO_PYTHON if field_inside(kind) else (OTHER, None, "", "")
-    is_looked_into = is_watched_class(kind) or kind is types.SimpleNamespace or kind is partial or issubclass(
+    is_looked_into = is_watched_class(kind) or keeps_fields(kind) or kind is partial or issubclass(
         kind, (tuple, frozenset, BaseException)
     )
     if field_inside(kind) or _depth_of(access) and is_looked_into:

@@ -22,7 +22,7 @@ from typing import Any, NamedTuple
 
 from .decisions import (
     COMPOSED, OF_VALUES, ROWS_OF_ITERATORS, STEPPED, VIEWS, class_with, family_of, field_inside, fields_of, ids_of,
-    has_watched_method, is_made, is_watched_class, mro_of, name_of, value_of_field, vars_of,
+    has_watched_method, is_made, is_watched_class, module_of, mro_of, name_of, value_of_field, vars_of,
 )
 from ..model.kinds import (
     COMPARED, CONTENT, DECLARED, DICT, EXITS, HASHED, MAPS, OF_ELEMENTS, ORDERED, RANKED, REFERRED, SHOWN, STATE,
@@ -221,7 +221,7 @@ def fields_looked_at(one: Any, depth: str, is_inside: bool) -> list[str]:
     What is inside of a container is compared for being equal first, and its text there is that for a programmer.
     """
     kind = type(one)
-    if kind is SimpleNamespace and depth != CONTENT:
+    if keeps_fields(kind) and depth != CONTENT:
         return [name for name in list(fields_of(one)) if type(name) is str]
     if depth in (SHOWN, WRITTEN) and issubclass(kind, BaseException):
         return ["args"] if "args" in STORED_FIELDS else []
@@ -238,6 +238,14 @@ def fields_looked_at(one: Any, depth: str, is_inside: bool) -> list[str]:
     if has_own_text or not is_made(kind, method):
         return []
     return [name for name, field in fields.items() if getattr(field, asked)]
+
+
+_NAMESPACES = frozenset((("types", "SimpleNamespace"), ("argparse", "Namespace"), ("optparse", "Values")))
+
+
+def keeps_fields(kind: type) -> bool:
+    """Whether an object only has the fields that are stored in it, and shows and compares all of them."""
+    return kind is SimpleNamespace or (module_of(kind), name_of(kind)) in _NAMESPACES
 
 
 def _slots_of(kind: type) -> list[str]:

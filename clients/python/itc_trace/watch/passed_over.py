@@ -98,6 +98,15 @@ def look_at_call(
         learned.passed_over.append((_FUNCTION_TYPE if name is None else name.rpartition(".")[2], node.lineno))
 
 
+_NOT_TO_BE_MADE_OF = frozenset(("functools.partial", "functools.partialmethod"))
+"""Classes that call what they are given. One that is made of them is not known to do so."""
+
+
+def look_at_bases(names: list[str | None], line: int, learned: Learned) -> None:
+    """Keeps a class that is made of what calls a function by itself."""
+    learned.passed_over.extend((f"a class of {name}", line) for name in names if name in _NOT_TO_BE_MADE_OF)
+
+
 def look_at_text(name: str, line: int, learned: Learned) -> None:
     """Keeps where a function that runs a text gets another name, or is given to others."""
     learned.passed_over.append((name, line))

@@ -16,9 +16,10 @@ from ..model.conflicts import ADDITION, INNER_READ, ITERATION, KEYS, LENGTH, REP
 from ..model.settings import IMPORT_OF, MODULES_OF_FIELDS, MODULES_OF_METHODS
 from . import held_lines, on_stack, passed_over
 from ..model.kinds import (
-    CALLED_BY_STEPS, CHANGED_ARGUMENT, COMPARED, CONSUMING, CONTENT, DEPTHS_OF_METHODS, EACH, IN_PLACE_FUNCTIONS,
-    IN_PLACE_METHODS, KEYED, LATE_METHODS, METHODS, ORDERED, RANKED, RANKING, READERS, SHOWING, SHOWN, STATE,
-    STEPPERS, STEPPING, SUMMED, TRUTH, WRITTEN, depth_of, known_function,
+    BUFFERS, BUILTINS_OF_BUFFERS, CALLED_BY_STEPS, CHANGED_ARGUMENT, COMPARED, CONSUMING, CONTENT, DEPTHS_OF_METHODS,
+    EACH, IN_PLACE_FUNCTIONS, IN_PLACE_METHODS, KEYED, LATE_METHODS, METHODS, METHODS_OF_BUFFERS, ORDERED, RANKED,
+    RANKING, READERS, READING_BUFFERS, SHOWING, SHOWN, STATE, STEPPERS, STEPPING, SUMMED, TRUTH, WRITTEN, depth_of,
+    known_function,
 )
 from ..model.trees import tree_of_text
 from .helper import quick
@@ -85,7 +86,8 @@ OPERATORS = {
 }
 """Functions that do what a method of their first argument does."""
 CALLED_BY_OTHERS = frozenset((
-    *OF_ATTRIBUTES, *"vars len sum min max any all next iter sorted list tuple set frozenset dict str repr".split(),
+    *OF_ATTRIBUTES,
+    *"vars len sum min max any all next iter sorted list tuple set frozenset dict str repr bool".split(),
 ))
 """Functions of the language that are handed on, as `map(len, rows)` does, and look at what they are called with."""
 LETTING_GO = frozenset("next setattr delattr".split())
@@ -108,6 +110,8 @@ GIVEN_OR_STARRED = GIVEN | {ast.Starred}
 SHOWN_ARGUMENTS = GIVEN | {ast.List, ast.Tuple, ast.Dict}
 COMPARED_AS_A_WHOLE = DISPLAYS | {ast.Tuple}
 ASKED_FOR_TRUTH = REACHED | {ast.Call, ast.NamedExpr}
+WORDS_OF_TYPE = 3
+"""With so many words `type` makes a class, which has a copy of the last one."""
 JOINING = frozenset((ast.Add, ast.Sub, ast.BitOr, ast.BitAnd, ast.BitXor))
 """Operators that make a container of two others."""
 NUMBERS = (int, float, complex)
@@ -642,7 +646,8 @@ class Rewriter:
     def _simple_Raise(self, node: ast.Raise) -> ast.stmt:
         """An exception that others may have is changed as it is raised. What its function alone has is none."""
         one: Any = node.exc
-        is_own = self._is_local(one) and one.id not in self._scope.owner(one.id).parameters
+        owner = self._scope.owner(one.id) if self._is_local(one) else None
+        is_own = owner is not None and one.id not in owner.parameters | owner.taken
         if type(one) in REACHED and not is_own:
             names = (OF_CAUSE if node.cause is not None else ()) + OF_RAISE
             site = self._site(one, "raised", "w", names[0], "")
@@ -732,6 +737,7 @@ class Rewriter:
             node.returns = self._guarded(node.returns)
 
     def _do_ClassDef(self, node: ast.ClassDef) -> list[ast.stmt]:
+        passed_over.look_at_bases([self._import_of(one) for one in node.bases], node.lineno, self._learned)
         node.decorator_list = [self._guarded(one, self._handed) for one in node.decorator_list]
         node.bases = [self._guarded(one) for one in node.bases]
         for keyword in node.keywords:
@@ -1116,7 +1122,7 @@ class Rewriter:
         None, if it tells nothing.
         """
         if name in STEPPING:
-            return self._call_stepping(node, CALLED_BY_STEPS.get(name))
+            return self._call_stepping(node, name)
         if name == "os.getenv" and node.args and type(node.args[0]) is not ast.Starred:
             node.args = [self._child(one) for one in node.args]
             site = self._site(node, "method", "", "get", "os.environ")
@@ -1132,10 +1138,41 @@ class Rewriter:
         known = known_function(name)
         if known is not None:
             return self._call_known(node, known, depth_of(name), name)
+        if name.rpartition(".")[0] in READING_BUFFERS and self._has_buffers():
+            node.args = [self._buffer(one) for one in node.args]
+            node.keywords = [self._keyword_of_buffer(one) for one in node.keywords]
+            return node
         if name in OPERATORS and len(node.args) > 1 and not any(type(one) is ast.Starred for one in node.args[:2]):
             node.args = self._given_first(node, OPERATORS[name])
             return node
         return None
+
+    def _has_buffers(self) -> bool:
+        """Whether some module makes what functions in C look at, as they look at no other container."""
+        return self._learned.is_field(BUFFERS)
+
+    def _buffer(self, node: Any) -> Any:
+        """An expression whose bytes are looked at if it is a buffer, or a list of some."""
+        if type(node) in GIVEN and not self._is_foreign_container(node) or type(node) in COMPARED_AS_A_WHOLE:
+            return self._operand(node, "before_buffer", self._site_of_whole(node, ITERATION))
+        return self._child(node)
+
+    def _keyword_of_buffer(self, node: ast.keyword) -> ast.keyword:
+        node = copied(node)
+        node.value = self._buffer(node.value)
+        return node
+
+    def _buffer_given(self, node: Any, name: str, owner: Any) -> Any:
+        """What a method is given that may look at its bytes, unless a class of the program has the method."""
+        if name not in METHODS_OF_BUFFERS or not self._has_buffers():
+            return self._child(node)
+        is_given = type(node) in GIVEN and not self._is_foreign_container(node) or type(node) in COMPARED_AS_A_WHOLE
+        is_named = self._import_of(owner) is not None or type(owner) in (ast.Constant, ast.JoinedStr)
+        if not is_given or is_named:
+            return self._buffer(node) if is_given else self._child(node)
+        me = owner if self._is_variable(owner) else self._owner_wanted(node)
+        site = self._site(node, "given", ITERATION, name, self._text(node))
+        return self._hook("before_given_buffer", node, self._child(node), me, site)
 
     def _state_of_call(self, node: ast.Call, name: str | None) -> tuple[str, str] | None:
         """What the library keeps for all threads, if the call changes it, or looks at what the program changes."""
@@ -1203,6 +1240,8 @@ class Rewriter:
         for place, one in enumerate(node.args):
             if place == 0 and is_reduced:
                 node.args[0] = self._handed(one)
+            elif type(one) is ast.Starred and others:
+                node.args[place] = self._starred(one, others, EACH)
             elif place == changed and type(one) is not ast.Starred:
                 node.args[place] = self._operand(one, "before_whole", self._site_of_whole(one, kinds, depth))
             else:
@@ -1222,21 +1261,38 @@ class Rewriter:
             return STATE if words & WHOLE_OBJECTS else depth
         return depth
 
-    def _call_stepping(self, node: ast.Call, called: int | None) -> ast.expr:
+    def _call_stepping(self, node: ast.Call, name: str) -> ast.expr:
         """A function that goes through what it is given as others go through what it gives. It may call some of it."""
-        node.args = [*node.args]
+        node.args, called = [*node.args], CALLED_BY_STEPS.get(name)
         for place, one in enumerate(node.args):
             is_method = type(one) is ast.Attribute and one.attr in METHODS
             if is_method or place == called or self._is_called_by_others(one):
-                node.args[place] = self._handed(one)
+                node.args[place] = self._called_or_truth(one)
             elif type(one) is ast.Starred:
                 node.args[place] = self._starred(one, KEYS, EACH)
+            elif type(one) in GIVEN and name == "itertools.groupby" and not self._has_own_step(node):
+                looked_at = self._operand(one, "before_whole", self._site_of_whole(one, KEYS, RANKED))
+                node.args[place] = self._hook("before_loop", one, looked_at, self._site_of_whole(one, KEYS))
             elif type(one) in GIVEN:
                 node.args[place] = self._operand(one, "before_loop", self._site_of_whole(one, KEYS))
             else:
                 node.args[place] = self._child(one)
         node.keywords = [self._keyword_of_stepping(one) for one in node.keywords]
+        if name == "itertools.accumulate" and not self._has_own_step(node):
+            node.args.append(self._hook("before_asking", node, ast.copy_location(ast.Constant(None), node), "add"))
+        elif name == "itertools.compress" and len(node.args) > 1 and type(node.args[1]) is not ast.Starred:
+            node.args[1] = self._hook("before_truths", node.args[1], node.args[1])
         return node
+
+    @staticmethod
+    def _has_own_step(node: ast.Call) -> bool:
+        """Whether a function of the library is told what to call at each step."""
+        return len(node.args) != 1 or any([one.arg in ("func", "key", None) for one in node.keywords])
+
+    def _called_or_truth(self, node: Any) -> Any:
+        """What a function of the library calls at each step. Without one it asks for the truth of each element."""
+        is_truth = type(node) is ast.Constant and node.value is None
+        return self._hook("before_asking", node, node, "bool") if is_truth else self._handed(node)
 
     def _keyword_of_stepping(self, node: ast.keyword) -> ast.keyword:
         """What a step calls may be named as any word."""
@@ -1265,8 +1321,12 @@ class Rewriter:
                 node.args = [self._child(one) for one in node.args]
                 return
             depth = self._depth_of_builtin(node, name)
-            called = [self._handed(one) for one in node.args[:is_called]]
+            called = [self._called_or_truth(one) for one in node.args[:is_called]]
             node.args = [*called, *(self._looked_at(one, name, depth) for one in node.args[is_called:])]
+        elif name == "type" and len(node.args) == WORDS_OF_TYPE:
+            node.args = [*map(self._child, node.args[:-1]), self._whole(node.args[-1], ITERATION)]
+        elif name in BUILTINS_OF_BUFFERS and self._has_buffers():
+            node.args = [self._buffer(one) for one in node.args]
         else:
             node.args = [self._child(one) for one in node.args]
 
@@ -1359,6 +1419,9 @@ class Rewriter:
             self._attribute_of_owner(node, func)
         elif name in ("format", "format_map") and not self._is_foreign_module(owner):
             return self._call_format(node, func)
+        elif name == "__class__":
+            node.func = self._called(func)
+            node.args = [self._whole(one, ITERATION) for one in node.args]
         elif name not in METHODS or self._is_foreign_container(owner):
             given = node.args
             called = self._called(func)
@@ -1554,13 +1617,13 @@ class Rewriter:
             return self._hook("before_handed", node, self._child(node), me, self._site(node, "handed", "", node.attr))
         kinds = CONSUMING.get(name)
         if kinds is None:
-            return self._child(node)
+            return self._buffer_given(node, name, owner)
         is_bytes = type(owner) is ast.Constant and type(owner.value) is bytes
         is_given = type(node) in GIVEN_OR_STARRED or is_bytes or self._updates_fields(name, owner)
         is_given = is_given or name in DEPTHS_OF_METHODS and type(node) in COMPARED_AS_A_WHOLE
         is_of_others = not is_given or self._is_foreign(node) or self._is_made(node)
         if is_of_others or self._import_of(owner) is not None:
-            return self._child(node)
+            return self._buffer_given(node, name, owner)
         if type(node) is ast.Starred:
             return self._starred(node, kinds, EACH)
         is_builtin = type(owner) is ast.Name and self._is_builtin(owner.id)
@@ -1687,7 +1750,7 @@ class Rewriter:
         rest = [self._put(one) if func.attr in PUTTING_KEYED else self._child(one) for one in others]
         if self._is_simple(first):
             func.value = self._operand(owner, "before_element", first, site)
-            node.args = [self._child(first), *rest]
+            node.args = [self._buffer_given(first, func.attr, owner), *rest]
         elif self._is_variable(owner):
             func.value = self._child(owner)
             node.args = [self._key_of(owner, first, site), *rest]
@@ -1739,10 +1802,13 @@ class Rewriter:
         left: Any = node.left
         owner: Any = node.comparators[0]
         if type(owner) not in GIVEN:
+            if type(owner) is ast.Constant and self._has_buffers():
+                node.left = self._buffer(left)
+                return node
             return self._generic(node)  # type: ignore[no-any-return]
         site = self._site(node, "element", "c", "", self._text(owner))
         if self._is_simple(left):
-            node.left = self._child(left)
+            node.left = self._buffer(left) if self._has_buffers() else self._child(left)
             node.comparators = [self._operand(owner, "before_element", left, site)]
         elif self._is_variable(owner):
             node.left = self._hook("before_key", left, owner, self._child(left), site)

@@ -7,7 +7,7 @@ import ast
 from collections.abc import Callable
 from typing import Any
 
-from ..model.kinds import MAPS, METHODS, READERS
+from ..model.kinds import BUFFERS, MAKING_BUFFERS, MAPS, METHODS, MODULE_OF_BUFFERS, READERS
 from ..model.settings import IMPORT_OF
 from ..model.settings import MODULES as SETTING_MODULES
 from . import passed_over
@@ -68,6 +68,8 @@ class Scope:
         self.used: set[str] = set()
         self.captured: set[str] = set()
         self.parameters: set[str] = set()
+        self.taken: set[str] = set()
+        """Variables that are given what may be another's, and not what a call of a class or a function gives."""
         self.first_lines: dict[str, int] = {}
         self.made = ""
         """The variable of a constructor that has the object that is made."""
@@ -287,6 +289,8 @@ class Scopes:
         scope = self._scope
         if type(node.ctx) is ast.Load:
             scope.used.add(node.id)
+            if node.id == MAKING_BUFFERS:
+                self.learned.add_field(BUFFERS)
             if node.id in passed_over.NAMED:
                 self._texts.append((scope, node.id, node.id, node.lineno))
         elif scope.kind == COMPREHENSION and self._is_target:
@@ -304,6 +308,7 @@ class Scopes:
         _mark_kept(node.value)
         if isinstance(node.value, ast.Call) and isinstance(node.value.func, ast.Name) and node.value.func.id == "super":
             self.learned.add_field(BY_ANOTHER)  # Methods of an object are found by way of another one.
+        self._take(node.value, *node.targets)
         return self._walk(node.value) | self._walk_all(node.targets)
 
     def _visit_AnnAssign(self, node: ast.AnnAssign) -> int:
@@ -327,8 +332,14 @@ class Scopes:
 
     _visit_Tuple = _visit_List = _visit_row
 
+    def _take(self, value: ast.expr | None, *targets: ast.expr) -> None:
+        """Keeps the variables that are given what others may have, too."""
+        if not (isinstance(value, ast.Call) and isinstance(value.func, ast.Name)):
+            self._scope.function.taken.update(one.id for one in targets if isinstance(one, ast.Name))
+
     def _visit_NamedExpr(self, node: ast.NamedExpr) -> int:
         _mark_kept(node.value)
+        self._take(node.value, node.target)
         return self._walk(node.value) | self._walk(node.target)
 
     def _visit_Global(self, node: ast.Global) -> int:
@@ -349,6 +360,8 @@ class Scopes:
     def _note_import(self, dotted: str) -> None:
         """Keeps that a module with settings is imported, by itself or for one of its names."""
         for name in (dotted, dotted.rpartition(".")[0]):
+            if name == MODULE_OF_BUFFERS:
+                self.learned.add_field(BUFFERS)
             if name in SETTING_MODULES:
                 self.learned.add_field(IMPORT_OF + name)
 
@@ -511,6 +524,8 @@ class Scopes:
 
     def _visit_loop(self, node: Any) -> int:
         self._loops += 1
+        if not isinstance(node, ast.While):
+            self._take(None, node.target)
         inside = self._walk_inside(node)
         self._loops -= 1
         return inside
