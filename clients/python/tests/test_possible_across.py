@@ -31,6 +31,34 @@ COUNTED = "; 1 more pair is in order by locks alone: run --confirm: "
 TRIED = ("lock_value_fork", "first_holds_value_spawn", "lock_of_condition_array_fork", "second_holds_memory_spawn")
 """One of each kind of thing, and of each way to hold a lock."""
 
+MANY_GIVE = """
+import multiprocessing, threading, time
+class Stock: pass
+stock = Stock()
+def give(permits):
+    stock.left = 0
+    permits.release()
+def give_many(permits):
+    for _ in range(THREADS):
+        thread = threading.Thread(target=permits.release)
+        thread.start()
+        thread.join()
+if __name__ == "__main__":
+    multiprocessing.set_start_method("fork")
+    permits = multiprocessing.Semaphore(0)
+    thread = threading.Thread(target=give, args=(permits,))
+    thread.start()
+    while not permits.get_value():
+        time.sleep(0.01)
+    child = multiprocessing.Process(target=give_many, args=(permits,))
+    child.start()
+    child.join()
+    permits.acquire()
+    permits.acquire()
+    print(stock.left)
+    thread.join()
+"""
+
 
 class Told(ProgramCase):
     def ran(self, text: str, *words: str) -> str:
@@ -111,6 +139,12 @@ def second(one, by):
                     r"\Aitc_trace: no race in this run: ",
                 )
                 self.assertIn(COUNTED, self.ran(text.replace("BEFORE", "pass").replace("AFTER", "one.value = 5")))
+
+    def test_permits_of_a_process_with_too_many_tasks_to_count_are_luck(self) -> None:
+        for threads in 60, 70:
+            with self.subTest(threads=threads):
+                told = self.ran(MANY_GIVE.replace("THREADS", str(threads)))
+                self.assertEqual((COUNTED in told, " no race in this run" in told), (True, True), told)
 
     def test_threads_of_a_child_are_counted_too(self) -> None:
         text = """
