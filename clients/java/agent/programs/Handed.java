@@ -261,6 +261,60 @@ public final class Handed {
                 () -> System.out.println(orders.take().left));
     }
 
+    /** The queue asks each element for its number as it compares them. */
+    static void comparedByNumber() throws InterruptedException {
+        BlockingQueue<Store> orders = new PriorityBlockingQueue<>(4, Comparator.comparingInt(store -> store.left));
+        both(() -> putDown(orders), () -> takeAll(orders));
+    }
+
+    static void comparedByDelay() throws InterruptedException {
+        BlockingQueue<Numbered> orders = new DelayQueue<>();
+        both(
+                () -> {
+                    for (int number = 9; number > 0; number--) {
+                        orders.put(new Numbered(number));
+                    }
+                },
+                () -> {
+                    for (int turn = 0; turn < 9; turn++) {
+                        System.out.println(orders.take().number);
+                    }
+                });
+    }
+
+    /** It can be changed, and says by that when it is due. */
+    static final class Numbered implements Delayed {
+        int number;
+
+        Numbered(int number) {
+            this.number = number;
+        }
+
+        @Override
+        public long getDelay(TimeUnit unit) {
+            return number > 0 ? 0 : 1;
+        }
+
+        @Override
+        public int compareTo(Delayed other) {
+            return Integer.compare(number, ((Numbered) other).number);
+        }
+    }
+
+    private static void putDown(BlockingQueue<Store> orders) throws InterruptedException {
+        for (int number = 9; number > 0; number--) {
+            Store store = new Store();
+            store.left = number;
+            orders.put(store);
+        }
+    }
+
+    private static void takeAll(BlockingQueue<Store> orders) throws InterruptedException {
+        for (int turn = 0; turn < 9; turn++) {
+            System.out.println(orders.take().left);
+        }
+    }
+
     static void queuedByHand() throws InterruptedException {
         handOver(new SynchronousQueue<>());
     }

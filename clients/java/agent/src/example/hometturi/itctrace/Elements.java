@@ -23,6 +23,12 @@ final class Elements {
         this.isInOrder = isInOrder;
     }
 
+    /** Whether what compares the element may look into what others have changed. */
+    static boolean mayBeLookedInto(Object element) {
+        Class<?> type = element.getClass();
+        return type.isArray() || !Kinds.isOfJdk(type) || Kinds.of(element).isLookedAt();
+    }
+
     synchronized void put(Object element, Site site) {
         Mark mark = Traced.mark(ITEM, site);
         if (mark != null) {

@@ -123,6 +123,21 @@ public final class Handovers {
         }
     }
 
+    /** The same of a queue that compares its elements. What it looks into has an order of its own. */
+    public static void putsCompared(Object queue, Object element) {
+        puts(queue, element);
+        if (element != null && Traced.isOn() && Elements.mayBeLookedInto(element)) {
+            Traced.before(of(queue));
+        }
+    }
+
+    /** The queue is about to compare some of its elements. */
+    public static void compares(Object queue) {
+        if (Traced.isOn()) {
+            Traced.after(of(queue));
+        }
+    }
+
     public static void took(Object element, Object queue) {
         takes(element, queue, true);
     }

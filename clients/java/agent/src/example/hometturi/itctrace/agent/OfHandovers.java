@@ -101,7 +101,7 @@ final class OfHandovers implements ClassFileTransformer {
                     last(ARRAY_QUEUE, "toArray()[" + OBJECT, "sawAll", OF_ANY, 0),
                     last(ARRAY_QUEUE, "toArray([" + OBJECT + ")[" + OBJECT, "sawAll", OF_ANY, 0),
                     first(ARRAY_QUEUE, "contains(" + OBJECT + ")Z", "sawAll", OF_ANY, 0),
-                    first(PRIORITY_QUEUE, "offer(" + OBJECT + ")Z", "puts", OF_TWO, 0, 1),
+                    first(PRIORITY_QUEUE, "offer(" + OBJECT + ")Z", "putsCompared", OF_TWO, 0, 1),
                     last(PRIORITY_QUEUE, "dequeue()" + OBJECT, "took", OF_TWO, 0),
                     last(PRIORITY_QUEUE, "peek()" + OBJECT, "saw", OF_TWO, 0),
                     first(PRIORITY_QUEUE, "clear()V", "clears", OF_ANY, 0),
@@ -110,7 +110,7 @@ final class OfHandovers implements ClassFileTransformer {
                     last(PRIORITY_QUEUE, "toArray()[" + OBJECT, "sawAll", OF_ANY, 0),
                     last(PRIORITY_QUEUE, "toArray([" + OBJECT + ")[" + OBJECT, "sawAll", OF_ANY, 0),
                     first(PRIORITY_QUEUE, "contains(" + OBJECT + ")Z", "sawAll", OF_ANY, 0),
-                    first(DELAY_QUEUE, "offer(Ljava/util/concurrent/Delayed;)Z", "puts", OF_TWO, 0, 1),
+                    first(DELAY_QUEUE, "offer(Ljava/util/concurrent/Delayed;)Z", "putsCompared", OF_TWO, 0, 1),
                     last(DELAY_QUEUE, "poll()Ljava/util/concurrent/Delayed;", "took", OF_TWO, 0),
                     last(DELAY_QUEUE, "take()Ljava/util/concurrent/Delayed;", "took", OF_TWO, 0),
                     last(DELAY_QUEUE, "poll" + TIMED + "Ljava/util/concurrent/Delayed;", "took", OF_TWO, 0),
@@ -159,7 +159,7 @@ final class OfHandovers implements ClassFileTransformer {
     static {
         EDITS.put(ARRAY_QUEUE, OfHandovers::editArrayQueue);
         EDITS.put(PRIORITY_QUEUE, OfHandovers::editPriorityQueue);
-        EDITS.put(DELAY_QUEUE, (node, method) -> putIntoDrain(method));
+        EDITS.put(DELAY_QUEUE, OfHandovers::editDelayQueue);
         EDITS.put(SYNCHRONOUS_QUEUE, OfHandovers::editSynchronousQueue);
         EDITS.put(TRANSFER_QUEUE, OfHandovers::editTransferQueue);
         EDITS.put(EXCHANGER, OfHandovers::editExchanger);
@@ -334,6 +334,24 @@ final class OfHandovers implements ClassFileTransformer {
     private static void editPriorityQueue(ClassNode node, MethodNode method) {
         if (node.name.equals(PRIORITY_QUEUE) && method.name.equals("removeAt")) {
             putBeforeRemoval(method, PRIORITY_QUEUE, "queue");
+        }
+        if ((method.access & Opcodes.ACC_STATIC) == 0) {
+            putBeforeComparing(method, PRIORITY_QUEUE, List.of("siftUp", "siftDown"));
+        }
+    }
+
+    private static void editDelayQueue(ClassNode node, MethodNode method) {
+        putIntoDrain(method);
+        putBeforeComparing(method, "java/util/PriorityQueue", List.of("offer", "poll", "remove"));
+        putBeforeComparing(method, CONCURRENT + "Delayed", List.of("getDelay"));
+    }
+
+    /** The queue is locked, and may call code of the program that looks into its elements. */
+    private static void putBeforeComparing(MethodNode method, String owner, List<String> names) {
+        for (AbstractInsnNode one : method.instructions.toArray()) {
+            if (one instanceof MethodInsnNode call && call.owner.equals(owner) && names.stream().anyMatch(call.name::startsWith)) {
+                method.instructions.insertBefore(one, listOf(load(0), hook("compares", OF_ANY)));
+            }
         }
     }
 
