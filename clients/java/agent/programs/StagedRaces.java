@@ -46,7 +46,7 @@ public final class StagedRaces {
     static void notJoined() throws InterruptedException {
         Store store = new Store();
         CompletableFuture.runAsync(() -> store.sold = 1); // race: notJoined
-        Thread.sleep(60);
+        Thread.sleep(1000);
         System.out.println(store.sold); // race: notJoined
     }
 
