@@ -21,7 +21,7 @@ import mmap, multiprocessing, os, sys, time
 import itc_trace
 from itc_trace.record import tracer
 
-tracer.ANSWER_WAIT, memory = 900, mmap.mmap(-1, 1)
+tracer.ANSWER_WAIT, memory = 900, mmap.mmap(os.open("/dev/zero", os.O_RDWR), 1)
 stock = itc_trace.shared({"left": 9}, "stock")
 
 def work(touches):
@@ -61,7 +61,7 @@ if __name__ == "__main__":
 WAYS = ("_exit", "exit", "fork", "forkserver", "spawn")
 IN_BOTH = """
 import mmap, os, itc_trace
-memory = mmap.mmap(-1, 1)
+memory = mmap.mmap(os.open("/dev/zero", os.O_RDWR), 1)
 for turn in range(2):
     itc_trace.touch("x", write=True)
     if turn == 0:

@@ -24,7 +24,7 @@ for thread in threads:
     thread.join()
 """
 TEXT = "stock = {}\ndef work():\n    exec('stock[1] = 2')\n" + THREADS
-LATER = "from mmap import mmap\nimport ctypes\n\ndef work():\n    print(len(mmap(-1, 9)), eval('1'), memoryview(b'x')[0])\n"
+LATER = "from string import Formatter\nimport ctypes\n\ndef work():\n    print(len(Formatter().format('x')), eval('1'), memoryview(b'x')[0])\n"
 SHADOWED = "def exec(text):\n    return text\ndef work():\n    print(exec('a'), evaluate())\nevaluate = int\n" + THREADS
 EXEC = PassedOver("exec", "shop.py:3")
 
@@ -99,7 +99,7 @@ class PassedOverCase(ProgramCase):
     def test_each_is_named_once_and_not_too_many(self) -> None:
         ran = run_traced(self.program(LATER + THREADS))
         self.assertEqual(ran.returncode, Verdict.NO_RACE, ran.stderr)
-        self.assertIn("not looked into: ctypes at program.py:2, mmap at program.py:5, eval at program.py:5 and 1 more: ", ran.stderr)
+        self.assertIn("not looked into: ctypes at program.py:2, Formatter at program.py:5, eval at program.py:5 and 1 more: ", ran.stderr)
 
     def test_a_run_of_one_task_has_nothing_to_look_into(self) -> None:
         ran = run_traced(self.program(LATER + "work()\n"))

@@ -329,7 +329,7 @@ if __name__ == "__main__":
     del thing
 """
 MAKERS = (
-    "multiprocessing.Barrier(1, print)", "multiprocessing.Barrier(17)", "multiprocessing.Array('i', 5000)", "shared_memory.ShareableList(range(5000))", "__import__('multiprocessing.managers').managers.SyncManager().get_server()", "__import__('mmap').mmap(-1, 1)", "(lambda pipe: pipe[0].fileno() and pipe[0].send_bytes(b'x') or pipe)(multiprocessing.Pipe())",
+    "multiprocessing.Barrier(1, print)", "multiprocessing.Barrier(17)", "multiprocessing.Array('i', 5000)", "shared_memory.ShareableList(range(5000))", "__import__('multiprocessing.managers').managers.SyncManager().get_server()", "__import__('mmap').mmap(open('/dev/zero', 'r+b', 0).fileno(), 1)", "(lambda pipe: pipe[0].fileno() and pipe[0].send_bytes(b'x') or pipe)(multiprocessing.Pipe())",
     "bool(shared_memory.ShareableList([1]).shm.buf)",
     "multiprocessing.RawArray(type('S', (__import__('ctypes').Structure,), {'_fields_': [('x', __import__('ctypes').c_int)]}), 2)",
 )

@@ -63,7 +63,8 @@ def main() -> None:
         traced = Tracing(**configuration, shaking=shaking, parts=parts, child=process).start()
     except OSError as fault:  # Another session reports, say.
         _refuse(tell, str(fault))
-    Ending(traced).begin(folders, packages, asked=asked if process is None else process.asked, plan=plan)
+    names, asking = (None, asked) if process is None else (process.names, process.asked)
+    Ending(traced).begin(folders, packages, names, asking, plan)
     if process is not None:
         may_be_asked(process, traced)
     elif asked is not None:

@@ -25,11 +25,20 @@ class Touch(NamedTuple):
 
 @functools.lru_cache(maxsize=4096)
 def touches(first: int, end: int, size: int, is_change: bool) -> tuple[Touch, ...]:
-    """What a touch of the bytes from the first one on comes to, in memory of this size."""
+    """What a touch of the bytes from the first one on comes to, in memory of this size.
+
+    It may have grown since. What lies behind that size is in ranges that are at most as long as the first one.
+    """
     length = 1
     while length < size:
         length *= FACTOR
-    return tuple(_within(0, length, range(first, end), size, is_change)) if first < end else ()
+    found: list[Touch] = []
+    if first < min(end, size):
+        found += _within(0, length, range(first, min(end, size)), size, is_change)
+    behind = range(max(first, size), end)
+    for begin in range(behind.start // length * length, behind.stop, length) if behind else ():
+        found += _within(begin, length, behind, begin + length, is_change)
+    return tuple(found)
 
 
 def _within(begin: int, length: int, touched: range, size: int, is_change: bool) -> list[Touch]:

@@ -24,7 +24,7 @@ _LOOKING = frozenset(
 """Attributes of a view that are seen, or that touch no byte."""
 _GIVING_VIEWS = frozenset(("cast", "toreadonly"))
 _MAINS = frozenset(("__main__", "__mp_main__"))
-STRUCT = "struct"
+STRUCT, VIEW = "struct", "memoryview"
 OF_STRUCT = ("pack_into", "unpack_from")
 """Functions of `struct` that are followed by themselves."""
 
@@ -66,6 +66,15 @@ def given(code: CodeType, instruction: int) -> Given:
     """What becomes of a view that is the value of this instruction, and is given to something at once."""
     told: Given = _asked(code, instruction, _given) or Given.UNKNOWN
     return told
+
+
+def given_to_call(code: CodeType, instruction: int, module: object) -> Given:
+    """What becomes of the bytes that a call takes at this instruction.
+
+    A view that it gives may be seen from then on.
+    """
+    told: Given | None = _asked(code, instruction, _given_to if module in _MAINS else _given_to_beside_others)
+    return told or Given.UNKNOWN
 
 
 _known: dict[tuple[int, int, Any], tuple[CodeType, Any]] = {}
@@ -188,6 +197,17 @@ def _given(source: _Source, node: ast.AST) -> Given:
     if not isinstance(above, ast.Call) or node not in above.args:
         return Given.UNKNOWN
     return source.given_to(above.func)
+
+
+def _given_to(source: _Source, node: ast.AST, is_main: bool = True) -> Given:
+    if not isinstance(node, ast.Call):
+        return Given.UNKNOWN
+    is_view = isinstance(node.func, ast.Name) and node.func.id == VIEW and VIEW not in source.names
+    return Given.FOLLOWED if is_view and source.is_seen(node, is_main) else source.given_to(node.func)
+
+
+def _given_to_beside_others(source: _Source, node: ast.AST) -> Given:
+    return _given_to(source, node, False)
 
 
 def _bound_by(node: ast.AST) -> list[str]:

@@ -8,6 +8,7 @@ from __future__ import annotations
 
 import contextlib
 import itertools
+import mmap
 import os
 import random
 import sys
@@ -28,6 +29,9 @@ from ..model.verdict import Cause, PassedOver, Unseen, child_begun_row, child_en
 MOST_TAG = 8
 NOWHERE = "?"
 BLOCKS = "/dev/shm/"
+PAGE = mmap.PAGESIZE
+BESIDE_OTHERS = "beside others"
+"""The key of the name by which a process of a system tells its children that it is one."""
 SEMAPHORES = f"{BLOCKS}sem."
 """How the memory of named semaphores is called, which are no shared memory to the program."""
 FOLLOWED_MEMORY = (f"/{PREFIX}", "/pym-")
@@ -195,6 +199,20 @@ def shared_names() -> SharedNames | None:
     return _following.names
 
 
+def is_beside_others() -> bool:
+    """Whether processes that are no children of one another report to the same trace, as in a system.
+
+    The first of them says so to its children.
+    """
+    names, tracer = shared_names(), state.tracer
+    slot = None if names is None else names.slot_of(BESIDE_OTHERS)
+    if names is None or slot is None or tracer is None:
+        return tracer is not None and bool(tracer.prefix)
+    if _following.traced is not None and not _following.traced.is_child:
+        names.put(slot, tracer.prefix)
+    return bool(names.name_at(slot))
+
+
 def end() -> None:
     """The process ends, and with it what it has made for its children."""
     if _following.names is not None and not (_following.traced is not None and _following.traced.is_child):
@@ -218,6 +236,8 @@ def _shares_memory() -> bool:
 
 _followed_blocks: set[str] = set()
 """The files of shared memory whose touches are noted."""
+_followed_ranges: dict[int, range] = {}
+"""The addresses of memory whose touches are noted, by the identity of what maps it."""
 GONE = " (deleted)"
 
 
@@ -226,10 +246,30 @@ def follow_memory(name: str) -> None:
     _followed_blocks.add(f"{BLOCKS}{name}")
 
 
-def _is_shared(_range: str, permissions: str, _offset: str, _device: str, _number: str, path: str = "") -> bool:
+def follow_range(key: int, first: int, end: int) -> None:
+    """The touches of the memory at these addresses are noted, by whatever it is known. It has whole pages."""
+    _followed_ranges[key] = range(first, -(-end // PAGE) * PAGE)
+
+
+def forget_range(key: int) -> None:
+    """This memory is not there any more."""
+    _followed_ranges.pop(key, None)
+
+
+def _is_shared(at: str, permissions: str, _offset: str, _device: str, _number: str, path: str = "") -> bool:
+    if not (permissions.startswith("rw") and permissions.endswith("s")):
+        return False
     is_known = path.startswith(SEMAPHORES) or any(one in path for one in FOLLOWED_MEMORY)
     is_known = is_known or path.strip().removesuffix(GONE) in _followed_blocks
-    return permissions.startswith("rw") and permissions.endswith("s") and not is_known
+    return not (is_known or _are_followed(*(int(one, 16) for one in at.split("-"))))
+
+
+def _are_followed(first: int, end: int) -> bool:
+    """Whether all memory at these addresses is followed. The system may tell of several maps at once."""
+    for one in sorted(list(_followed_ranges.values()), key=lambda one: one.start):
+        if one.start <= first < one.stop:
+            first = one.stop
+    return first >= end
 
 
 class Begun(NamedTuple):

@@ -5,8 +5,7 @@ What the program itself does to the memory of a list is not followed.
 
 from __future__ import annotations
 
-import os
-from types import FrameType, ModuleType
+from types import ModuleType
 from typing import Any
 
 from ..model.conflicts import READ, WRITE
@@ -15,16 +14,13 @@ from ..model.lines import state
 from ..model.stretches import SharedThing
 from ..record import following
 from ..record.noting import touch_at
-from ..record.shared_names import LONGEST_NAME
 from .base import Patches
+from .labels import keep_label, label_of
 from .later import once_imported
 from .values import MOST_ELEMENTS, making, user
 
 _MODULE = "multiprocessing.shared_memory"
 OF_LISTS = "list"
-_labels: dict[str, str] = {}
-"""Where this process has made what lies in shared memory, by what it is and the name of its memory."""
-_counts: dict[str, int] = {}
 
 
 def put(patches: Patches) -> None:
@@ -54,33 +50,6 @@ def _making_of(original: Any) -> Any:
         following.follow_memory(memory)
 
     return __init__
-
-
-def keep_label(what: str, memory: str, frame: FrameType | None) -> None:
-    """Keeps where something was made, for each process that gets it by the name of its memory."""
-    tracer = state.tracer
-    maker = "" if tracer is None or not tracer.prefix else f" by {tracer.prefix.rstrip('_')}"
-    place = "?" if frame is None else f"{os.path.basename(frame.f_code.co_filename)}:{frame.f_lineno}{maker}"
-    key, of_place = f"{what} {memory}", f"{what} {place}"
-    number = _counts[of_place] = _counts.get(of_place, 0) + 1
-    label = place if number == 1 else f"{place}, number {number}"
-    if len(label) > LONGEST_NAME or not label.isascii():
-        label = memory[:LONGEST_NAME]
-    _labels[key] = label
-    names = following.shared_names()
-    slot = None if names is None else names.slot_of(key)
-    if names is not None and slot is not None:
-        names.put(slot, label)
-    elif names is not None:
-        _labels[key] = memory[:LONGEST_NAME]  # No other process would be told the place.
-
-
-def label_of(what: str, memory: str) -> str:
-    """Where it was made. Nothing, if nobody has said so."""
-    key, names = f"{what} {memory}", following.shared_names()
-    slot = None if names is None else names.slot_of(key)
-    told = "" if names is None or slot is None else names.name_at(slot)
-    return told or _labels.get(key, "")
 
 
 def _get(original: Any) -> Any:

@@ -16,7 +16,7 @@ from ..model.lines import Line, state
 from ..model.frames import INTERNAL
 from ..model.verdict import PassedOver, Unseen
 from ..model.stretches import SITES
-from ..sync import chains, shared_blocks, twisted_threads
+from ..sync import chains, shared_bytes, twisted_threads
 from ..sync.base import like
 from ..sync.meeting import Meeting, Touching
 from . import begun_code, handed, held_lines, hooks, leaving, named, passed_over, proxied, things
@@ -36,7 +36,7 @@ MAIN_OF_CHILD = "__mp_main__"
 
 handed.begin()
 proxied.begin()
-shared_blocks.WITH_OTHERS.append(lambda: _switch_on())
+shared_bytes.WITH_OTHERS.append(lambda: _switch_on())
 
 
 class _Waiting(NamedTuple):
@@ -151,7 +151,7 @@ def begin() -> None:
     if _finder is None or tracer is None:
         return
     begun_code.begin()
-    if tracer.parent_of_strangers is not tracer.main or shared_blocks.are_there():
+    if tracer.parent_of_strangers is not tracer.main or shared_bytes.are_there():
         hooks.put(True)
         return
     if _waiting is None:
@@ -208,7 +208,7 @@ def not_looked_into() -> list[PassedOver]:
     if _finder is None:
         return []
     all_found = [
-        *passed_over.found, *chains.found, *twisted_threads.found, *shared_blocks.found, *passed_over.of_loaded(),
+        *passed_over.found, *chains.found, *twisted_threads.found, *shared_bytes.found, *passed_over.of_loaded(),
         *begun_code.running(),
     ]
     return [one for one in all_found if hooks.are_put() or one.what.startswith(passed_over.TASKS_OF)]

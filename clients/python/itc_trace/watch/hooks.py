@@ -34,7 +34,7 @@ from typing import Any, NamedTuple
 from ..model.conflicts import (
     ADDITION, INNER_READ, INNER_WRITE, ITERATION, KEYS, LENGTH, REMOVAL, REPLACEMENT, REWRITE, STEP, WRITE,
 )
-from ..sync import locks, loops, queues, shared_blocks
+from ..sync import locks, loops, maps, queues, shared_bytes
 from ..sync.handed_on import HANDED, Calling, Place, called, is_of_container
 from ..model.lines import state
 from ..model.settings import FIELDS_OF_CLASSES, METHODS_OF_CLASSES, SURE
@@ -1036,7 +1036,7 @@ def _stepping(one: Any, site: int, limit: int) -> Any:
         return _stepping_on(one, site, is_reached)
     family = family_of(kind)
     if kind is memoryview and views.is_of_block(one):
-        views.is_gone_through(site)
+        views.is_gone_through(one, site)
         return one
     if family is None:
         inside = next(inside_of(one), None)
@@ -1756,7 +1756,7 @@ def _what_of(hook: str, kind: type, site: int) -> What:
     access = ACCESSES[site]
     if hook == "before_attribute":
         return _what_of_field(kind, access, site)
-    if kind is memoryview and shared_blocks.are_there():
+    if kind is memoryview and shared_bytes.are_there():
         return LEFT_TO_PYTHON
     if id(kind) in PLAIN:
         is_deep = id(kind) not in FLAT and hook == "before_whole" and _depth_of(access) in DEEP_SITES
@@ -1917,9 +1917,10 @@ QUIET: dict[str, Callable[..., Any]] = {
 }
 
 
-shared_blocks.AT_FIRST_BLOCK.append(forget_decisions)
+shared_bytes.AT_FIRST_BLOCK.append(forget_decisions)
 if quick is not None:
     _set_up()
+    maps.be_quick(quick)
     if locks.be_quick(quick):
         queues.be_quick(quick)
         loops.be_quick(quick)

@@ -29,7 +29,7 @@ _RUNNING_TEXTS = frozenset(
 """Functions and classes of the library that run a text which they are given."""
 _MEASURING = frozenset(("timeit.timeit", "timeit.repeat", "timeit.Timer"))
 """Those that run a text, or call a function."""
-_FUNCTIONS = frozenset(("mmap.mmap", "weakref.proxy", "string.Formatter", "builtins.memoryview", *_RUNNING_TEXTS))
+_FUNCTIONS = frozenset(("weakref.proxy", "string.Formatter", "builtins.memoryview", *_RUNNING_TEXTS))
 _CALLERS = frozenset("enter enterabs add_signal_handler add_reader add_writer".split())
 """Methods of the library that call what they are given, and are not followed."""
 _FOLLOWED = ("concurrent.futures.", "asyncio.", "trio.", "multiprocessing.", "itertools.", "operator.")

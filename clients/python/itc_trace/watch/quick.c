@@ -3037,6 +3037,61 @@ static PyObject *call_with_quick_nodes(PyObject *self, PyObject *const *words, P
     return made;
 }
 
+/* Maps of memory: who takes the bytes of one at once is told, and who goes through it. */
+
+static struct {
+    PyTypeObject *kind;
+    PyObject *taken, *gone_through;
+} maps;
+
+static PyTypeObject *plain_map(void)
+{
+    return maps.kind->tp_base;
+}
+
+static int tell_of_map(PyObject *function, PyObject *map, Py_ssize_t number)
+{
+    PyObject *told = PyObject_CallFunction(function, "On", map, number);
+    Py_XDECREF(told);
+    return told == NULL ? -1 : 0;
+}
+
+static int buffer_of_map(PyObject *map, Py_buffer *view, int flags)
+{
+    if (plain_map()->tp_as_buffer->bf_getbuffer(map, view, flags) < 0)
+        return -1;
+    if (tell_of_map(maps.taken, map, (flags & PyBUF_WRITABLE) != 0) == 0)
+        return 0;
+    PyBuffer_Release(view);
+    return -1;
+}
+
+static PyObject *item_of_map(PyObject *map, Py_ssize_t place)
+{
+    PyObject *item = plain_map()->tp_as_sequence->sq_item(map, place);
+    if (item != NULL && tell_of_map(maps.gone_through, map, place) < 0)
+        Py_CLEAR(item);
+    return item;
+}
+
+/* It is done for a class that the program makes of it, too, which goes through its items by `__getitem__`. */
+static PyObject *know_map(PyObject *self, PyObject *kind)
+{
+    ((PyTypeObject *)kind)->tp_as_buffer->bf_getbuffer = buffer_of_map;
+    Py_RETURN_NONE;
+}
+
+static PyObject *know_maps(PyObject *self, PyObject *const *words, Py_ssize_t count)
+{
+    WORDS(3)
+    maps.kind = (PyTypeObject *)Py_NewRef(words[0]);
+    maps.taken = Py_NewRef(words[1]);
+    maps.gone_through = Py_NewRef(words[2]);
+    maps.kind->tp_name = plain_map()->tp_name;
+    maps.kind->tp_as_sequence->sq_item = item_of_map;
+    return know_map(self, words[0]);
+}
+
 /* Beginning */
 
 static PyObject *setup(PyObject *self, PyObject *words, PyObject *named)
@@ -3120,7 +3175,7 @@ static PyMethodDef methods[] = {
     FAST("collecting", collecting), {"is_collecting", is_collecting, METH_NOARGS, NULL},
     FAST("note_put", note_put), FAST("note_got", note_got), {"again", again, METH_O, NULL},
     {"is_taken", is_taken, METH_O, NULL}, {"begin_turn", begin_turn, METH_O, NULL},
-    {"is_plain_step", is_plain_step, METH_O, NULL},
+    {"is_plain_step", is_plain_step, METH_O, NULL}, FAST("know_maps", know_maps), {"know_map", know_map, METH_O, NULL},
     {"know_loops", (PyCFunction)(void (*)(void))know_loops, METH_VARARGS | METH_KEYWORDS, NULL},
     {NULL},
 };

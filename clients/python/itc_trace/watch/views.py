@@ -6,9 +6,9 @@ from builtins import memoryview, type
 from typing import Any
 
 from ..model.memory_uses import Given, given, is_slice_followed
-from ..sync import shared_blocks
+from ..sync import shared_bytes
 from ..sync.handed_on import Place
-from ..sync.shared_blocks import HANDED_ON, block_of
+from ..sync.shared_bytes import block_of
 from .passed_over import keep_site
 from .places import Access
 
@@ -25,9 +25,9 @@ def is_of_block(view: memoryview) -> bool:
 def touch_element(view: memoryview, key: Any, access: Access, site: int, place: Place | None) -> None:
     """An item is touched, or a slice that a variable has."""
     if access.what != "element" or access.kinds not in _WAYS:
-        keep_site(HANDED_ON, site)
+        _tell(view, site)
     elif type(key) is slice and access.kinds == "r":
-        _take(access, site, place)
+        _take(view, access, site, place)
     else:
         for kind in access.kinds:
             _touch(view, key, kind == "w", site, place)
@@ -38,13 +38,13 @@ def touch_whole(view: memoryview, access: Access, site: int, place: Place | None
     if access.words == PUTTING:
         return _Putting(view, site, place)
     if access.words == TAKING:
-        _take(access, site, place)
+        _take(view, access, site, place)
         return None
     use = Given.UNKNOWN if place is None else given(*place)
     if use is Given.LOOKED_THROUGH:
         _touch(view, None, False, site, place)
     elif use is Given.UNKNOWN:
-        keep_site(HANDED_ON, site)
+        _tell(view, site)
     return None
 
 
@@ -53,24 +53,31 @@ def touch_by_method(view: memoryview, access: Access, site: int, place: Place | 
         _touch(view, None, False, site, place)
 
 
-def is_gone_through(site: int) -> None:
+def is_gone_through(view: memoryview, site: int) -> None:
     """A loop goes through a view, which nobody sees at its steps."""
-    keep_site(HANDED_ON, site)
+    _tell(view, site)
 
 
-def _take(access: Access, site: int, place: Place | None) -> None:
+def _tell(view: memoryview, site: int) -> None:
+    """Tells of a view that goes where no hook is."""
+    block = block_of(view)
+    if block is not None:
+        keep_site(shared_bytes.handed_on(block.kind), site)
+
+
+def _take(view: memoryview, access: Access, site: int, place: Place | None) -> None:
     """A slice is a view of its own. Nothing is touched yet, but it may go where no hook is."""
     if place is None or not is_slice_followed(*place, access.module):
-        keep_site(HANDED_ON, site)
+        _tell(view, site)
 
 
 def _touch(view: memoryview, key: Any, is_change: bool, site: int, place: Place | None) -> None:
     block = block_of(view)
-    spans = None if block is None else shared_blocks.spans_of(view, block, key)
+    spans = None if block is None else shared_bytes.spans_of(view, block, key)
     if block is None or spans is None or place is None:
-        keep_site(HANDED_ON, site)
+        _tell(view, site)
     else:
-        shared_blocks.touch(block, spans, is_change, place)
+        shared_bytes.touch(block, spans, is_change, place)
 
 
 class _Putting:
