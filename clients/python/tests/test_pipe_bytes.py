@@ -8,6 +8,7 @@ import threading
 import unittest
 
 from itc_trace import Verdict
+from itc_trace.record.messages import NAME
 from itc_trace.record.shared_names import SharedNames
 from itc_trace.sync import counted_pipes
 
@@ -163,6 +164,24 @@ WORDS = {
     "two_send": "recv_bytes|send_bytes", "two_receive": "recv_bytes", "two_threads_receive": "recv_bytes", "by_hand": "send_bytes|recv_bytes",
     "by_address": "send_bytes", "at_the_end": "the end of a pipe",
 }
+MANY = """
+import itc_trace, multiprocessing, os
+def hit(name):
+    itc_trace.touch(name, write=True, across=True)
+for turn in range(10):
+    pipes = [multiprocessing.Pipe(number % 2 == 0) for number in range(100)]
+    child = os.fork()
+    for number, (here, there) in enumerate(pipes):
+        if child:
+            hit(f"{turn} {number}"); there.send_bytes(b"x"); hit("after it")
+        else:
+            here.recv_bytes(); hit(f"{turn} {number}"); hit("after it")
+    if not child:
+        os._exit(0)
+    os.waitpid(child, 0)
+    for one in sum(pipes, ()):
+        one.close()
+"""
 
 
 class Ends(unittest.TestCase):
@@ -185,6 +204,26 @@ class Ends(unittest.TestCase):
         self.assertEqual((number, others, end.end(number)), (3, [None], None))
         self.assertIsNone(end.begin())
 
+    def test_equal_numbers_of_two_machines_have_unlike_names(self) -> None:
+        others = SharedNames()
+        self.addCleanup(others.remove)
+        slot = others.slot_of("s1")
+        assert slot is not None
+        one, other = self.end("main").message(1), counted_pipes.End(others, slot, "1", "main").message(1)
+        self.assertNotEqual(one, other)
+        longest = counted_pipes.End(others, slot, str(2**32 - 1), "main").message(10**9)
+        for name in (one, other, longest):
+            self.assertRegex(name, rf"\A{NAME.pattern}\Z")
+
+    def test_a_pipe_that_has_the_number_of_one_before_is_counted_anew(self) -> None:
+        named = set()
+        for tag in ("main", "c1", "main"):
+            counted_pipes.begin_to_count(self.names, "1")
+            end = self.end(tag)
+            self.assertEqual([end.end(end.begin()) for _ in range(2)], [1, 2])
+            named.update((end.message(1), end.message(2)))
+        self.assertEqual(len(named), 6)
+
     def test_an_end_that_another_process_has_used_orders_nothing(self) -> None:
         end, other = self.end("main"), self.end("c1")
         self.assertEqual(end.end(end.begin()), 1)
@@ -204,6 +243,12 @@ class PipeBytes(ProgramCase):
                 self.assertEqual((ran.returncode, ran.stdout), (Verdict.RACES, plain.stdout), ran.stderr)
                 self.assertEqual(set(re.findall(r"itc_trace: race on (.+)", ran.stderr)), {"wrong one", "wrong back"}, ran.stderr)
                 self.assertNotIn("incomplete", ran.stderr)
+
+    def test_a_thousand_pipes_are_counted(self) -> None:
+        ran = run_traced(self.program(MANY))
+        self.assertEqual(ran.returncode, Verdict.RACES, ran.stderr)
+        self.assertEqual(set(re.findall(r"itc_trace: race on (.+)", ran.stderr)), {"after it"}, ran.stderr)
+        self.assertNotIn("incomplete", ran.stderr)
 
     def test_whose_bytes_are_not_known_is_no_all_clear(self) -> None:
         for how, words in WORDS.items():

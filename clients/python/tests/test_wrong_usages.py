@@ -27,6 +27,19 @@ stock["left"] -= 1
 ours.send(b"x")
 thread.join()
 """
+BY_PIPE = """import os, threading
+stock = {"left": 2}
+
+reader, writer = os.pipe()
+def sell():
+    os.read(reader, 1)
+    stock["left"] -= 1
+thread = threading.Thread(target=sell)
+thread.start()
+stock["left"] -= 1
+os.write(writer, b"x")
+thread.join()
+"""
 IN_PARTS = """import threading
 cells = [0] * 100
 def work(first):
@@ -195,6 +208,12 @@ class Usages(unittest.TestCase):
         self.assertEqual(ran.returncode, 66, ran.stderr)
         self.assertIn("itc_trace: the socket at p2.py:5 gives no order: if its message does, tell so by itc_trace.outgoing()", ran.stderr)
         self.assertNotIn("the socket", self.run_here("run", "shop.py").stderr)
+
+    def test_a_pipe_of_the_system_that_gives_no_order_is_told(self) -> None:
+        (self.folder / "by_pipe.py").write_text(BY_PIPE)
+        ran = self.run_here("run", "by_pipe.py")
+        self.assertEqual(ran.returncode, 66, ran.stderr)
+        self.assertIn("itc_trace: the pipe at by_pipe.py:4 gives no order: if its message does, tell so by itc_trace.outgoing()", ran.stderr)
 
     def test_the_first_run_says_that_it_compiles(self) -> None:
         words = ("-c", "import itc_trace; itc_trace.tracing")

@@ -20,6 +20,8 @@ LONGEST_KEY = 32
 LONGEST_NAME = 128
 SLOT = LONGEST_KEY + LONGEST_NAME
 MOST_SLOTS = 16384
+TAG = 8
+"""So many letters the name of the file has that were chosen by chance."""
 PREFIX = "itc_trace_names_"
 OF_LOCK, OF_PROGRAM = 1, 2
 """What is counted: a lock of one permit, or permits of a semaphore that the program has made."""
@@ -37,6 +39,8 @@ class SharedNames:
             os.ftruncate(file, SLOT * MOST_SLOTS)
         else:
             file, self.path = os.open(path, os.O_RDWR | os.O_CLOEXEC), path
+        self.tag = os.path.basename(self.path).removeprefix(PREFIX)[-TAG:]
+        """Stands for the run and the machine: the letters that the file was given by chance."""
         self._file = own_files.keep(file)
         self._memory = mmap.mmap(self._file, SLOT * MOST_SLOTS)
         self._thread_lock = _make_lock()

@@ -5,6 +5,7 @@ from __future__ import annotations
 import ast
 import os
 from collections.abc import Iterator
+from typing import NamedTuple
 
 from ..analyse.races import Races
 
@@ -14,15 +15,33 @@ OF_SOCKETS = frozenset(
     ("accept", "recv", "recv_into", "recvfrom", "send", "sendall", "sendto", "sock_recv", "sock_sendall")
 )
 """Methods by which programs tell each other that something was done."""
+OF_PIPES = frozenset(("pipe", "pipe2", "mkfifo"))
+"""Functions of `os` by which they get a pipe for that."""
+
+
+class Means(NamedTuple):
+    """By what programs tell each other something."""
+
+    what: str
+    module: str
+    """The module that they import for it."""
+    names: frozenset[str]
+    """What they call."""
+    is_of_module: bool
+    """Whether these are functions of the module, and not methods."""
+
+
+_MEANS = (Means("socket", "socket", OF_SOCKETS, False), Means("pipe", "os", OF_PIPES, True))
 
 
 def hints(found: Races) -> Iterator[str]:
     """In words for a person, a line each."""
-    sockets = [place for file in _files(found) if os.path.isfile(file) for place in _first_use_of_sockets(file)]
-    if sockets:
-        named = ", ".join(sockets)
-        told = "if its message does, tell so by itc_trace.outgoing() and incoming()"
-        yield f"the socket at {named} gives no order: {told}"
+    trees = {file: tree for file in _files(found) if (tree := _tree_of(file)) is not None}
+    for means in _MEANS:
+        places = [f"{file}:{line}" for file, tree in trees.items() for line in _first_use(tree, means)]
+        if places:
+            told = "if its message does, tell so by itc_trace.outgoing() and incoming()"
+            yield f"the {means.what} at {', '.join(places)} gives no order: {told}"
     yield from _left(found)
 
 
@@ -55,20 +74,24 @@ def _file_of(side: object) -> str:
     return file if line.isdigit() and not file.startswith("<") else ""
 
 
-def _first_use_of_sockets(file: str) -> list[str]:
-    """The place where a program that imports sockets first sends or takes by one. None if it does not."""
+def _tree_of(file: str) -> list[ast.AST] | None:
+    """All nodes of a source. None if it is not there, or is none of Python."""
     try:
         with open(file, "rb") as source:
-            tree = ast.parse(source.read())
+            return list(ast.walk(ast.parse(source.read())))
     except (OSError, SyntaxError, ValueError, RecursionError):
-        return []
-    nodes = list(ast.walk(tree))
+        return None
+
+
+def _first_use(nodes: list[ast.AST], means: Means) -> list[int]:
+    """The line where a program that imports the module first calls one of the names. None if it does not."""
     is_importing = any(
-        isinstance(node, ast.Import) and any(name.name == "socket" for name in node.names)
-        or isinstance(node, ast.ImportFrom) and node.module == "socket" for node in nodes
+        isinstance(node, ast.Import) and any(name.name == means.module for name in node.names)
+        or isinstance(node, ast.ImportFrom) and node.module == means.module for node in nodes
     )
+    called = [node.func for node in nodes if isinstance(node, ast.Call)]
     lines = [
-        node.lineno for node in nodes
-        if isinstance(node, ast.Call) and isinstance(node.func, ast.Attribute) and node.func.attr in OF_SOCKETS
+        one.lineno for one in called if isinstance(one, ast.Attribute) and one.attr in means.names
+        and (not means.is_of_module or isinstance(one.value, ast.Name) and one.value.id == means.module)
     ]
-    return [f"{file}:{min(lines)}"] if is_importing and lines else []
+    return [min(lines)] if is_importing and lines else []

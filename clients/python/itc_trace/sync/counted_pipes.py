@@ -17,9 +17,12 @@ from ..record import following
 from ..record.shared_names import SharedNames
 
 SENDING, RECEIVING = "s", "r"
-_PEER, _LOST, _FIRST_PROCESS = "peer", "lost", "main"
+_PEER, _PIPES, _LOST, _FIRST_PROCESS, _NOBODY = "peer", "pipes", "lost", "main", "-"
+MOST_ENDS = 1024
+"""So many ends are kept in this process, but for those that are in use."""
 _ends: dict[str, End | None] = {}
 """The ends of pipes that this process uses, by their keys."""
+_DIGITS = "0123456789abcdefghijklmnopqrstuvwxyz"
 
 
 class End:
@@ -32,6 +35,10 @@ class End:
         self.tag = tag
         """Stands for this process."""
         self._users: set[int] = set()
+
+    @property
+    def is_in_use(self) -> bool:
+        return bool(self._users)
 
     def begin(self) -> int | None:
         """The current thread begins to use it. Gives the number of the message. None, if that is not known."""
@@ -59,29 +66,66 @@ class End:
         self._names.put(self._slot, _LOST)
 
     def _put(self, count: int) -> None:
-        self._names.put(self._slot, f"{count} {self.tag}")
+        self._names.put(self._slot, f"{count} {self.tag} {self._pipe_now()}")
 
     def _count(self) -> int | None:
-        count, _, tag = self._names.name_at(self._slot).partition(" ")
+        count, tag, _ = self._told()
         if not count:
             return 0
-        return int(count) if tag == self.tag else None
+        return int(count) if tag == self.tag or tag == _NOBODY else None
+
+    def _told(self) -> tuple[str, str, str]:
+        """How many messages there were, who has sent or received them, and the number of the pipe."""
+        count, tag, pipe = (*self._names.name_at(self._slot).split(), "", "", "")[:3]
+        return count, tag, pipe
+
+    def _pipe_now(self) -> str:
+        """The number of the pipe. One that nobody has seen made has that of the system behind a letter."""
+        return self._told()[2] or f"i{in_letters(int(self._pipe))}"
 
     def message(self, number: int) -> str:
-        """The name of the message of this number."""
-        return f"b{self._pipe}_{number}"
+        """The name of the message of this number, which no message of another run or machine has."""
+        return f"b{self._names.tag}{self._pipe_now()}_{in_letters(number)}"
 
 
-def made(one: Any, other: Any) -> None:
-    """The two connections of a pipe were made. Whoever sends by one of them has to know the other."""
+def in_letters(number: int) -> str:
+    """A number of the base 36, as names are short."""
+    told = ""
+    while number or not told:
+        number, digit = divmod(number, len(_DIGITS))
+        told = _DIGITS[digit] + told
+    return told
+
+
+def made(one: Any, other: Any, *, is_duplex: bool) -> None:
+    """The two connections of a pipe were made. Whoever sends by one of them has to know the other.
+
+    A pipe may have had the same numbers before.
+    """
     names = following.shared_names() if following.is_there() else None
-    numbers = [_number_of(connection, stat.S_ISSOCK) for connection in (one, other)]
+    numbers = [_number_of(connection, stat.S_ISSOCK if is_duplex else stat.S_ISFIFO) for connection in (one, other)]
     if names is None or None in numbers:
         return
-    for number, peer in (numbers, numbers[::-1]):
+    for number, peer in (numbers, numbers[::-1]) if is_duplex else ():
         slot = names.slot_of(f"{_PEER}{number}")
         if slot is not None:
             names.put(slot, str(peer))
+    for number in dict.fromkeys(numbers):
+        begin_to_count(names, f"{number}")
+
+
+def begin_to_count(names: SharedNames, pipe: str) -> None:
+    """Nothing was sent through this pipe. It has a number of its own, whichever the system gives it."""
+    with names.alone():
+        slot = names.slot_of(_PIPES)
+        number = 1 if slot is None else int(names.name_at(slot) or 0) + 1
+        if slot is not None:
+            names.put(slot, str(number))
+        for side in (SENDING, RECEIVING):
+            place = names.slot_of(f"{side}{pipe}")
+            if slot is not None and place is not None:
+                names.put(place, f"0 {_NOBODY} {in_letters(number)}")
+            _ends.pop(f"{side}{pipe}", None)
 
 
 def _number_of(connection: Any, is_of_kind: Any) -> int | None:
@@ -106,8 +150,17 @@ def end_of(connection: Any, side: str) -> End | None:
     end = _ends.get(key)
     if end is None or end.tag != tag:
         slot = names.slot_of(key)
+        _leave_some()
         end = _ends[key] = None if slot is None else End(names, slot, pipe, tag)
     return end
+
+
+def _leave_some() -> None:
+    """What is known of an end lies in the shared names, so it is found again."""
+    if len(_ends) >= MOST_ENDS:
+        for key, end in list(_ends.items()):
+            if end is None or not end.is_in_use:
+                _ends.pop(key, None)
 
 
 def _pipe_of(connection: Any, side: str, names: SharedNames) -> str | None:

@@ -237,8 +237,7 @@ def _put_connections(patches: Patches, module: ModuleType) -> None:
 def _pipe(original: Any) -> Any:
     def Pipe(duplex: bool = True) -> Any:
         told = original(duplex)
-        if duplex:
-            counted_pipes.made(*told)
+        counted_pipes.made(*told, is_duplex=bool(duplex))
         return told
 
     return Pipe
