@@ -14,7 +14,7 @@ import unittest
 from itc_trace import Cause, Verdict, touch, tracing
 from itc_trace.record.journal import read_whole
 
-from .support import ProgramCase, fresh_tenant, run_traced
+from .support import ProgramCase, chosen, fresh_tenant, run_traced
 
 PROGRAM = """
 import mmap, multiprocessing, os, sys, time
@@ -217,11 +217,16 @@ class Children(ProgramCase):
         self.assertEqual(ran.returncode, Verdict.INCOMPLETE, ran.stderr)
         self.assertIn("touched x at <string>:1", ran.stderr)
 
-    def test_a_program_of_the_same_folder_that_is_started_is_told_as_not_seen(self) -> None:
-        program = self.program(STARTS_ITSELF)
+    def test_a_program_of_the_same_folder_is_traced_however_it_is_started(self) -> None:
         for how in ("shell", "system", "posix_spawn by a shell", "words of a shell", "text", "fork", "fork, by the path", "spawn"):
             with self.subTest(how=how):
-                ran = run_traced(program, how)
+                ran = run_traced(self.program(STARTS_ITSELF), how)
+                self.assertEqual(ran.returncode, Verdict.NO_RACE, ran.stderr)
+
+    def test_a_program_of_the_same_folder_that_looks_at_no_variables_is_told_as_not_seen(self) -> None:
+        for how in chosen(("shell", "system", "posix_spawn by a shell", "words of a shell", "text", "fork", "fork, by the path", "spawn")):
+            with self.subTest(how=how):
+                ran = run_traced(self.program(STARTS_ITSELF.replace('"-X", "utf8",', '"-E",').replace('"-c", "import', '"-Ec", "import')), how)
                 self.assertEqual(ran.returncode, Verdict.INCOMPLETE, ran.stderr)
                 self.assertRegex(ran.stderr.splitlines()[0], r"a child process was not traced: program(\.py)?, which was started at .*program\.py:\d+$")
 

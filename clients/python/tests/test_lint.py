@@ -27,6 +27,7 @@ OF_THE_LIBRARY = {
     "record.noting": "_active",
     "sync.asynchronous": "_GatheringFuture _callback _children _count _get_running_loop _lock _locked _value _waiters",
     "sync.callbacks": "_registry",
+    "sync.commands": "_transport",
     "sync.counted_pipes": "_handle",
     "sync.earlier": "_waiters",
     "sync.futures": "_WorkItem _condition _exception _max_workers _state",
@@ -63,6 +64,7 @@ OF_THE_LIBRARY = {
 }
 """Names of the library's own that modules use, where there is no other way to what they follow."""
 SWALLOWED = {
+    "cli.started.sitecustomize": [""],  # The library is told of it once the program is traced.
     "cli.launch": ["_error_of", "_show"],  # The program's own error, which is shown as the interpreter would.
     "pytest_plugin": ["__init__", "end"],  # The test fails, and is told why.
     "record.noting": ["_adopt_task", "_text"],  # The program's own object, which may give anything or nothing.

@@ -10,22 +10,23 @@ from types import TracebackType
 from typing import TYPE_CHECKING
 
 from ..processes.children import (
-    IN_CHILD, LEFT_CHILD, UNKNOWN_CHILDREN, Announced, ForkedChildren, Witness, tell_of_processes,
+    IN_CHILD, UNKNOWN_CHILDREN, Announced, ForkedChildren, Witness, tell_of_processes,
 )
 from ..record import plain
 from .. import watch
 from ..record.collector import HOST, Collector
+from ..record.command_book import CommandBook
 from ..record.environment import OWN_TENANT, PORT, reporting
 from ..record.faults import Fault
-from ..record.following import ChildProcess, is_beginning
+from ..record.following import LEFT_CHILD, ChildProcess, is_beginning
 from ..record.journal_file import JournalFile
 from ..model.lines import state
 from ..record.noting import not_followed
-from ..sync import earlier, put_all
+from ..sync import earlier, put_all, shells
 from ..sync.shaking import Shaking
 from ..record.tracer import Tracer
 from ..record.tracer_parts import Parts
-from ..model.verdict import Left, PassedOver, Unseen
+from ..model.verdict import Left, PassedOver, Unseen, child_begun_row
 
 if TYPE_CHECKING:
     from ..analyse.benign import Looking
@@ -89,11 +90,14 @@ class Tracing:
             handle, self.journal = tempfile.mkstemp(suffix=".journal", prefix="itc_trace_")
             os.close(handle)
         self._file = JournalFile(self.journal, adds=self.is_child)
+        below = None if self._child is None else self._child.below
+        if self._child is not None and below is not None:
+            self._file.write(child_begun_row(self._child.tag, below.how))
         self._tracer = Tracer(
             self.port, self.tenant, self._file, self.process, self.host, self._shaking, self._parts, self._child,
         )
         self._children = ForkedChildren()
-        self._announced = Announced(self.journal)
+        self._announced = Announced(self.journal, is_shown=below is None)
         state.witness = None
         _active.add(self)
         if watch.is_on():
@@ -115,16 +119,24 @@ class Tracing:
             if tracer is not None:
                 watch.end()
                 tracer.stop(self.is_child)
+                self._write_end()
             for one in (file, children, announced):
                 if one is not None:
                     one.close()
             self.is_stopping = False
+
+    def _write_end(self) -> None:
+        """Tells who comes behind that this process has ended, if a command has started it."""
+        child = self._child
+        if child is not None and child.below is not None:
+            CommandBook(child.below.book).end(child.below.own, child.task, child.tag)
 
     def _tell_what_was_not_seen(self) -> None:
         unseen: list[Unseen | PassedOver] = [
             *watch.unwatched(self.is_child), *watch.not_looked_into(), *not_followed(), *earlier.not_followed(),
         ]
         earlier.block_has_ended()
+        shells.end()
         for one in unseen:
             self.tell(one)
 
@@ -144,6 +156,11 @@ class Tracing:
         except OSError as fault:
             if self._tracer is not None:
                 self._tracer.lose_journal(fault)
+
+    @property
+    def child(self) -> ChildProcess | None:
+        """What it was told to report, if it is the child of a process that is traced, too."""
+        return self._child
 
     @property
     def is_child(self) -> bool:

@@ -17,7 +17,7 @@ from collections.abc import Callable
 from functools import partial
 from importlib.machinery import BuiltinImporter, SourceFileLoader
 from pathlib import Path
-from typing import NoReturn
+from typing import Any, NoReturn
 
 from .. import watch
 from ..record.dividing import LEAVE
@@ -60,7 +60,7 @@ def main() -> None:
         watch.tell_missing(packages, folders[0])
         watch.watch_loaded(folders, packages)
     shaking = None if seed is None else Shaking(seed)
-    process = None if child is None else ChildProcess(*child)
+    process = None if child is None else ChildProcess.of(child)
     try:
         traced = Tracing(**configuration, shaking=shaking, parts=parts, child=process).start()
     except OSError as fault:  # Another session reports, say.
@@ -83,11 +83,63 @@ def main() -> None:
         tell(RAISED)
         if isinstance(error, KeyboardInterrupt):
             traced.tell(ended_by(signal.SIGINT))
-        _show(error)
-        sys.exit(INTERRUPTED if isinstance(error, KeyboardInterrupt) else 1)
+        _end_for(error)
 
 
-def _error_of(run: Callable[[list[str]], object], words: list[str]) -> BaseException | None:
+def take_over() -> None:
+    """The interpreter is about to run the program's main file or module. It has this module run it.
+
+    A file is taken for something like an archive, so that `runpy` is asked to run it. A text behind `-c` is left to the
+    interpreter.
+    """
+    words = list(sys.argv)
+    if words[0] == "-m":
+        _instead_of_runpy(lambda plain, given: plain(*given))
+    elif words[0] != "-c" and os.path.isfile(words[0]) and pkgutil.get_importer(words[0]) is None:
+        hook = _hook_of(os.path.realpath(words[0]))
+        sys.path_hooks.insert(0, hook)
+        _instead_of_runpy(lambda plain, given: _run_hooked(hook, words))
+
+
+def _instead_of_runpy(run: Callable[[Any, tuple[Any, ...]], object]) -> None:
+    running: Any = runpy
+    plain = running._run_module_as_main
+
+    def run_main(*given: Any) -> None:
+        running._run_module_as_main = plain
+        error = _error_of(partial(run, plain), given)
+        if error is not None:
+            _end_for(error)
+
+    running._run_module_as_main = run_main
+
+
+def _hook_of(program: str) -> Any:
+    """Claims to know how modules are found in the program's file, and in nothing else."""
+
+    def find(path: str) -> object:
+        if os.path.realpath(path) != program:
+            raise ImportError
+        return object()
+
+    return find
+
+
+def _run_hooked(hook: Any, words: list[str]) -> None:
+    """The interpreter has put the file before all folders, as it does with an archive."""
+    sys.path_hooks.remove(hook)
+    sys.path_importer_cache[sys.path[0]] = None  # As the interpreter leaves it.
+    if sys.flags.safe_path:
+        del sys.path[0]
+    _run_file(words)
+
+
+def _end_for(error: BaseException) -> NoReturn:
+    _show(error)
+    sys.exit(INTERRUPTED if isinstance(error, KeyboardInterrupt) else 1)
+
+
+def _error_of(run: Callable[[Any], object], words: Any) -> BaseException | None:
     """What the program raises, but for an exit that it asks for."""
     try:
         run(words)

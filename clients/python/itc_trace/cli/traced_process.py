@@ -24,7 +24,7 @@ from ..record.following import end as end_following
 from ..record.journal_file import JournalFile
 from ..record.raised_within import keep_handler
 from ..model.lines import state
-from ..sync import left_behind
+from ..sync import left_behind, shells
 from ..sync.base import like
 from ..sync.process_pools import take_done
 from .deferred_signals import catch_up, deferred
@@ -70,7 +70,7 @@ class Beginning:
 
 
 def begin_unpickled(*words: Any) -> None:
-    begin_as_child(ChildProcess(*words))
+    begin_as_child(ChildProcess.of(words))
 
 
 def _tracing_of(process: ChildProcess) -> Tracing:
@@ -119,7 +119,7 @@ class Ending:
         follow(self._traced, folders, packages, self._ways(), names, asked)
 
     def _ways(self) -> Ways:
-        return Ways(self._go_on_as, Beginning, watch.program_of)
+        return Ways(self._go_on_as, Beginning, watch.program_of, watch.look_at)
 
     def _go_on_as(self, process: ChildProcess) -> None:
         """In a forked child, which is traced as its parent."""
@@ -179,7 +179,10 @@ class Ending:
             if os.getpid() != self._process or words and not os.access(words[0], os.X_OK):
                 return original(*words, **named)
             command = words[1] if len(words) > 1 else ()
-            if not self._traced.is_child or watch.program_of(command, working_folder()) is not None:
+            begun = shells.begin_in_place(command) if self._traced.is_child else None
+            if begun is not None:
+                words = (*shells.replace(words, begun),)
+            elif not self._traced.is_child or watch.program_of(command, working_folder()) is not None:
                 self._traced.tell(ANOTHER_PROGRAM)
             journal = self._traced.journal
             self.finish()

@@ -8,12 +8,14 @@ from collections.abc import Callable
 from typing import Any
 
 from ..record import own_files, plain
+from ..record.command_book import not_traced as not_traced_program
 from .. import watch
 from ..model.file_names import name_of_file, working_folder
 from ..record.following import is_starting_server, not_traced, place_of_start
 from ..model.frames import line_of
 from ..record.journal_file import JournalFile
 from ..model.lines import state
+from ..sync import shells
 from ..sync.base import like
 from ..sync.later import once_imported
 from ..sync.starts import is_spawned
@@ -23,7 +25,6 @@ from ..model.verdict import Cause, Unseen
 VARIABLE = "ITC_TRACE_CHILD_OF"
 """Names the journal of a traced process to those that it starts."""
 
-LEFT_CHILD = Unseen(Cause.CHILD, "a child process goes on after its parent, and was not traced")
 UNKNOWN_CHILDREN = Unseen(
     Cause.CHILD, "the program has closed a file of the package, so a child process may go on that was not traced",
 )
@@ -96,19 +97,22 @@ def _wrap_command(owner: Any, name: str, place: int, tell: Callable[[Unseen], No
 
     def run(*words: Any, **named: Any) -> Any:
         told = original(*words, **named)
-        if words and hasattr(words[0], "_itc_line") or owner is os and name != "system" and is_spawned(told):
-            return told  # It is traced.
+        if _is_followed(owner, name, words, told):
+            return told
         command = words[place] if len(words) > place else named.get("args", named.get("argv", named.get("command", "")))
         program = watch.program_of(command, os.fspath(named.get("cwd") or working_folder()))
         if program is not None:
-            tell(
-                Unseen(
-                    Cause.CHILD, f"a child process was not traced: {program}, which was started at {place_of_start(1)}",
-                )
-            )
+            tell(not_traced_program(program, place_of_start(1)))
         return told
 
     setattr(owner, name, like(original, run))
+
+
+def _is_followed(owner: Any, name: str, words: tuple[Any, ...], told: Any) -> bool:
+    """Whether what was started is traced, or what it starts."""
+    if owner is not os:
+        return bool(words) and (hasattr(words[0], "_itc_line") or hasattr(words[0], "_itc_command"))
+    return shells.was_followed() if name == "system" else is_spawned(told)
 
 
 def _wrap_replacement(name: str, tell: Callable[[Unseen], None]) -> None:
@@ -119,13 +123,10 @@ def _wrap_replacement(name: str, tell: Callable[[Unseen], None]) -> None:
     original = getattr(os, name)
 
     def replace(path: Any, words: Any, *environment: Any) -> Any:
-        program = watch.program_of(words, working_folder()) if _can_be_run(path) else None
+        is_told = shells.is_in_place() or not _can_be_run(path)
+        program = None if is_told else watch.program_of(words, working_folder())
         if program is not None:
-            tell(
-                Unseen(
-                    Cause.CHILD, f"a child process was not traced: {program}, which was started at {place_of_start(1)}",
-                )
-            )
+            tell(not_traced_program(program, place_of_start(1)))
         return original(path, words, *environment)
 
     setattr(os, name, like(original, replace))
@@ -142,10 +143,14 @@ def _can_be_run(path: Any) -> bool:
 class Announced:
     """Names the journal to the processes that this one starts, until it is closed."""
 
-    def __init__(self, journal: str) -> None:
+    def __init__(self, journal: str, is_shown: bool = True) -> None:
+        """If the program is not to see that, it is no more than in the system's own environment."""
         self._journal = os.path.abspath(journal)
         self._before = os.environ.get(VARIABLE)
-        os.environ[VARIABLE] = self._journal
+        if is_shown:
+            os.environ[VARIABLE] = self._journal
+        else:
+            os.putenv(VARIABLE, self._journal)
 
     def close(self) -> None:
         if os.environ.get(VARIABLE) != self._journal:

@@ -12,13 +12,16 @@ import os
 import random
 import sys
 import threading
-from collections.abc import Callable, Iterator
+from collections.abc import Callable, Iterator, Sequence
 from dataclasses import dataclass, field
 from types import FrameType
 from typing import Any, NamedTuple, Protocol
 
+from ..model.command_look import CommandLook
 from ..model.file_names import name_of_file
-from ..model.lines import CHILD, END, END_OF_PROCESS, JOIN, Line, Reporter, Token, state
+from ..model.lines import CHILD, END, END_OF_PROCESS, GONE, JOIN, Line, Reporter, Token, state
+from .command_book import CommandBook, Member, last_ended
+from .messages import incoming_at
 from .noting import current
 from ..model.frames import frame_at, place_of
 from .shared_names import PREFIX, SharedNames
@@ -34,12 +37,29 @@ FOLLOWED_MEMORY = (f"/{PREFIX}", "/pym-")
 """The names of this package, and the memory of `multiprocessing`: who takes some of that is looked at by itself."""
 DIGITS = "0123456789abcdefghijklmnopqrstuvwxyz"
 ANSWER_SECONDS = 30.0
+LEFT_CHILD = Unseen(Cause.CHILD, "a child process goes on after its parent, and was not traced")
 NOT_ALL_SEEN = "what processes do to each other was not all seen"
 
 
 STARTING = frozenset({"multiprocessing", "concurrent", "subprocess", "os", "pty", "asyncio", "itc_trace"})
 """Modules that start processes for the program."""
 OWN_FOLDER = os.path.dirname(os.path.dirname(os.path.abspath(__file__))) + os.sep
+
+
+class BelowCommand(NamedTuple):
+    """What a process below a command of a traced process has to know besides."""
+
+    command: str
+    """The task that stands for the command."""
+    book: str
+    """The file in which it says that it begins, and that it ends."""
+    how: str
+    """How the command was started, and at which place."""
+    is_in_turn: bool
+    is_at_once: bool
+    """Both as it is known of the command."""
+    own: str = ""
+    """By which it is known in the book."""
 
 
 class ChildProcess(NamedTuple):
@@ -61,6 +81,14 @@ class ChildProcess(NamedTuple):
     """The file of the names that processes share."""
     asked: str | None = None
     """The file by which somebody asks what its tasks wait for."""
+    below: BelowCommand | None = None
+    """The command that it is below, if it was not started by its parent itself. Then it begins its task by itself."""
+
+    @staticmethod
+    def of(words: Sequence[Any]) -> ChildProcess:
+        """The one that was told as a list of its fields."""
+        process = ChildProcess(*words)
+        return process if process.below is None else process._replace(below=BelowCommand(*process.below))
 
 
 class Traced(Protocol):
@@ -69,6 +97,10 @@ class Traced(Protocol):
     host: str
     tenant: str
     journal: str
+
+    @property
+    def child(self) -> ChildProcess | None:
+        """What it was told to report, if it is the child of a process that is traced, too."""
 
     @property
     def is_child(self) -> bool:
@@ -91,6 +123,8 @@ class Ways(NamedTuple):
     before that has imported a module of the program."""
     program_of: Callable[[Any, str], str | None]
     """The program or module of a watched folder that a command runs in a folder, if it runs one by Python."""
+    look_at: Callable[[Any, str], CommandLook]
+    """What a command starts in a folder, as far as it can be read."""
 
 
 @dataclass
@@ -214,7 +248,7 @@ def _shares_memory() -> bool:
 
 _followed_blocks: set[str] = set()
 """The files of shared memory whose touches are noted."""
-GONE = " (deleted)"
+DELETED = " (deleted)"
 
 
 def follow_memory(name: str) -> None:
@@ -224,7 +258,7 @@ def follow_memory(name: str) -> None:
 
 def _is_shared(_range: str, permissions: str, _offset: str, _device: str, _number: str, path: str = "") -> bool:
     is_known = path.startswith(SEMAPHORES) or any(one in path for one in FOLLOWED_MEMORY)
-    is_known = is_known or path.strip().removesuffix(GONE) in _followed_blocks
+    is_known = is_known or path.strip().removesuffix(DELETED) in _followed_blocks
     return permissions.startswith("rw") and permissions.endswith("s") and not is_known
 
 
@@ -240,25 +274,94 @@ def begin(hint: str, how: str, depth: int) -> Begun | None:
 
     It returns once the collector has the start, so that nothing of the child comes before.
     """
+    begun = _begin_line(hint, depth + 1, is_process=True)
+    if begun is not None and _following.traced is not None:
+        tag = begun.process.tag
+        end = begun.line.end_token = Token(begun.line, END, None, 0)
+        end.count, end.message = 1, _end_of(tag)
+        _following.traced.write(child_begun_row(tag, f"{how} at {place_of_start(depth)}"))
+    return begun
+
+
+def begin_command(hint: str, depth: int) -> Begun | None:
+    """Starts a task for a command, which does no more than start the tasks of the processes below it.
+
+    None if these are not traced.
+    """
+    return _begin_line(hint, depth + 1, is_process=False)
+
+
+def _begin_line(hint: str, depth: int, is_process: bool) -> Begun | None:
     note, tracer, traced = state.note, state.tracer, _following.traced
     if note is None or tracer is None or traced is None or is_starting_server() or not is_on():
         return None
     line, waiter = Line(tracer, hint), Waiter()
-    line.is_process = True
+    line.is_process = is_process
     note((CHILD, getattr(_own, "parent", None) or current(), line, waiter, *place_of(frame_of_start(depth))))
     tracer.look_after(waiter)
     if not waiter.wait(ANSWER_SECONDS):
         return None
-    tag, names = _fresh_tag(tracer), shared_names()
-    end = line.end_token = Token(line, END, None, 0)
-    end.count, end.message = 1, f"{tag}_{END_OF_PROCESS}"
+    names = shared_names()
     process = ChildProcess(
-        tracer.port, traced.host, traced.tenant, os.path.abspath(traced.journal), line.name, tag, tracer.part,
-        _following.folders, _following.packages, None if names is None else names.path, _following.asked,
+        tracer.port, traced.host, traced.tenant, os.path.abspath(traced.journal), line.name, _fresh_tag(tracer),
+        tracer.part, _following.folders, _following.packages, None if names is None else names.path, _following.asked,
     )
     _following.has_children = True
-    traced.write(child_begun_row(tag, f"{how} at {place_of_start(depth)}"))
     return Begun(line, process)
+
+
+def _end_of(tag: str) -> str:
+    """The name of the message that the process of this tag sends last."""
+    return f"{tag}_{END_OF_PROCESS}"
+
+
+def end_command(line: Line) -> None:
+    """No process below the command is left, and none can begin any more."""
+    note = state.note
+    if note is not None and line.tracer is state.tracer:
+        note((GONE, line))
+        note((JOIN, current(), line, *place_of(frame_of_start(2))))
+
+
+def come_after(members: Sequence[Member]) -> None:
+    """The current task comes after the ends of these processes. Each is joined, if nobody has done so."""
+    note, tracer = state.note, state.tracer
+    if note is None or tracer is None:
+        return
+    frame = frame_of_start(2)
+    for one in members:
+        incoming_at(_end_of(one.tag), frame, f"the end of {one.task}")
+        line = Line(tracer, one.task)
+        line.name, line.is_process = one.task, True
+        note((JOIN, current(), line, *place_of(frame)))
+
+
+def tell(unseen: Unseen | PassedOver) -> None:
+    """Says in the journal what of the run is not seen, or not looked into."""
+    if _following.traced is not None:
+        _following.traced.tell(unseen)
+
+
+def run_folder() -> str | None:
+    """A folder of the run, if it has one. It is there as long as the run."""
+    return None if _following.asked is None else os.path.dirname(_following.asked)
+
+
+def book_of_replaced(tag: str) -> CommandBook | None:
+    """The book of what takes the place of the process of this tag. None if the run has no folder for it."""
+    folder = run_folder()
+    return None if folder is None else CommandBook(os.path.join(folder, f"replaced_{tag}"))
+
+
+def own_book(tag: str) -> CommandBook | None:
+    """The book of what takes the place of this process. If that is below a command itself, it is the command's."""
+    child = None if _following.traced is None else _following.traced.child
+    return book_of_replaced(tag) if child is None or child.below is None else CommandBook(child.below.book)
+
+
+def look_at(command: Any, folder: str) -> CommandLook:
+    """What a command starts in a folder, as far as it can be read."""
+    return CommandLook() if _following.ways is None else _following.ways.look_at(command, folder)
 
 
 def place_of_start(depth: int) -> str:
@@ -374,3 +477,15 @@ def has_ended(line: Line | None) -> None:
     note = state.note
     if note is not None and line is not None and line.tracer is state.tracer:
         note((JOIN, current(), line, *place_of(frame_of_start(2))))
+        _come_after_replaced(line)
+
+
+def _come_after_replaced(line: Line) -> None:
+    """If another program took the place of a process, its end is that of this program."""
+    token = line.end_token
+    tag = "" if token is None or token.message is None else token.message.removesuffix(f"_{END_OF_PROCESS}")
+    book = book_of_replaced(tag) if tag else None
+    if book is not None:
+        come_after(last_ended(book.members()))
+        for one in book.missing():
+            tell(one)

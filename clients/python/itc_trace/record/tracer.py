@@ -19,7 +19,8 @@ from types import CodeType
 from typing import Protocol
 
 from ..model.lines import (
-    FINISH, GONE, SPAWN, STOP, TOUCH, LateJob, Line, Note, CountedPermits, Stretch, Touched, Waiting, state,
+    END_OF_PROCESS, FINISH, GONE, SPAWN, STOP, TOUCH, LateJob, Line, Note, CountedPermits, Stretch, Touched,
+    Waiting, state,
 )
 from ..model.lock_identity import LockIdentity
 from ..model.stretches import STRETCHES
@@ -27,10 +28,11 @@ from ..model.verdict import Cause, Unseen, child_ended_row, end_row
 from . import plain
 from .awaited import await_nobody
 from .collector import HOST, MOST_TASKS
+from .command_book import CommandBook, last_ended
 from .connection import Connection
-from .dividing import GOES_ON
+from .dividing import GOES_ON, Report
 from .faults import FULL, Fault, refusal
-from .following import ChildProcess
+from .following import BelowCommand, ChildProcess
 from .journal import Places, ProcessTold, TouchTexts, border_row, text_of
 from .journal_file import JournalFile
 from .names import ANY_PROCESS, Names, tag_of
@@ -169,6 +171,8 @@ class Tracer:
             if self._child is not None:
                 self.main.name = self.main.hint = self._child.task
                 self.prefix = f"{self._child.tag}_"
+                if self._child.below is not None:
+                    self._begin_below(self._child, self._child.below)
             elif process is not None or self._events_before > 0:
                 self._begin_beside_others(process or ANY_PROCESS)
         except BaseException:
@@ -204,6 +208,27 @@ class Tracer:
                 return
             if not reply.startswith("402"):
                 raise Fault(refusal(reply, self.connection.tenant, self.port))
+
+    def _begin_below(self, child: ChildProcess, below: BelowCommand) -> None:
+        """Has a task of its own, behind the start of the command and behind all of it that had ended by then."""
+        self._ask_for(Report("spawn", below.command, child.task), f"start {child.task}")
+        members = CommandBook(below.book).members()
+        begun = next(one.begun for one in members if one.own == below.own)
+        for one in () if below.is_at_once else last_ended(members, begun):
+            label = f"join {one.task}"
+            if not self._ask_for(Report("join", child.task, one.task), label, may_be_refused=True):
+                self._ask_for(Report("recv", child.task, f"{one.tag}_{END_OF_PROCESS}"), label, may_be_refused=True)
+
+    def _ask_for(self, report: Report, label: str, may_be_refused: bool = False) -> bool:
+        """Reports something before notes are taken, and waits for the answer."""
+        reply = self.connection.ask(report.request)
+        if reply.startswith("201 "):
+            row = Outstanding(report.request, report.task, report.kind, report.name, None, 0, label, time=_now())
+            self._journal.write(self._row(int(reply[4:]), row))
+            return True
+        if not may_be_refused:
+            raise Fault(refusal(reply, self.connection.tenant, self.port))
+        return False
 
     def start(self) -> None:
         """From here on notes are taken."""

@@ -4,6 +4,8 @@ from __future__ import annotations
 
 import os
 import threading
+from collections.abc import Callable
+from functools import partial
 from time import monotonic
 from types import ModuleType
 from typing import Any
@@ -11,14 +13,15 @@ from typing import Any
 from ..record import following
 from ..model.lines import Line
 from ..model.frames import frame_at, is_internal
+from . import shells
 from .base import Patches
 from .fork_warnings import forked
 from .later import once_imported
 
 _own = threading.local()
 """`process` is that of `multiprocessing` which this thread starts, and `begun` what was begun for it."""
-_forked: dict[int, Line] = {}
-"""The tasks of children that the program has forked or spawned itself, by their numbers."""
+_forked: dict[int, Callable[[], None]] = {}
+"""Of children that the program has forked or spawned itself, by their numbers: takes in that they are over."""
 _ABOUT_MAIN = ("init_main_from_name", "init_main_from_path")
 FOR_THE_SERVER = "ignore"
 """The name by which the server that forks asks what it has to know."""
@@ -68,11 +71,12 @@ def _fork(original: Any) -> Any:
         if number == 0:
             _own.process = None
             _forked.clear()
+            shells.forget()
             following.begin_here(begun.process)
         elif process is not None:
             _own.begun = begun
         else:
-            _forked[number] = begun.line
+            _forked[number] = partial(following.has_ended, begun.line)
         return number
 
     return fork
@@ -120,9 +124,14 @@ def _name_of(process: Any) -> str:
     return getattr(getattr(process, "_target", None), "__name__", type(process).__name__) + "#"
 
 
-def spawned(number: int, line: Line) -> None:
-    """A child of this number was begun by `os.posix_spawn`, and is this task."""
-    _forked[number] = line
+def spawned(number: int, over: Callable[[], None]) -> None:
+    """A child of this number was begun by a command. Whoever sees its end is to call this."""
+    _forked[number] = over
+
+
+def forget(number: int) -> None:
+    """The end of the child of this number was seen, and another one may have the number."""
+    _forked.pop(number, None)
 
 
 def is_spawned(number: Any) -> bool:
@@ -138,7 +147,7 @@ def _wait(original: Any) -> Any:
         told = original(*words)
         number, status = told[0], told[1]
         if number in _forked and (os.WIFEXITED(status) or os.WIFSIGNALED(status)):
-            following.has_ended(_forked.pop(number))
+            _forked.pop(number)()
         return told
 
     return wait

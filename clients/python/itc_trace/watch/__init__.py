@@ -13,13 +13,14 @@ from types import CodeType
 from typing import Any, NamedTuple
 
 from ..model.lines import Line, state
+from ..model.command_look import CommandLook
 from ..model.frames import INTERNAL
 from ..model.verdict import PassedOver, Unseen
 from ..model.stretches import SITES
 from ..sync import chains, shared_blocks, twisted_threads
 from ..sync.base import like
 from ..sync.meeting import Meeting, Touching
-from . import begun_code, handed, held_lines, hooks, leaving, named, passed_over, proxied, things
+from . import begun_code, handed, held_lines, hooks, leaving, named, passed_over, proxied, shell_commands, things
 from .commands import own_program
 from .finder import UNWATCHED, Finder, Selection, look_around, with_hooks
 from .loaded import Prepare, folder_of_main, rewrite_loaded
@@ -27,7 +28,7 @@ from .named import tell_missing
 from .unwatched import files_without_hooks, touches_lost
 
 __all__ = [
-    "Prepare", "begin", "code_of", "end", "have_meet", "program_of", "selection", "tell_missing",
+    "Prepare", "begin", "code_of", "end", "have_meet", "look_at", "program_of", "selection", "tell_missing",
     "unwatched", "watch", "watch_loaded", "watch_main", "watch_path_runs",
 ]
 
@@ -217,6 +218,11 @@ def not_looked_into() -> list[PassedOver]:
 def program_of(command: str | Sequence[str], folder: str) -> str | None:
     """The program or module of a watched folder that a command runs in a folder, if it runs one by Python."""
     return None if _finder is None else own_program(command, folder, _finder.selection)
+
+
+def look_at(command: str | Sequence[str], folder: str) -> CommandLook:
+    """What a command starts in a folder, as far as it can be read."""
+    return CommandLook() if _finder is None else shell_commands.look_at(command, folder, _finder.selection)
 
 
 def witness() -> None:

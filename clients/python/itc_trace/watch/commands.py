@@ -11,24 +11,26 @@ from collections.abc import Iterator, Sequence
 
 from .finder import Selection
 
-_PYTHON = re.compile(r"(python|pypy)[0-9.]*(\.exe)?\Z")
-_SHELLS = frozenset(("sh", "bash", "dash", "ksh", "zsh", "busybox"))
+PYTHON = re.compile(r"(python|pypy)[0-9.]*(\.exe)?\Z")
+SHELLS = frozenset(("sh", "bash", "dash", "ksh", "zsh", "busybox"))
 MOST_OF_A_LINE = 256
 OWN_NAME = "itc_trace"
 """What is run by this package is traced."""
 _WITH_A_WORD = ("-W", "-X", "--check-hash-based-pycs")
 """Options of Python that are followed by a word of their own."""
+_TAKING_THE_REST = "WX"
+"""Letters behind which no other option stands in the same word."""
 
 
 def own_program(command: str | Sequence[str], folder: str, selection: Selection) -> str | None:
     """The file or the module that a command runs, if it is one that is watched. A text is a command of the shell."""
     words = _words_of(command)
-    if words and os.path.basename(words[0]) in _SHELLS and "-c" in words[:-1]:
+    if words and os.path.basename(words[0]) in SHELLS and "-c" in words[:-1]:
         return own_program(words[words.index("-c") + 1], folder, selection)
     for place, word in enumerate(words):
-        if _PYTHON.match(os.path.basename(word)):
-            return _run_by_python(iter(words[place + 1:]), folder, selection)
-    return _watched_file(words[0], folder, selection) if words and _is_python(os.path.join(folder, words[0])) else None
+        if PYTHON.match(os.path.basename(word)):
+            return run_by_python(iter(words[place + 1:]), folder, selection)
+    return _watched_file(words[0], folder, selection) if words and is_python(os.path.join(folder, words[0])) else None
 
 
 def _words_of(command: str | Sequence[str]) -> list[str]:
@@ -38,17 +40,22 @@ def _words_of(command: str | Sequence[str]) -> list[str]:
         return []
 
 
-def _run_by_python(words: Iterator[str], folder: str, selection: Selection) -> str | None:
+def run_by_python(words: Iterator[str], folder: str, selection: Selection) -> str | None:
+    """The file or the module that Python runs by these words behind its name."""
     for word in words:
-        if word == "-m":
-            module = next(words, "")
-            return module if selection.has_import(module) and module.partition(".")[0] != OWN_NAME else None
+        if not word.startswith("-") or word == "-":
+            return None if word == "-" else _watched_file(word, folder, selection)
+        letters = "" if word.startswith("--") else word[1:]
         if word in _WITH_A_WORD:
             next(words, None)
-        elif word.startswith("-c"):
-            return _imported_by(word[2:] or next(words, ""), selection)
-        elif not word.startswith("-"):
-            return _watched_file(word, folder, selection)
+        for place, letter in enumerate(letters, 1):
+            if letter == "m":
+                module = letters[place:] or next(words, "")
+                return module if selection.has_import(module) and module.partition(".")[0] != OWN_NAME else None
+            if letter == "c":
+                return _imported_by(letters[place:] or next(words, ""), selection)
+            if letter in _TAKING_THE_REST:
+                break
     return None
 
 
@@ -70,7 +77,7 @@ def _names_of(node: ast.AST) -> list[str]:
     return [node.module] if isinstance(node, ast.ImportFrom) and node.module else []
 
 
-def _is_python(file: str) -> bool:
+def is_python(file: str) -> bool:
     """Whether a file that is a command by itself is run by Python."""
     if file.endswith(".py"):
         return True
@@ -80,7 +87,7 @@ def _is_python(file: str) -> bool:
     except OSError:
         return False
     return first.startswith(b"#!") and any(
-        _PYTHON.match(os.path.basename(os.fsdecode(word))) for word in first[2:].split()
+        PYTHON.match(os.path.basename(os.fsdecode(word))) for word in first[2:].split()
     )
 
 
