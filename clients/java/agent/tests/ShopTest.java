@@ -63,6 +63,47 @@ class ShopTest {
         all++;
     }
 
+    @Test
+    void sellsAndThrows() throws InterruptedException {
+        both(() -> left--); // race: ShopTest.sellsAndThrows()
+        all++;
+        throw new IllegalStateException("thrown by the test");
+    }
+
+    @Test
+    void sellsByLuck() throws InterruptedException {
+        Thread alice = new Thread(() -> sellBefore(), "alice");
+        Thread bob = new Thread(() -> sellBehind(alice), "bob");
+        alice.start();
+        bob.start();
+        bob.join();
+        alice.join();
+        all++;
+    }
+
+    private void sellBefore() {
+        left--; // possible: ShopTest.sellsByLuck()
+        synchronized (this) {
+            right++;
+        }
+    }
+
+    private void sellBehind(Thread alice) {
+        while (alice.getState() != Thread.State.TERMINATED) {
+            Thread.onSpinWait();
+        }
+        synchronized (this) {
+            right++;
+        }
+        left--; // possible: ShopTest.sellsByLuck()
+    }
+
+    @Test
+    void sellsAsMeant() throws InterruptedException {
+        both(() -> left--); // itc: benign
+        all++;
+    }
+
     @ParameterizedTest
     @ValueSource(ints = {1, 2})
     void sellsSome(int count) throws InterruptedException {

@@ -84,7 +84,8 @@ def _end_of_options(words: list[str], options: Parser) -> int:
 def _java(words: argparse.Namespace, program: list[str]) -> int:
     if not program:
         raise Fault(f"java wants what runs the program, as -jar FILE or a class{_taken_as_value(words.typed)}")
-    java = Java(program, words.agent, words.watch or [], words.exclude or [])
+    has_silenced = bool(words.looking.patterns or words.looking.baseline)
+    java = Java(program, words.agent, words.watch or [], words.exclude or [], has_silenced)
     java.command()
     system = System([], OWN_TENANT, words.export, words.picture)
     beside = None if words.export is None else f"{words.export}.journal"

@@ -15,7 +15,7 @@ from ..analyse.kept_sources import source_rows
 from ..model.file_names import working_folder
 from ..model.verdict import BREAKS_OFF, END_OF_ALL, Cause, Unseen
 from ..record.collector import find_in_repository
-from ..record.environment import ALONE, PARTS, Reporting
+from ..record.environment import ALONE, PARTS, SILENCED, Reporting
 from ..record.faults import Fault
 from ..record.journal import NoJournal, read_whole
 from .ending import Child
@@ -43,6 +43,8 @@ class Java:
     agent: str | None = None
     watched: list[str] = field(default_factory=list)
     excluded: list[str] = field(default_factory=list)
+    has_silenced: bool = False
+    """Whether a file of patterns or a baseline may silence races."""
 
     def command(self) -> list[str]:
         """The words that run the program with the agent. A fault says what is missing."""
@@ -107,6 +109,7 @@ class JavaProgram:
     def run(self) -> None:
         """Runs it to its end."""
         environment = {**os.environ, **self._said.variables(), PARTS: "1", ALONE: "1"}
+        environment |= {SILENCED: "1"} if self._java.has_silenced else {}
         told, asked = (os.path.join(self._folder, name) for name in ("told", "asked"))
         before = signal.signal(signal.SIGQUIT, _leave_to_program)
         try:

@@ -14,6 +14,8 @@ PARTS = "ITC_TRACE_PARTS"
 """Says that the relay divides a long run into parts, for a client that knows of them."""
 ALONE = "ITC_TRACE_ALONE"
 """Says that the process reports beside no other one, so that another machine has no use for a header of the trace."""
+SILENCED = "ITC_TRACE_SILENCED"
+"""Says that races may be silenced by a file that the process does not read, so that it fails no test by one."""
 OWN_TENANT = "trace"
 MOST_PORT = 65535
 

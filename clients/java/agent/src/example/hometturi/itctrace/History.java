@@ -87,6 +87,7 @@ final class History {
         for (int at = runs.length - 1; at >= 0 && !run.replaces(runs[at]); at--) {
             if (run.mayRaceWith(runs[at])) {
                 things.meet(runs[at], run, index);
+                Tests.meet(runs[at], run, things, index);
             }
         }
         if (isWrittenByOthers || run.place.writes() && isReadByOthers) {

@@ -20,6 +20,9 @@ final class Run {
     private final Own own;
     private final long number;
     private final int age;
+    /** Whether luck was asked for by then. */
+    private final boolean keepsLuck;
+
     private final Stretch stretch;
     /** Of what it was told last, by any thread. What is told twice is one row to whoever reads it. */
     private Told told;
@@ -51,6 +54,7 @@ final class Run {
         held = own.held();
         number = task.stretches;
         age = task.age();
+        keepsLuck = Task.keepsLuck();
         hash = System.identityHashCode(place);
     }
 
@@ -62,6 +66,7 @@ final class Run {
         task = other.task;
         number = other.number;
         age = other.age;
+        keepsLuck = other.keepsLuck;
         hash = System.identityHashCode(place);
     }
 
@@ -138,6 +143,12 @@ final class Run {
     boolean mayRaceWith(Run before) {
         boolean conflicts = task != before.task && (place.writes() || before.place.writes());
         return conflicts && !task.comesAfter(before.task, before.age) && !Held.shareOne(held, before.held);
+    }
+
+    /** Whether it races with an earlier one with which it may race. Luck has not put them in order, and it is known which part both touch. */
+    boolean surelyRacesWith(Run before) {
+        boolean isOfSamePart = !place.isInner() && !before.place.isInner();
+        return isOfSamePart && before.keepsLuck && task.surelyComesNotAfter(before.task, before.age);
     }
 
     /** Whether whatever comes later, and races with the earlier one, races with this one, too. */

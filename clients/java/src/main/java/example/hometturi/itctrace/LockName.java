@@ -91,7 +91,7 @@ final class LockName {
     Noted release(Place here, Noted last, int turns) {
         name();
         Gives gives = gives();
-        if (isGuard) {
+        if (isGuard || Task.keepsLuck()) {
             here.keepAges();
         }
         Place.Slot slot = here.slot(gives.kind());

@@ -56,14 +56,14 @@ final class Place {
     /** How many places of the task were sent up to this one. It is 0 as long as it is not sent. */
     volatile long position;
 
-    /** What whoever comes after it by more than luck comes after. Null if nobody can. */
+    /** What whoever comes after it comes after. It is null if nobody can, and if that is luck alone, of which nobody asks. */
     private volatile Ages ages;
 
     Place(Task task) {
         this.task = task;
     }
 
-    /** Somebody may come after it by more than luck. */
+    /** Somebody may come after it by more than luck, or is asked for what luck orders. */
     void keepAges() {
         ages = task.growOlder();
     }
@@ -118,7 +118,7 @@ final class Place {
             this.place = place;
             this.noted = noted;
             place.addMark();
-            if (noted.gives().kind() != Kind.LUCK) {
+            if (noted.gives().kind() != Kind.LUCK || Task.keepsLuck()) {
                 place.keepAges();
             }
         }

@@ -29,6 +29,10 @@ final class Task {
     private static int numbers;
     /** Whether somebody asks for ages. */
     private static volatile boolean hasAges;
+    /** Whether somebody asks for what luck has ordered, too. */
+    private static volatile boolean hasLuck;
+    /** Whether it is unknown what orders the tasks, as another process has a part in it. */
+    private static volatile boolean isOrderedByOthers;
 
     final String name;
     final int number;
@@ -64,6 +68,8 @@ final class Task {
     private int age = 1;
     /** Up to which age of each other task, by its number, it comes after that by more than luck. It is replaced as a whole. */
     private int[] ages = {};
+    /** The same with what luck has ordered, since somebody asks for that. */
+    private int[] agesByLuck = {};
 
     private int many = MANY;
     private Map<Integer, Long> meant = new HashMap<>();
@@ -82,12 +88,26 @@ final class Task {
     /** What tells one of the things that a task did from the others. */
     sealed interface Deed permits Touch, Acquisition {}
 
-    /** What whoever comes after a place comes after, but for what luck has ordered: an age of its task, and those of others. */
-    record Ages(Task of, int age, int[] others) {}
+    /** What whoever comes after a place comes after: an age of its task, those of others, and those of others where luck counts, too. */
+    record Ages(Task of, int age, int[] others, int[] othersByLuck) {}
 
     /** From here on each task knows after which ages of others it comes. An agent asks for that, and a program that marks does not. */
     static void keepAges() {
         hasAges = true;
+    }
+
+    /** From here on it is known, too, what luck has ordered. */
+    static void keepLuck() {
+        hasLuck = true;
+    }
+
+    static boolean keepsLuck() {
+        return hasLuck;
+    }
+
+    /** From here on another process may have put two tasks in order, and nobody here knows. */
+    static void meetOthers() {
+        isOrderedByOthers = true;
     }
 
     int age() {
@@ -96,27 +116,51 @@ final class Task {
 
     /** What whoever comes after this place comes after. What the task does from here on is of another age. Null if nobody asks for ages. */
     Ages growOlder() {
-        return hasAges ? new Ages(this, age++, ages) : null;
+        return hasAges ? new Ages(this, age++, ages, agesByLuck) : null;
     }
 
     /** Whether it comes after what the other one did at that age. It may be that nobody knows. */
     boolean comesAfter(Task other, int then) {
-        int[] known = ages;
+        return has(ages, other, then);
+    }
+
+    /**
+     * Whether it does not even come by luck after what the other one did at that age. It is false if that is not known. Luck was asked for
+     * when the other one did it.
+     */
+    boolean surelyComesNotAfter(Task other, int then) {
+        boolean isKnown = !isOrderedByOthers && number < MOST_AGES && other.number < MOST_AGES;
+        return isKnown && !has(ages, other, then) && !has(agesByLuck, other, then);
+    }
+
+    private static boolean has(int[] known, Task other, int then) {
         return other.number < known.length && known[other.number] >= then;
     }
 
-    /** From now on it comes after these. */
-    void comeAfter(Ages met) {
-        if (met == null || comesAfter(met.of, met.age)) {
+    /** From now on it comes after these. Luck alone may have put them in order. */
+    void comeAfter(Ages met, boolean isByLuck) {
+        if (met == null) {
             return;
         }
-        int number = met.of.number < MOST_AGES ? met.of.number : 0;
-        int[] known = Arrays.copyOf(ages, Math.max(ages.length, Math.max(met.others.length, number + 1)));
-        for (int one = 0; one < met.others.length; one++) {
-            known[one] = Math.max(known[one], met.others[one]);
+        if (!isByLuck) {
+            ages = with(ages, met, met.others);
         }
-        known[number] = number == 0 ? 0 : met.age;
-        ages = known;
+        if (hasLuck) {
+            agesByLuck = with(agesByLuck, met, met.othersByLuck);
+        }
+    }
+
+    private static int[] with(int[] known, Ages met, int[] others) {
+        if (has(known, met.of, met.age)) {
+            return known;
+        }
+        int number = met.of.number < MOST_AGES ? met.of.number : 0;
+        int[] all = Arrays.copyOf(known, Math.max(known.length, Math.max(others.length, number + 1)));
+        for (int one = 0; one < others.length; one++) {
+            all[one] = Math.max(all[one], others[one]);
+        }
+        all[number] = number == 0 ? 0 : met.age;
+        return all;
     }
 
     /** A read or a write. */
@@ -347,7 +391,7 @@ final class Task {
         guards.putAll(parent.guards);
         luck.putAll(parent.luck);
         learn(parent, parent.position, Kind.MEANT);
-        comeAfter(parent.growOlder());
+        comeAfter(parent.growOlder(), false);
     }
 
     /** It does nothing more. */

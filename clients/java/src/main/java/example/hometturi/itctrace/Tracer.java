@@ -499,9 +499,7 @@ final class Tracer {
             return;
         }
         task.learn(place.task, place.position, kind);
-        if (kind != Kind.LUCK) {
-            task.comeAfter(place.ages());
-        }
+        task.comeAfter(place.ages(), kind == Kind.LUCK);
         leave(task);
         Row row = Row.of(task.name, "recv", site, noted.gives().taking(), noted.gives().handed());
         tell(task, "recv " + task.name + " " + slot.message, row, Refusable.RECEIVED, null);
@@ -620,7 +618,7 @@ final class Tracer {
             gone.forget(child.watched);
             ended.remove(child);
             task.learn(child, child.position, Kind.MEANT);
-            task.comeAfter(child.growOlder());
+            task.comeAfter(child.growOlder(), false);
             leave(task);
             Row row = Row.of(task.name, "join", site, "join " + child.name, null);
             tell(task, "join " + task.name + " " + child.name, row, Refusable.NEVER, null);
@@ -659,6 +657,7 @@ final class Tracer {
     }
 
     synchronized void incoming(Task task, String message, Site site) {
+        Task.meetOthers();
         holdBack();
         leave(task);
         Row row = Row.of(task.name, "recv", site, "receive from another process", null);
@@ -684,6 +683,7 @@ final class Tracer {
 
     /** The task has seen that the child process is over. */
     synchronized void joinProcess(Task task, Child child, Site site) {
+        Task.meetOthers();
         leave(task);
         Row row = Row.of(task.name, "join", site, "join " + child.task(), null);
         tell(task, "join " + task.name + " " + child.task(), row, Refusable.CHILD, null);
