@@ -101,8 +101,8 @@ def ran(agent: Path, tests: Tests, *patterns: str) -> Ran:
         launcher = ["org.junit.platform.console.ConsoleLauncher", "--disable-banner", f"--reports-dir={name}"]
         done = subprocess.run(
             [sys.executable, "-m", "itc_trace", "java", "--all", "--exclude", "org.junit", "--exclude", "picocli",
-             "--json", str(report), *(("--benign", str(benign)) if patterns else ()), "--", *BRIEF, "-cp", f"{name}:{PATH}", *launcher, *tests.options,
-             "--select-class", tests.name],
+             "--json", str(report), *(("--benign", str(benign)) if patterns else ()), "--", *BRIEF,
+             "-cp", f"{name}:{PATH}", *launcher, *tests.options, "--select-class", tests.name],
             env=environment, cwd=SOURCES, capture_output=True, text=True, timeout=MOST_SECONDS, check=False,
         )
         findings = json.loads(report.read_text())["findings"] if report.exists() else []
