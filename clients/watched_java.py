@@ -6,7 +6,7 @@ comment of the source, as in `race: lostUpdate`. Exactly these lines have to be 
 `SharedStars` and `PartStars` have no race either, and each line with a comment as `star: swapped` has to be named as
 not looked into. The races of `Meant` are silenced by comments, but for lines that say so. A run of those of
 `Children` has to be incomplete, and names where they start another JVM. The odd programs of `Odd` have to write what
-they write unwatched.
+they write unwatched. `AgesTest` compares what tasks know of one another's ages, and what that takes.
 
 Usage: clients/watched_java.py FOLDER, with the agent and the built programs in FOLDER. The last line is 'watched_java: N passed'.
 ITC_PROGRAM_RUNS says how often each program is run, once if it is not set.
@@ -26,6 +26,7 @@ from typing import Any, NamedTuple
 
 CLIENTS = Path(__file__).resolve().parent
 SOURCES = CLIENTS / "java/agent/programs"
+AGES = CLIENTS / "java/agent/tests/example/hometturi/itctrace/AgesTest.java"
 PROGRAM = re.compile(r"    static void (\w+)\(\) (?:throws \w+ )?\{")
 MARKED = re.compile(r"(?:race|star|child): (\w+)")
 AT_ONCE = 2 * len(os.sched_getaffinity(0))
@@ -152,6 +153,18 @@ def fault_of_odd(folder: Path, program: Program) -> str | None:
     return None
 
 
+def fault_of_ages(folder: Path) -> str | None:
+    """What is wrong with what tasks know of one another's ages."""
+    path = str(folder / "itc-trace-agent.jar")
+    with tempfile.TemporaryDirectory() as built:
+        subprocess.run(["javac", f"-J{BRIEF[0]}", "-d", built, "-cp", path, str(AGES)], check=True)
+        ran = subprocess.run(
+            ["java", *BRIEF, "-cp", f"{path}:{built}", "example.hometturi.itctrace.AgesTest"], capture_output=True,
+            text=True, timeout=MOST_SECONDS, check=False,
+        )
+    return None if ran.stdout == "right\n" else f"status {ran.returncode}, {ran.stdout}{ran.stderr}"
+
+
 FAULTS = (
     ("Races", fault_of), ("MoreRaces", fault_of), ("Clean", fault_of), ("MoreClean", fault_of),
     ("Stars", fault_of_starred),
@@ -179,7 +192,12 @@ def main() -> int:
                 if fault is not None:
                     wrong += 1
                     print(f"watched_java: wrong: {program.type}.{program.name}: {fault}")
-    print(f"watched_java: {len(jobs) * RUNS - wrong} passed" + (f", {wrong} failed" if wrong else ""))
+    fault = None if names else fault_of_ages(folder)
+    if fault is not None:
+        wrong += 1
+        print(f"watched_java: wrong: AgesTest: {fault}")
+    passed = len(jobs) * RUNS + (not names) - wrong
+    print(f"watched_java: {passed} passed" + (f", {wrong} failed" if wrong else ""))
     return 1 if wrong else 0
 
 

@@ -3,7 +3,6 @@ package example.hometturi.itctrace;
 import example.hometturi.itctrace.Place.Kind;
 import example.hometturi.itctrace.Place.Mark;
 import java.util.ArrayList;
-import java.util.Arrays;
 import java.util.Collections;
 import java.util.HashMap;
 import java.util.IdentityHashMap;
@@ -23,8 +22,6 @@ final class Task {
     private static final int MANY = 32;
     /** So many tasks are known at most. What is forgotten may be told once more. */
     private static final int MOST_KNOWN = 512;
-    /** Of later tasks nobody knows who comes after them. */
-    private static final int MOST_AGES = 8192;
 
     private static int numbers;
     /** Whether somebody asks for ages. */
@@ -64,12 +61,12 @@ final class Task {
     /** The test that it is of. Null if it is of none. */
     String test;
 
-    /** How often somebody else could come after it by more than luck. Only the task's own thread changes it. */
-    private int age = 1;
-    /** Up to which age of each other task, by its number, it comes after that by more than luck. It is replaced as a whole. */
-    private int[] ages = {};
+    /** By which others know it. Null as long as nobody has asked for its age. Only the task's own thread changes it. */
+    private Seat seat;
+    /** Up to which ages of others it comes after them by more than luck. */
+    private Knowledge known = Knowledge.NONE;
     /** The same with what luck has ordered, since somebody asks for that. */
-    private int[] agesByLuck = {};
+    private Knowledge knownByLuck = Knowledge.NONE;
 
     private int many = MANY;
     private Map<Integer, Long> meant = new HashMap<>();
@@ -89,7 +86,7 @@ final class Task {
     sealed interface Deed permits Touch, Acquisition {}
 
     /** What whoever comes after a place comes after: an age of its task, those of others, and those of others where luck counts, too. */
-    record Ages(Task of, int age, int[] others, int[] othersByLuck) {}
+    record Ages(Task of, int age, Knowledge others, Knowledge othersByLuck) {}
 
     /** From here on each task knows after which ages of others it comes. An agent asks for that, and a program that marks does not. */
     static void keepAges() {
@@ -110,18 +107,26 @@ final class Task {
         isOrderedByOthers = true;
     }
 
+    private Seat seat() {
+        if (seat == null) {
+            seat = Seat.take(this);
+        }
+        return seat;
+    }
+
+    /** How often somebody else could come after it, or after who had its seat before. */
     int age() {
-        return age;
+        return seat().age();
     }
 
     /** What whoever comes after this place comes after. What the task does from here on is of another age. Null if nobody asks for ages. */
     Ages growOlder() {
-        return hasAges ? new Ages(this, age++, ages, agesByLuck) : null;
+        return hasAges ? new Ages(this, seat().growOlder(), known, knownByLuck) : null;
     }
 
     /** Whether it comes after what the other one did at that age. It may be that nobody knows. */
     boolean comesAfter(Task other, int then) {
-        return has(ages, other, then);
+        return known.has(other.seat, then);
     }
 
     /**
@@ -129,12 +134,8 @@ final class Task {
      * when the other one did it.
      */
     boolean surelyComesNotAfter(Task other, int then) {
-        boolean isKnown = !isOrderedByOthers && number < MOST_AGES && other.number < MOST_AGES;
-        return isKnown && !has(ages, other, then) && !has(agesByLuck, other, then);
-    }
-
-    private static boolean has(int[] known, Task other, int then) {
-        return other.number < known.length && known[other.number] >= then;
+        boolean isKnown = !isOrderedByOthers && other.seat != Seat.NONE;
+        return isKnown && !known.has(other.seat, then) && !knownByLuck.has(other.seat, then);
     }
 
     /** From now on it comes after these. Luck alone may have put them in order. */
@@ -143,24 +144,11 @@ final class Task {
             return;
         }
         if (!isByLuck) {
-            ages = with(ages, met, met.others);
+            known = known.with(met.of.seat, met.age, met.others);
         }
         if (hasLuck) {
-            agesByLuck = with(agesByLuck, met, met.othersByLuck);
+            knownByLuck = knownByLuck.with(met.of.seat, met.age, met.othersByLuck);
         }
-    }
-
-    private static int[] with(int[] known, Ages met, int[] others) {
-        if (has(known, met.of, met.age)) {
-            return known;
-        }
-        int number = met.of.number < MOST_AGES ? met.of.number : 0;
-        int[] all = Arrays.copyOf(known, Math.max(known.length, Math.max(others.length, number + 1)));
-        for (int one = 0; one < others.length; one++) {
-            all[one] = Math.max(all[one], others[one]);
-        }
-        all[number] = number == 0 ? 0 : met.age;
-        return all;
     }
 
     /** A read or a write. */
