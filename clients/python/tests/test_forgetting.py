@@ -385,6 +385,61 @@ class Tokens(unittest.TestCase):
         self.assertLess(len(looks), 2000)
 
 
+PERMITS = """
+import threading
+permits = threading.Semaphore(2)
+def use():
+    USE
+for _ in range(300):
+    thread = threading.Thread(target=use)
+    thread.start()
+    thread.join()
+counted = permits._itc_counted
+print(len(counted.given), len(counted.taken))
+"""
+ITEMS = """
+import threading
+done, cells = threading.Semaphore(0), [0] * SIZE
+def change(place):
+    cells[place] += 1
+    done.release()
+threads = [threading.Thread(target=change, args=(place,)) for place in range(SIZE)]
+for thread in threads: thread.start()
+for _ in threads: done.acquire()
+print(sum(cells))
+"""
+ONE_PAIR = "1 more pair is in order by locks alone"
+
+
+class Permits(ProgramCase):
+    def test_who_has_used_a_semaphore_is_forgotten_once_they_are_many(self) -> None:
+        for use in "with permits: pass", "permits.release()", "permits.acquire(); permits._value += 1":
+            with self.subTest(use):
+                ran = run_traced("--quiet", self.program(PERMITS.replace("USE", use)))
+                self.assertEqual((ran.stdout, ran.stderr), ("0 0\n", ""))
+
+    def journal_of(self, size: int, *words: str) -> tuple[str, str]:
+        """What a run with so many threads has told, and its journal."""
+        with tempfile.TemporaryDirectory() as folder:
+            path = Path(folder, "journal")
+            ran = run_traced("--journal", str(path), *words, self.program(ITEMS.replace("SIZE", str(size))))
+            self.assertEqual((ran.returncode, ran.stdout), (Verdict.NO_RACE, f"{size}\n"), ran.stderr)
+            return ran.stderr, path.read_text()
+
+    def test_what_few_have_given_is_in_order_in_each_run(self) -> None:
+        told, journal = self.journal_of(60)
+        self.assertNotIn(ONE_PAIR, told)
+        self.assertTrue('{"permits":' in journal)
+
+    def test_what_many_have_given_is_in_order_by_luck(self) -> None:
+        """The first ones were told as counted, before the others came. Pairs of one part alone are looked for."""
+        for words in (), ("--part-events", "200"):
+            with self.subTest(words=words):
+                told, journal = self.journal_of(100, *words)
+                self.assertEqual(('"permit":[' in journal, '{"permits":' in journal), (True, False))
+                self.assertEqual((ONE_PAIR in told, '{"border":' in journal), (not words, bool(words)))
+
+
 MAKING = """
 import gc, threading
 from itc_trace.watch import things

@@ -22,6 +22,8 @@ Note = tuple[Any, ...]
 
 MOST_PENDING = 64
 """Up to so many tokens of a task, nobody looks whether they can still be taken."""
+MOST_COUNTED = 64
+"""So many tasks may give permits of one semaphore, and so many may take them, and each is counted."""
 FIRST_OF_THREADS = 1 << 19
 """Before the numbers of threads, which are told apart from those of loops."""
 
@@ -46,10 +48,11 @@ class What:
 class CountedPermits:
     """What a release of one semaphore stands for, and how many permits each task has given to it and taken.
 
-    An acquire comes after a release in each run if all other releases together give too few permits for it.
+    An acquire comes after a release in each run if all other releases together give too few permits for it. If too many
+    tasks have given or taken them, nobody is counted any more, and which acquire comes after which release is luck.
     """
 
-    __slots__ = ("serial", "begun_with", "given", "taken", "block")
+    __slots__ = ("serial", "begun_with", "given", "taken", "block", "is_over")
 
     hint, giving, taking = "permit", "release semaphore", "acquire semaphore"
     lock = None
@@ -64,7 +67,26 @@ class CountedPermits:
         self.taken: dict[Line, int] = {}
         """How many each task has waited for, and was given."""
         self.begun_with = begun_with
+        self.is_over = False
+        """Whether nobody is counted any more in this block."""
         self.block = block
+
+    def give(self, line: Line, amount: int) -> None:
+        """The task has given so many permits."""
+        self._count(self.given, line, amount)
+
+    def take(self, line: Line) -> int:
+        """The task has waited for a permit. Gives which one of its permits that is."""
+        return self._count(self.taken, line, 1)
+
+    def _count(self, counted: dict[Line, int], line: Line, amount: int) -> int:
+        """Another task may have ended the counting meanwhile. So it is asked for behind the count."""
+        number = counted[line] = counted.get(line, 0) + amount
+        if self.is_over or len(counted) > MOST_COUNTED:
+            self.is_over = True
+            self.given.clear()
+            self.taken.clear()
+        return number
 
 
 NOTIFY = What("notify", "notify", "wake up")

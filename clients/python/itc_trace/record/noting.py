@@ -314,7 +314,7 @@ def mark_permits(permits: CountedPermits, amount: int) -> Token | None:
     if token is not None:
         if not permits.given and state.tracer is not None:
             state.tracer.count_permits(permits)
-        permits.given[token.line] = permits.given.get(token.line, 0) + amount
+        permits.give(token.line, amount)
     return token
 
 
@@ -322,7 +322,7 @@ def take_permit(permits: CountedPermits, token: Token | None, is_sure: bool) -> 
     """The current task has taken a permit, and would have waited for it for ever if it is sure."""
     if is_sure and state.note is not None:
         line = line_of_now()
-        number = permits.taken[line] = permits.taken.get(line, 0) + 1
+        number = permits.take(line)
         if type(token) is PermitToken:
             token.takers.setdefault(line, number)
     take(token, 3)

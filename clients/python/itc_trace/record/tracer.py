@@ -327,8 +327,9 @@ class Tracer:
     def _tell_permits(self) -> None:
         """Tells how many permits each task has given, of the semaphores of which all are counted."""
         for one in self._permits:
-            if one.block == state.block:
-                given = {line.name: count for line, count in one.given.items()}
+            counted = one.given.copy()
+            if one.block == state.block and not one.is_over:
+                given = {line.name: count for line, count in counted.items()}
                 told = {"permits": self._texts.permits(one), "begun": one.begun_with, "given": given}
                 self._journal_row(f"{json.dumps(told, separators=(',', ':'))}\n")
 

@@ -474,7 +474,8 @@ def _set_value(self: Any, value: Any) -> None:
 
 
 def _counted_of(semaphore: Any) -> CountedPermits | None:
-    """What counts its permits. In each block of tracing it begins with those that are there. None if nothing does."""
+    """What counts its permits. In each block of tracing it begins with those that are there. None if nothing does,
+    as too many tasks have given or taken some."""
     counted: CountedPermits | None = semaphore.__dict__.get("_itc_counted")
     if counted is None or state.note is None:
         return None
@@ -482,7 +483,7 @@ def _counted_of(semaphore: Any) -> CountedPermits | None:
         with semaphore._cond:
             if counted.block != state.block:
                 counted.begin(len(semaphore.__dict__["_itc_permits"]), state.block)
-    return counted
+    return None if counted.is_over else counted
 
 
 def _semaphore_acquire(original: Any) -> Any:
