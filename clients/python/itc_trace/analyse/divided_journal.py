@@ -186,6 +186,8 @@ class _Cutting:
 
     def _asides_that_count(self) -> Iterator[Aside]:
         """What was put aside of things that other rows tell of."""
+        if self._put_aside.is_empty:
+            return
         with open(self._journal, encoding="utf-8", errors="replace") as lines:
             for _, line in whole_lines(lines):
                 begin = ASIDE.match(line)

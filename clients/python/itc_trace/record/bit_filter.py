@@ -13,6 +13,10 @@ class BitFilter:
         self._size = bits
         self._bits: bytearray | None = None
 
+    @property
+    def is_empty(self) -> bool:
+        return self._bits is None
+
     def add(self, number: int) -> None:
         if self._bits is None:
             self._bits = bytearray(self._size // 8)

@@ -291,10 +291,12 @@ def aside_of(read: dict[str, Any], line: str) -> Aside:
     if not all(isinstance(read[key], str) for key in ("aside", "name", "group", "made")):
         raise TypeError("a thing has a number and names")
     for event, part, task, kind, site, held, loop, turn in read["rows"]:
-        if not all(isinstance(one, int) for one in (event, part, loop, turn)):
+        if not (isinstance(event, int) and isinstance(part, int) and isinstance(loop, int) and isinstance(turn, int)):
             raise TypeError("an event has a number")
-        if not all(isinstance(one, str) for one in (task, kind, site, *held)):
+        if not (isinstance(task, str) and isinstance(kind, str) and isinstance(site, str)):
             raise TypeError("a task has a name")
+        if not all([isinstance(one, str) for one in held]):
+            raise TypeError("a lock has a name")
     return Aside(read["aside"], line)
 
 
@@ -510,10 +512,22 @@ GOING_ON = frozenset({Cause.CHILD, Cause.MODULE})
 """Why something is not seen of a run that goes on to be traced."""
 
 
+_decode = json.JSONDecoder().raw_decode
+
+
+def _loaded(line: str) -> Any:
+    """What a line has, as `json.loads` gives it. Most lines have no blanks around it, and none are looked for there."""
+    try:
+        read, end = _decode(line)
+    except ValueError:
+        return json.loads(line)
+    return read if line[end:] == "\n" else json.loads(line)
+
+
 def read_line(line: str) -> Read | None:
     """What a line of a journal says. None if it is no such line."""
     try:
-        read = json.loads(line)
+        read = _loaded(line)
         if "aside" in read:
             return aside_of(read, line)
         if "event" in read:
