@@ -24,6 +24,7 @@ from itc_trace.record.names import Names
 from itc_trace.record.order_of_tasks import OrderOfTasks
 from itc_trace.record.own_threads import start_thread
 from itc_trace.record.touch_journal import TouchJournal
+from itc_trace.record.tracer_parts import FEW_MESSAGES, Parts
 from itc_trace.record.touch_rows import BITS, MOST_BY_ONE, MOST_KEPT, MOST_OF_EVENT, MOST_READ
 from itc_trace.watch.helper import quick
 from itc_trace.watch.things import number_of
@@ -383,6 +384,20 @@ class Tokens(unittest.TestCase):
         kept = [self.marked() for _ in range(1000)]
         self.assertEqual(self.line.pending, kept)
         self.assertLess(len(looks), 2000)
+
+
+class Messages(unittest.TestCase):
+    def test_those_that_nobody_can_receive_are_forgotten_before_the_part_ends(self) -> None:
+        line = Line(None, "root")
+        kept = [Token(line, QUEUE, None, 0) for _ in range(10)]
+        parts = Parts(lambda: 0)
+        for number in range(10_000):
+            parts.sent(f"item_{number}", None, [kept[number] if number < 10 else Token(line, QUEUE, None, 0)])
+        parts.sent_outside("item_9999")
+        parts.sent("item_3", None, [Token(line, QUEUE, None, 0)])
+        self.assertLessEqual(len(parts._messages), FEW_MESSAGES)
+        received = [number for number in range(10_000) if parts._may_be_received(f"item_{number}")]
+        self.assertEqual(received, [*range(10), 9999])
 
 
 PERMITS = """

@@ -83,7 +83,8 @@ class Divider:
         self._last: dict[str, int] = {ROOT: 0}
         """Of each task that is live its last event, which may be its spawn."""
         self._ended: dict[str, int] = {}
-        self._sent: dict[str, _Sent] = {}
+        self._sent: dict[str, tuple[int, str]] = {}
+        """Of each message the event that sent it, and the task."""
         self.events = 0
         self.tasks = self.tasks_before = 1
         self.messages = 0
@@ -98,7 +99,7 @@ class Divider:
             self._last[name] = self.events
         elif kind == "send":
             self.messages += 1
-            self._sent[name] = _Sent(self.events, task, name)
+            self._sent[name] = self.events, task
         elif kind == "end":
             self._ended[task] = self._last.pop(task)
         return self.events
@@ -125,9 +126,9 @@ class Divider:
         """Begins a new part: with each live task, each message that may be received,
         and each ended task that may be joined."""
         sent: dict[str, list[_Sent]] = defaultdict(list)
-        for one in self._sent.values():
-            if may_be_received(one.message):
-                sent[one.task].append(one)
+        for message, (event, task) in self._sent.items():
+            if may_be_received(message):
+                sent[task].append(_Sent(event, task, message))
         ended = {task: event for task, event in self._ended.items() if may_be_joined(task)}
         before, tasks = self._last, dict.fromkeys([*self._last, *ended, *sent])
         self._begin_part()

@@ -52,7 +52,7 @@ class Reports:
     def __init__(self, connection: Connection, touches: TouchJournal, parts: Parts | None) -> None:
         self._connection = connection
         self.touches = touches
-        self.parts = parts
+        self.divider = None if parts is None else parts.divider
         self.time = 0.0
         """That of the note which is looked at."""
         self.outstanding: deque[Outstanding] = deque()
@@ -65,12 +65,11 @@ class Reports:
         if line.touches is not None:
             self.touches.end_event(line)
         task = line.name
-        report = self.put(kind, task, name, code, instruction, label, lock, time or self.time)
-        if self.parts is not None:
-            self.parts.divider.report((kind, task, name))
+        if self.divider is not None:
+            self.divider.report((kind, task, name))
         line.count += 1
         line.message = None
-        return report
+        return self.put(kind, task, name, code, instruction, label, lock, time or self.time)
 
     def put(self, kind: str, task: str, name: str, code: CodeType | None, instruction: int, label: str,
              lock: LockOrAsking | None = None, time: float = 0.0) -> Outstanding:

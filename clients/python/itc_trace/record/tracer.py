@@ -394,24 +394,23 @@ class Tracer:
         self._is_reporting = True
         batch = self._next_notes()
         size = len(batch)
-        handlers, goes_on, parts, reports = self._handlers, self._touches.goes_on, self._parts, self._reports
-        left, taken = size, self._touches.taken
+        handlers, touches, parts, reports = self._handlers, self._touches, self._parts, self._reports
+        goes_on, look_at, look_from = touches.goes_on, size - LOOK_AFTER, touches.taken + TOUCHES_AFTER
         while batch:
             reports.time, note = batch.popleft()
             handlers[note[0]](*note[1:])
             while goes_on:
                 self._touch(goes_on.pop())
-            if parts is not None and parts.is_full and not self._all_sent:
-                self._divide(parts)
-            touches = self._touches.taken - taken
-            if left - len(batch) >= LOOK_AFTER or touches >= TOUCHES_AFTER or not batch:
+            if parts is not None and parts.divider.events >= parts.may_be_full_from:
+                self._divide_if_full(parts)
+            if len(batch) <= look_at or touches.taken >= look_from or not batch:
                 self._look_how_many_wait()
-                left, taken = len(batch), self._touches.taken
-        self._touches.looked_at += size
+                look_at, look_from = len(batch) - LOOK_AFTER, touches.taken + TOUCHES_AFTER
+        touches.looked_at += size
         self._order.looked_at()
         reports.flush()
-        if self._touches.is_long:
-            self._touches.write()
+        if touches.is_long:
+            touches.write()
         self._is_reporting = False
 
     def _next_notes(self) -> deque[tuple[float, Note]]:
@@ -430,7 +429,7 @@ class Tracer:
         waiting = list(self.notes)
         count = len(waiting)
         some = waiting if count <= NOTES_LOOKED_AT else _places_among(count - count % STEP_OF_PLACES)(waiting)
-        each = 1 + sum([len(note[1]) for _, note in some if note[0] == TOUCH]) / max(1, len(some))
+        each = 1 + sum(map(len, [note[1] for _, note in some if note[0] == TOUCH])) / max(1, len(some))
         self._few_waiting = int(FEW_WAITING / each)
         self._hold_back(int(count * each))
         most = 0 if self._touches.unanswered > MOST_UNANSWERED_TOUCHES else MOST_UNANSWERED
@@ -501,6 +500,10 @@ class Tracer:
             self._ended.answer(True)
 
     # Parts of a long run
+
+    def _divide_if_full(self, parts: Parts) -> None:
+        if parts.is_full and not self._all_sent:
+            self._divide(parts)
 
     def _divide(self, parts: Parts) -> None:
         """Leaves a trace that is nearly full, and goes on in a new one with what may still give order."""
@@ -639,9 +642,9 @@ class Tracer:
     def _row(self, event: int, report: Outstanding) -> str:
         place = self._places.text(report.code, report.instruction)
         lock = self._hand_over(report)
-        part = of = ""
-        if self.part:
-            part, of = part_text(self.part), f',"of":"{report.name}"' if report.name else ""
+        number, part, of = self.part, "", ""
+        if number:
+            part, of = part_text(number), f',"of":"{report.name}"' if report.name else ""
         return (
             f'{{"event":{event},{part}{time_text(report.time)}"task":"{report.task}","thing":null,'
             f'"kind":"{report.kind}",{place},"label":{text_of(report.label)}{lock}{of}}}\n'

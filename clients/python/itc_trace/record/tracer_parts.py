@@ -4,7 +4,6 @@ from __future__ import annotations
 
 import weakref
 from collections.abc import Callable, Iterable
-from dataclasses import dataclass, field
 from sys import getrefcount
 
 from .dividing import LEAVE, ROOT, Border, Divider, Limits, Report
@@ -15,6 +14,8 @@ from ..model.lock_identity import LockOrAsking
 MOST_ENDED = 1200
 """So many ended tasks that may be waited for are taken into the next part, those that ended last,
 however small it is to be."""
+FEW_MESSAGES = 512
+"""Up to so many messages of a part, nobody looks whether they can still be received."""
 MOST_OUTSIDE = 1024
 """So many messages that were handed out by name are taken along, those that were sent last."""
 
@@ -28,13 +29,15 @@ def _references_of_nobody() -> int:
 REFERENCES_OF_NOBODY = _references_of_nobody()
 
 
-@dataclass
 class _Message:
     """A message, the lock that it hands over, and the tokens by which it may be received."""
 
-    lock: LockOrAsking | None
-    tokens: list[weakref.ref[Token]] = field(default_factory=list)
-    is_outside: bool = False
+    __slots__ = ("lock", "tokens", "is_outside")
+
+    def __init__(self, lock: LockOrAsking | None, tokens: list[weakref.ref[Token]]) -> None:
+        self.lock = lock
+        self.tokens = tokens
+        self.is_outside = False
 
     @property
     def may_be_received(self) -> bool:
@@ -54,19 +57,21 @@ class Parts:
         self.number = 1
         self.divider = Divider()
         self._asked_for = self._limits = limits
-        self._looked_at_from = 0
+        self.may_be_full_from = 0
         """With fewer events the part cannot be full."""
         self._lines: dict[str, Line] = {}
         self._messages: dict[str, _Message] = {}
+        self._most_messages = FEW_MESSAGES
+        """With so many of them, it looks which ones nobody can receive any more."""
 
     @property
     def is_full(self) -> bool:
         """It is counted once a part has as many events as it can be full with."""
         divider = self.divider
-        if divider.events < self._looked_at_from:
+        if divider.events < self.may_be_full_from:
             return False
         room = divider.room(self._limits)
-        self._looked_at_from = divider.events + room
+        self.may_be_full_from = divider.events + room
         return room <= 0 and not self.is_shared
 
     def shared_port(self) -> int:
@@ -84,8 +89,18 @@ class Parts:
 
     def sent(self, message: str, lock: LockOrAsking | None, tokens: Iterable[Token]) -> None:
         """The message may be received by whoever has one of these tokens."""
-        known = self._messages.setdefault(message, _Message(lock))
-        known.tokens += map(weakref.ref, tokens)
+        known = self._messages.get(message)
+        if known is None:
+            if len(self._messages) >= self._most_messages:
+                self._forget_messages()
+            self._messages[message] = _Message(lock, [weakref.ref(token) for token in tokens])
+        else:
+            known.tokens += map(weakref.ref, tokens)
+
+    def _forget_messages(self) -> None:
+        """Leaves out the messages that nobody can receive any more."""
+        self._messages = {message: known for message, known in self._messages.items() if known.may_be_received}
+        self._most_messages = max(FEW_MESSAGES, 2 * len(self._messages))
 
     def sent_outside(self, message: str) -> None:
         """The message may be received by whoever has its name."""
@@ -108,7 +123,7 @@ class Parts:
             del self._messages[message]
         border = self.divider.divide(self._may_be_received, joinable.__contains__)
         self._limits = self._limits_behind(self.divider.events)
-        self._looked_at_from = 0
+        self.may_be_full_from = 0
         self.number += 1
         kept = {report.name for report in border.reports if report.kind == "send"}
         self._messages = {message: known for message, known in self._messages.items() if message in kept}
