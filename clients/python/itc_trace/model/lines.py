@@ -381,7 +381,7 @@ class TouchEvent:
     """An event that stands for what a task touches, up to the next event of this task."""
 
     __slots__ = (
-        "task", "part", "time", "event", "stretches", "touches", "looked_at", "has_forgotten", "has_row", "is_open",
+        "task", "part", "time", "event", "stretches", "touches", "looked_at", "has_forgotten", "begin", "is_open",
         "is_waiting",
     )
 
@@ -396,7 +396,8 @@ class TouchEvent:
         self.looked_at = 0
         self.has_forgotten = False
         """Whether some of its touches were looked at and are not known any more."""
-        self.has_row = False
+        self.begin = ""
+        """How its rows begin, but for the first one. It is empty until that is made."""
         self.is_open = True
         self.is_waiting = False
         """Whether it waits for its rows to be written."""

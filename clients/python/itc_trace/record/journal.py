@@ -18,7 +18,7 @@ from .dividing import Border
 from ..model.file_names import name_of_file
 from ..model.frames import line_of
 from ..model.lines import Acquisition, CountedPermits, Touch, TouchEvent
-from ..model.lock_identity import Asking, LockOrAsking
+from ..model.lock_identity import Asking, LockIdentity, LockOrAsking
 from ..model.stretches import SITES, Across
 from ..model.verdict import BREAKS_OFF, Cause, Left, PassedOver, Unseen
 
@@ -660,11 +660,11 @@ class TouchTexts:
         self._sites: dict[int, str] = {}
         self._told_sites: set[int] = set()
         self._locks: dict[int, str] = {}
+        self._held: dict[tuple[LockIdentity, ...], str] = {}
+        self._aside: dict[tuple[Any, ...], str] = {}
+        """What rows that are put aside tell of the kind of a touch, its site, and the locks that its task held."""
         self._first_loop = zlib.crc32(prefix.encode()) << LOOP_BITS if prefix else 0
         """Before the numbers of this process's loops: those of other processes begin at 1, too."""
-
-    def _loop(self, number: int) -> int:
-        return number and self._first_loop + number
 
     def text(self, touch: Touch) -> str:
         thing, kind, site, held, loop, turn, _ = touch
@@ -674,9 +674,17 @@ class TouchTexts:
             told = self._touch_of_named(thing, kind, *site)
         else:
             told = self._told.get((thing.number, kind, site)) or self._touch_of_found(thing, kind, site)
-        locks = f',"held":[{",".join([self.lock(one) for one in held])}]' if held else ""
-        when = f',"loop":{self._loop(loop)},"turn":{turn}' if loop else ""
+        locks = f',"held":{self._locks_held(held)}' if held else ""
+        when = f',"loop":{self._first_loop + loop},"turn":{turn}' if loop else ""
         return f"{told}{locks}{when}}}\n"
+
+    def _locks_held(self, held: tuple[LockIdentity, ...]) -> str:
+        text = self._held.get(held)
+        if text is None:
+            if len(self._held) >= MOST_TOLD:
+                self._held.clear()
+            text = self._held[held] = f"[{','.join([self.lock(one) for one in held])}]"
+        return text
 
     def _touch_of_found(self, thing: Any, kind: str, site: int) -> str:
         if len(self._told) >= MOST_TOLD:
@@ -692,7 +700,7 @@ class TouchTexts:
         locks = ",".join([self.lock(one.lock) for one in held])
         places = ",".join([f"[{_three(one.code, one.instruction)}]" for one in held])
         function = json.dumps(wanted.code.co_qualname if wanted.code else "")
-        blocked = f',"loop":{self._loop(loop)}' if loop else ""
+        blocked = f',"loop":{self._first_loop + loop}' if loop else ""
         return (
             f'"thing":null,"kind":"local",{self._places.text(wanted.code, wanted.instruction)},"function":{function},'
             f'"label":{text_of(label)},"{key}":{self.lock(wanted.lock)},"held":[{locks}],'
@@ -721,6 +729,8 @@ class TouchTexts:
         self._things.clear()
         self._told.clear()
         self._locks.clear()
+        self._held.clear()
+        self._aside.clear()
 
     def lock(self, lock: LockOrAsking) -> str:
         """The name of a lock, behind what tells it from others of the same name."""
@@ -751,16 +761,24 @@ class TouchTexts:
 
     def aside(self, thing: Any, waiting: list[tuple[TouchEvent, Touch]]) -> str:
         """The line of a thing that is put aside, behind those of sites that were not told yet."""
-        rows, sites = [], []
+        rows: list[str] = []
+        sites: list[str] = []
         for event, (_, kind, site, held, loop, turn, _) in waiting:
-            if site not in self._told_sites:
-                self._told_sites.add(site)
-                sites.append(f'{{"site":"{self._prefix}{site}",{self._site(site)}}}\n')
-            locks = ",".join([self.lock(one) for one in held]) if held else ""
-            told = f'{event.event},{event.part},"{event.task}","{kind}","{self._prefix}{site}"'
-            rows.append(f"[{told},[{locks}],{self._loop(loop)},{turn}]")
+            told = self._aside.get((kind, site, held)) or self._touch_aside(kind, site, held, sites)
+            rows.append(f'[{event.event},{event.part},"{event.task}",{told},{loop and self._first_loop + loop},{turn}]')
         names = f'"name":{text_of(thing.name)},"group":{text_of(thing.group)},"made":{text_of(thing.made)}'
         return f'{"".join(sites)}{{"aside":{self.name_of(thing)},{names},"rows":[{",".join(rows)}]}}\n'
+
+    def _touch_aside(self, kind: str, site: int, held: tuple[LockIdentity, ...], sites: list[str]) -> str:
+        """Adds the line of a site that was not told yet."""
+        if site not in self._told_sites:
+            self._told_sites.add(site)
+            sites.append(f'{{"site":"{self._prefix}{site}",{self._site(site)}}}\n')
+        if len(self._aside) >= MOST_TOLD:
+            self._aside.clear()
+        locks = self._locks_held(held) if held else "[]"
+        text = self._aside[kind, site, held] = f'"{kind}","{self._prefix}{site}",{locks}'
+        return text
 
     def _site(self, site: int) -> str:
         text = self._sites.get(site)

@@ -72,7 +72,8 @@ class TouchJournal:
     def new_event(self, line: Line, part: int, time: float) -> TouchEvent:
         """The event that stands for what the line touches from here on. It is called with `writing` held."""
         event = line.touches = TouchEvent(line.name, part, time)
-        self._await_rows(event)
+        event.is_waiting = True
+        self._events.append(event)
         return event
 
     def add_late(self, listed: list[tuple[Stretch, dict[Hashable, Touched]]], reporter: Reporter) -> None:

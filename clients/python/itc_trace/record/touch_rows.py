@@ -39,6 +39,9 @@ def time_text(time: float) -> str:
     return f'"time":{time:.6f},' if time else ""
 
 
+_UNKNOWN: Any = object()
+
+
 class _Alone:
     """What is known of a thing, as long as one task alone has touched it, or nobody has changed it."""
 
@@ -73,22 +76,24 @@ class TouchRows:
         """
         rows: list[str] = []
         for touch in _new_touches(event):
-            is_acquisition = isinstance(touch.thing, Acquisition)
-            if touch.job and not is_acquisition:
+            if touch.job and not isinstance(touch.thing, Acquisition):
                 self.jobs.add(touch)
-            if is_acquisition or isinstance(touch.thing, str):
+            if isinstance(touch.thing, (Acquisition, str)):
                 rows.append(self._row(event, touch))
             else:
                 self._add(event, touch, rows)
-        if is_last and not event.has_row:
-            rows.append(f'{self._begin(event)}"thing":null,"kind":"local","file":null,"line":0,"label":"touch"}}\n')
+        if is_last and not event.begin:
+            rows.append(f'{_first(event)}"thing":null,"kind":"local","file":null,"line":0,"label":"touch"}}\n')
         return "".join(rows)
 
     def _add(self, event: TouchEvent, touch: Touch, rows: list[str]) -> None:
         number = touch.thing.number
-        alone = self._alone.get(number)
+        alone = self._alone.get(number, _UNKNOWN)
         if alone is None:
-            if number in self._alone or self._put_aside.may_have(number):
+            rows.append(self._row(event, touch))
+            return
+        if alone is _UNKNOWN:
+            if self._put_aside.may_have(number):
                 self._alone[number] = None
                 rows.append(self._row(event, touch))
                 return
@@ -96,7 +101,7 @@ class TouchRows:
         else:
             del self._alone[number]  # It comes to the end of those that are known.
         self._alone[number] = alone
-        if event.has_forgotten and _is_waiting(alone.waiting, event, touch):
+        if event.has_forgotten and alone.waiting and _is_waiting(alone.waiting, event, touch):
             return
         alone.waiting.append((event, touch))
         alone.has_other_task = alone.has_other_task or event.task != alone.task
@@ -108,13 +113,7 @@ class TouchRows:
             self._full[number] = alone
 
     def _row(self, event: TouchEvent, touch: Touch) -> str:
-        return f"{self._begin(event)}{self._texts.text(touch)}"
-
-    def _begin(self, event: TouchEvent) -> str:
-        """How a row of the event begins. The first one tells when the event was."""
-        time = "" if event.has_row else time_text(event.time)
-        event.has_row = True
-        return f'{{"event":{event.event},{part_text(event.part)}{time}"task":"{event.task}",'
+        return f"{event.begin or _first(event)}{self._texts.text(touch)}"
 
     def put_aside(self) -> Iterator[str]:
         """Forgets many touches of one thing, and the things that nobody has touched for the longest time, if too many
@@ -162,6 +161,13 @@ class TouchRows:
             if self._alone.get(number) is not None:
                 del self._alone[number]
         self._swept = len(self._alone)
+
+
+def _first(event: TouchEvent) -> str:
+    """How the first row of the event begins. It tells when the event was, and the further ones do not."""
+    number, task = f'{{"event":{event.event},{part_text(event.part)}', f'"task":"{event.task}",'
+    event.begin = f"{number}{task}"
+    return f"{number}{time_text(event.time)}{task}"
 
 
 def _new_touches(event: TouchEvent) -> list[Touch]:

@@ -66,12 +66,16 @@ class Thing:
 class Element:
     """An element of a container. Its name is only made if it is asked for."""
 
-    __slots__ = ("number", "is_gone", "_identity", "_owner", "_key")
+    __slots__ = ("number", "is_gone", "identity", "_owner", "_key")
 
     def __init__(self, number: int, owner: Owner, key: Any) -> None:
         self.number = number
         self.is_gone = False
-        self._identity = 0
+        self.identity: int = key.thread if type(key) is KeyOfType else key if type(key) is int else 0
+        """That of the thread that its key stands for, or that keeps it in a `threading.local`.
+
+        A number may be that of a thread.
+        """
         self._owner = owner
         self._key = key
 
@@ -79,19 +83,6 @@ class Element:
     def name(self) -> str:
         told = self._key if type(self._key) is KeyOfType else repr(self._key)
         return f"{self._owner.name}[{told if len(told) <= LONGEST_KEY else told[:LONGEST_KEY] + '..'}]"
-
-    @property
-    def identity(self) -> int:
-        """That of the thread that keeps it in a `threading.local`, or that its key stands for.
-
-        A number may be that of a thread.
-        """
-        of_key = self._key.thread if type(self._key) is KeyOfType else self._key if type(self._key) is int else 0
-        return self._identity or of_key
-
-    @identity.setter
-    def identity(self, identity: int) -> None:
-        self._identity = identity
 
     @property
     def group(self) -> str:
@@ -373,7 +364,7 @@ def _added(owner: Owner, mark: Any, made: Any, told: dict[Any, Touched], line: L
     """The thing of this mark. If two tasks come at once, the first one's stands for both."""
     thing = owner.things.setdefault(mark, made)
     if KEPT in owner.things:
-        thing.identity = owner.things[KEPT].identity
+        thing.identity = owner.things[KEPT].identity or thing.identity
     if thing is made and owner.maker is not None and owner.maker is line:
         told[MAKING, thing.number] = thing, MAKING, owner.site
     return thing
